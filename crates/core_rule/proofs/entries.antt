@@ -15,3 +15,5 @@ pub mod ReplyEntries
 pub mod AnswerEntries
 pub mod PhasesTold
 pub mod Noted
+pub mod ToldSpines
+pub mod Swung

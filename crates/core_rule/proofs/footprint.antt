@@ -14,6 +14,9 @@ pub mod KeptParts
 pub mod KeptSums
 pub mod BeginSize
 pub mod Clears
+pub mod NewWords
+pub mod WordSums
+pub mod EndWords
 pub mod EndSize
 pub mod Leaving
 pub mod Named

@@ -4,3 +4,6 @@ pub mod Holders
 pub mod BodyWords
 pub mod HeldFragments
 pub mod FreedFragments
+pub mod DueStores
+pub mod WordOwners
+pub mod HeldWordLaws

@@ -3,6 +3,7 @@ pub mod Paths
 pub mod CallRoots
 pub mod SwapMarks
 pub mod MarkingFrames
+pub mod MarkingStages
 pub mod Marks
 pub mod ShadeMarks
 pub mod SeatShades

@@ -13,3 +13,4 @@ pub mod MarkedAnswers
 pub mod Waits
 pub mod ToldDead
 pub mod ComingTurns
+pub mod Offsets

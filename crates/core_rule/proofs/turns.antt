@@ -2,9 +2,12 @@
 pub mod ScannedCounts
 pub mod FewWords
 pub mod Lefts
+pub mod NextPlaces
+pub mod WorkCases
 pub mod LookTurns
 pub mod MarkingTurns
 pub mod SpineTurns
+pub mod CopyTurns
 pub mod SweepTurns
 use Rattle.std.proofs.Common.{refl}
 use Rattle.core_machine.specs.declared.collector.stage.Stage.{Stage}
@@ -24,9 +27,12 @@ leaves_fewer_at (stages.Locating scan spine_words) few = SpineTurns.locate_leave
 leaves_fewer_at (stages.Indexing s) few = SpineTurns.index_leaves s few
 leaves_fewer_at (stages.Spreading s target) few = SpineTurns.spread_leaves s target few
 leaves_fewer_at (stages.Blackening scan) few = MarkingTurns.blacken_leaves scan few
+leaves_fewer_at stages.Flipping few = MarkingTurns.flip_leaves
+leaves_fewer_at (stages.Copying stage) few = CopyTurns.copy_turn_leaves stage few
 leaves_fewer_at (stages.Sweeping group) few = SweepTurns.sweep_leaves group
-leaves_fewer_at (stages.Examining group dead place) few = SweepTurns.examine_leaves group dead place
-leaves_fewer_at (stages.Freeing group dead) few = SweepTurns.free_leaves group dead
+leaves_fewer_at (stages.Examining group dead place counted) few = SweepTurns.examine_leaves group dead place counted
+leaves_fewer_at (stages.Freeing group dead counted) few = SweepTurns.free_leaves group dead counted
+leaves_fewer_at (stages.Returning group counted) few = SweepTurns.return_leaves group counted
 leaves_fewer_at (stages.Clearing group kept) few = SweepTurns.clear_leaves group kept
 leaves_fewer_at (stages.Ending kept) few = SweepTurns.end_leaves kept
 

@@ -7,7 +7,7 @@ use Rattle.heap_model.specs.declared.entry.Entry.{Entry}
 use Rattle.heap_model.specs.declared.entry.Entry.TheVariants.{Said, Answers}
 use Rattle.heap_model.specs.declared.heap.Heap.{Heap}
 use Rattle.heap_model.specs.declared.reply.Reply.TheVariants as replies
-use Rattle.heap_model.specs.account.Account.{KeepsSpaceBy, most_kept, ButSpine}
+use Rattle.heap_model.specs.account.Account.{KeepsSpace, most_kept}
 use Rattle.heap_model.specs.Command.{IsCommand}
 use Rattle.heap_model.specs.account.Cycles.{graph_of}
 use Rattle.heap_model.specs.account.Effects.{is_of}
@@ -70,10 +70,10 @@ module _ (heap : Heap) (book : Book) (number p : ℕ) (command : Command) (polls
     has_answered = answered_rises book.history answer_entry number own refl ∙ omega (arith, next)
 
     -- each keeps the rules
-    pub keeps_answer : KeepsSpaceBy ButSpine heap false book.history answer_entry
+    pub keeps_answer : KeepsSpace heap false book.history answer_entry
     keeps_answer = keeps_answers heap false book.history number p (now, omega (arith, next))
 
-    pub keeps_reply : spent_of number book.history ≤ taken_of number book.history → taken_of number book.history ≤ spent_of number book.history + 15 → KeepsSpaceBy ButSpine heap false middle_book.history reply_entry
+    pub keeps_reply : spent_of number book.history ≤ taken_of number book.history → taken_of number book.history ≤ spent_of number book.history + 15 → KeepsSpace heap false middle_book.history reply_entry
     keeps_reply enough little =
         let taken : taken_of number middle_book.history ≡ taken_of number book.history = omega (arith, total_of-own number (λ e. e.taken) book.history answer_entry own) in
         let spent : spent_of number middle_book.history ≡ spent_of number book.history

@@ -4,7 +4,7 @@ use Rattle.std.proofs.lemmas.Bool.{eq-eqb}
 use Rattle.heap_model.specs.declared.entry.Entry.{Entry}
 use Rattle.heap_model.specs.declared.heap.Heap.{Heap}
 use Rattle.heap_model.specs.declared.id.Id.TheVariants.{Made}
-use Rattle.heap_model.specs.account.Account.{IsLegalBy, ButSpine}
+use Rattle.heap_model.specs.account.Account.{IsLegal}
 use Rattle.heap_model.specs.graph.Changes.{add}
 use Rattle.heap_model.specs.Command.{IsCommand}
 use Rattle.heap_model.specs.account.Cycles.{graph_of}
@@ -54,7 +54,7 @@ module _ (g : Graph) (history : List Entry) (number : ℕ) (seat : Seat) (counts
 
   -- it may stand
   pub made_legal : (heap : Heap) → graph_of heap history ≡ g → MakesObject seat.command → IsCommand seat.command → length seat.reserve ≤ 15
-      → IsLegalBy ButSpine heap false history → IsLegalBy ButSpine heap false (history ++ made_entry number seat ∷ [])
+      → IsLegal heap false history → IsLegal heap false (history ++ made_entry number seat ∷ [])
   made_legal heap same made ranges small legal =
       legal_more heap false history (made_entry number seat) legal
       (rw same (accepts_made seat.command made g number (next_object_id number seat) ranges present (ap (Made number) counts.numbered)))

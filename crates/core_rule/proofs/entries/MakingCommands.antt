@@ -8,7 +8,7 @@ use Rattle.heap_model.specs.declared.heap.Heap.{Heap}
 use Rattle.heap_model.specs.declared.id.Id.{Id}
 use Rattle.heap_model.specs.declared.id.Id.TheVariants.{Made}
 use Rattle.heap_model.specs.declared.reply.Reply.TheVariants as replies
-use Rattle.heap_model.specs.account.Account.{KeepsSpaceBy, ButSpine}
+use Rattle.heap_model.specs.account.Account.{KeepsSpace}
 use Rattle.heap_model.specs.graph.Changes.{add}
 use Rattle.heap_model.specs.Command.{IsCommand}
 use Rattle.heap_model.specs.graph.Growth.{after_entry}
@@ -70,9 +70,9 @@ module _ (command : Command) (made : MakesObject command) where
 
   -- and keeps the rules of space where its seat has enough
   pub made_keeps : (heap : Heap) (play : Bool) (before : List Entry) (number : ℕ) (id : Id) → spent_of number before + need_of command ≤ taken_of number before
-      → taken_of number before ≤ spent_of number before + need_of command + 15 → KeepsSpaceBy ButSpine heap play before (entries.Said number command (replies.Made id))
+      → taken_of number before ≤ spent_of number before + need_of command + 15 → KeepsSpace heap play before (entries.Said number command (replies.Made id))
   made_keeps heap play before number id enough little =
-      making_only (λ c. spent_of number before + need_of c ≤ taken_of number before → taken_of number before ≤ spent_of number before + need_of c + 15 → KeepsSpaceBy ButSpine heap play before (entries.Said number c (replies.Made id)))
+      making_only (λ c. spent_of number before + need_of c ≤ taken_of number before → taken_of number before ≤ spent_of number before + need_of c + 15 → KeepsSpace heap play before (entries.Said number c (replies.Made id)))
       (λ d fields some few. keeps_told heap play before number (commands.New d fields) (replies.Made id) tt tt tt some few)
       (λ d cells some few. keeps_told heap play before number (commands.Array d cells) (replies.Made id) tt tt tt some few) command made enough little
 
@@ -87,9 +87,9 @@ module _ (command : Command) (made : MakesObject command) where
 
   -- and keeps the rules of space where it shows what is to be found
   pub full_keeps : (heap : Heap) (play : Bool) (before : List Entry) (number found : ℕ) → spent_of number before ≤ taken_of number before → taken_of number before ≤ spent_of number before + 15
-      → found < need_of command → FindsSpace heap play before number found → KeepsSpaceBy ButSpine heap play before (entries.Said number command (replies.Full (need_of command) found))
+      → found < need_of command → FindsSpace heap play before number found → KeepsSpace heap play before (entries.Said number command (replies.Full (need_of command) found))
   full_keeps heap play before number found own little less finds =
-      making_only (λ c. found < need_of c → KeepsSpaceBy ButSpine heap play before (entries.Said number c (replies.Full (need_of c) found)))
+      making_only (λ c. found < need_of c → KeepsSpace heap play before (entries.Said number c (replies.Full (need_of c) found)))
       (λ d fields small. keeps_said heap play before number (commands.New d fields) (replies.Full (need_of (commands.New d fields)) found) refl (refl, small, finds) tt tt own little)
       (λ d cells small. keeps_said heap play before number (commands.Array d cells) (replies.Full (need_of (commands.Array d cells)) found) refl (refl, small, finds) tt tt own little)
       command made less
@@ -105,8 +105,8 @@ module _ (command : Command) (array : IsArray command) where
 
   pub spine_full_keeps : (heap : Heap) (play : Bool) (before : List Entry) (number found : ℕ) → spent_of number before ≤ taken_of number before → taken_of number before ≤ spent_of number before + 15
       → heap.spine < found + spine_need_of command → FindsSpine heap play before number found
-      → KeepsSpaceBy ButSpine heap play before (entries.Said number command (replies.SpineFull (spine_need_of command) found))
+      → KeepsSpace heap play before (entries.Said number command (replies.SpineFull (spine_need_of command) found))
   spine_full_keeps heap play before number found own little more finds =
-      array_only (λ c. heap.spine < found + spine_need_of c → KeepsSpaceBy ButSpine heap play before (entries.Said number c (replies.SpineFull (spine_need_of c) found)))
+      array_only (λ c. heap.spine < found + spine_need_of c → KeepsSpace heap play before (entries.Said number c (replies.SpineFull (spine_need_of c) found)))
       (λ d cells many. keeps_said heap play before number (commands.Array d cells) (replies.SpineFull (spine_need_of (commands.Array d cells)) found) refl tt (refl, many, finds) tt own little)
       command array more

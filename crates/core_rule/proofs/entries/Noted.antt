@@ -7,7 +7,7 @@ use Rattle.std.proofs.lemmas.List.Elements.{Contains-append_left, Contains-appen
 use Rattle.heap_model.specs.declared.entry.Entry.{Entry}
 use Rattle.heap_model.specs.declared.entry.Entry.TheVariants as entries
 use Rattle.heap_model.specs.declared.heap.Heap.{Heap}
-use Rattle.heap_model.specs.account.Account.{KeepsSpaceBy, KeepsSpaceAfterBy, IsLegalBy, ButSpine}
+use Rattle.heap_model.specs.account.Account.{KeepsSpace, KeepsSpaceAfter, IsLegal}
 use Rattle.heap_model.specs.account.Effects.{effect_of}
 use Rattle.heap_model.specs.account.PhaseCounts.{phase, HasEnded, BeganSince}
 use Rattle.heap_model.specs.account.Windows.{up_to_reply, since_reply, is_reply_to}
@@ -20,7 +20,7 @@ pub record IsBegun (heap : Heap) (before more : List Entry) (q : ℕ) : Type 0 w
   pub entry : Entry
   pub rest : List Entry
   pub there : more ≡ earlier ++ entry ∷ rest
-  pub keeps : KeepsSpaceBy ButSpine heap false (before ++ earlier) entry
+  pub keeps : KeepsSpace heap false (before ++ earlier) entry
   pub last : phase (before ++ earlier) + 1 ≡ q
   pub begins : (effect_of entry).phases ≡ 1
 
@@ -31,7 +31,7 @@ few_phases (entries.Ends cycle kept) = inr refl
 few_phases _ = inl refl
 
 -- each phase between was begun by an entry
-pub each_begun : (heap : Heap) (before more : List Entry) (q : ℕ) → KeepsSpaceAfterBy ButSpine heap false before more → phase before < q → q ≤ phase (before ++ more) → IsBegun heap before more q
+pub each_begun : (heap : Heap) (before more : List Entry) (q : ℕ) → KeepsSpaceAfter heap false before more → phase before < q → q ≤ phase (before ++ more) → IsBegun heap before more q
 each_begun heap before [] q kept above below = absurd (omega (arith, above, below, ap phase (append-nil before)))
 each_begun heap before (entry ∷ more) q kept above below = elim (few_phases entry) as (λ _. IsBegun heap before (entry ∷ more) q) [
   | inl none ↦ later (each_begun heap (before ++ entry ∷ []) more q kept.1 (omega (arith, none, total-more (λ e. e.phases) before entry, above)) (omega (arith, below, ap phase (append_assoc before (entry ∷ []) more))))
@@ -41,7 +41,7 @@ each_begun heap before (entry ∷ more) q kept above below = elim (few_phases en
       entry = entry;
       rest = more;
       there = refl;
-      keeps = subst (λ es. KeepsSpaceBy ButSpine heap false es entry) (sym (append-nil before)) kept.0;
+      keeps = subst (λ es. KeepsSpace heap false es entry) (sym (append-nil before)) kept.0;
       last = omega (arith, first.1, above, ap phase (append-nil before));
       begins = one;
     }
@@ -55,36 +55,36 @@ each_begun heap before (entry ∷ more) q kept above below = elim (few_phases en
       entry = its.entry;
       rest = its.rest;
       there = ap (λ es. entry ∷ es) its.there;
-      keeps = subst (λ es. KeepsSpaceBy ButSpine heap false es its.entry) (append_assoc before (entry ∷ []) its.earlier) its.keeps;
+      keeps = subst (λ es. KeepsSpace heap false es its.entry) (append_assoc before (entry ∷ []) its.earlier) its.keeps;
       last = ap (λ es. phase es + 1) (sym (append_assoc before (entry ∷ []) its.earlier)) ∙ its.last;
       begins = its.begins;
     }
 
 -- what keeps the rules after a part keeps them after more of it
-later_keeps : (heap : Heap) (play : Bool) (before first more : List Entry) → KeepsSpaceAfterBy ButSpine heap play before (first ++ more) → KeepsSpaceAfterBy ButSpine heap play (before ++ first) more
-later_keeps heap play before [] more kept = subst (λ es. KeepsSpaceAfterBy ButSpine heap play es more) (sym (append-nil before)) kept
+later_keeps : (heap : Heap) (play : Bool) (before first more : List Entry) → KeepsSpaceAfter heap play before (first ++ more) → KeepsSpaceAfter heap play (before ++ first) more
+later_keeps heap play before [] more kept = subst (λ es. KeepsSpaceAfter heap play es more) (sym (append-nil before)) kept
 later_keeps heap play before (entry ∷ first) more kept =
-    subst (λ es. KeepsSpaceAfterBy ButSpine heap play es more) (append_assoc before (entry ∷ []) first) (later_keeps heap play (before ++ entry ∷ []) first more kept.1)
+    subst (λ es. KeepsSpaceAfter heap play es more) (append_assoc before (entry ∷ []) first) (later_keeps heap play (before ++ entry ∷ []) first more kept.1)
 
 -- the entry stands there
 is_there : (earlier rest : List Entry) (entry : Entry) → Contains (earlier ++ entry ∷ rest) entry
 is_there earlier rest entry = Contains-append_right earlier (entry ∷ rest) entry (Contains-append_left (entry ∷ []) rest entry (Contains-push [] entry))
 
 -- the phase that a cycle's end begins
-ends_there : (heap : Heap) (before : List Entry) (entry : Entry) (cycle : ℕ) → KeepsSpaceBy ButSpine heap false before entry → phase before + 1 ≡ 7 * (cycle + 1) → (effect_of entry).phases ≡ 1
+ends_there : (heap : Heap) (before : List Entry) (entry : Entry) (cycle : ℕ) → KeepsSpace heap false before entry → phase before + 1 ≡ 7 * (cycle + 1) → (effect_of entry).phases ≡ 1
     → (kept : ℕ) × (entry ≡ entries.Ends cycle kept)
 ends_there heap before (entries.Advance p) cycle keeps last begins = absurd (keeps.begins.1 (omega (arith, keeps.begins.0, last)))
 ends_there heap before (entries.Ends c kept) cycle keeps last begins = (kept, ap (λ n. entries.Ends n kept) (omega (arith, keeps.ends.0.0, last)))
 ends_there heap before _ cycle keeps last begins = cc
 
 -- and the first phase of a cycle
-begins_there : (heap : Heap) (before : List Entry) (entry : Entry) (cycle : ℕ) → KeepsSpaceBy ButSpine heap false before entry → phase before + 1 ≡ 7 * cycle + 1 → (effect_of entry).phases ≡ 1
+begins_there : (heap : Heap) (before : List Entry) (entry : Entry) (cycle : ℕ) → KeepsSpace heap false before entry → phase before + 1 ≡ 7 * cycle + 1 → (effect_of entry).phases ≡ 1
     → entry ≡ entries.Advance (7 * cycle + 1)
 begins_there heap before (entries.Advance p) cycle keeps last begins = ap entries.Advance (keeps.begins.0 ∙ last)
 begins_there heap before (entries.Ends c kept) cycle keeps last begins = absurd (omega (arith, keeps.ends.0.0, last))
 begins_there heap before _ cycle keeps last begins = cc
 
-module _ (heap : Heap) (history : List Entry) (legal : IsLegalBy ButSpine heap false history) (cycle : ℕ) where
+module _ (heap : Heap) (history : List Entry) (legal : IsLegal heap false history) (cycle : ℕ) where
   -- a cycle after which a phase has begun has ended
   pub has_ended : 7 * (cycle + 1) ≤ phase history → HasEnded cycle history
   has_ended over =
@@ -97,7 +97,7 @@ module _ (heap : Heap) (history : List Entry) (legal : IsLegalBy ButSpine heap f
   began_since number before over =
       let whole : up_to_reply number history ++ since_reply number history ≡ history = parts (is_reply_to number) history in
       let begun = each_begun heap (up_to_reply number history) (since_reply number history) (7 * cycle + 1)
-      (later_keeps heap false [] (up_to_reply number history) (since_reply number history) (subst (KeepsSpaceAfterBy ButSpine heap false []) (sym whole) legal.space))
+      (later_keeps heap false [] (up_to_reply number history) (since_reply number history) (subst (KeepsSpaceAfter heap false []) (sym whole) legal.space))
       (omega (arith, before)) (omega (arith, over, ap phase whole)) in
       let its = begins_there heap (up_to_reply number history ++ begun.earlier) begun.entry cycle begun.keeps begun.last begun.begins in
       subst (Contains (since_reply number history)) its (subst (λ es. Contains es begun.entry) (sym begun.there) (is_there begun.earlier begun.rest begun.entry))

@@ -3,7 +3,7 @@ use Rattle.std.proofs.Common.{◌≡◌, ℕ, ◌+◌, ◌*◌, ◌≤◌, false
 use Rattle.heap_model.specs.declared.entry.Entry.{Entry}
 use Rattle.heap_model.specs.declared.entry.Entry.TheVariants as entries
 use Rattle.heap_model.specs.declared.heap.Heap.{Heap}
-use Rattle.heap_model.specs.account.Account.{IsLegalBy, ButSpine}
+use Rattle.heap_model.specs.account.Account.{IsLegal}
 use Rattle.heap_model.specs.account.Cycles.{graph_of}
 use Rattle.heap_model.specs.graph.Legal.{IsPresent}
 use Rattle.heap_model.specs.account.Space.{fragments_gained, fragments_lost, taken_of, spent_of}
@@ -19,10 +19,10 @@ module _ (heap : Heap) (history : List Entry) (number k : ℕ) where
   pub graph_gives : graph_of heap (history ++ entries.GivesBack number k ∷ []) ≡ graph_of heap history
   graph_gives = graph_after-more (opening heap) history (entries.GivesBack number k)
 
-  module _ (legal : IsLegalBy ButSpine heap false history) (present : IsPresent (graph_of heap history) number) (some : 1 ≤ k) where
+  module _ (legal : IsLegal heap false history) (present : IsPresent (graph_of heap history) number) (some : 1 ≤ k) where
     -- each may stand where there is enough
-    pub legal_takes : fragments_gained history + k ≤ 16 * heap.groups + fragments_lost history → IsLegalBy ButSpine heap false (history ++ entries.Takes number k ∷ [])
+    pub legal_takes : fragments_gained history + k ≤ 16 * heap.groups + fragments_lost history → IsLegal heap false (history ++ entries.Takes number k ∷ [])
     legal_takes room = legal_more heap false history (entries.Takes number k) legal present (keeps_takes heap false history number k some room)
 
-    pub legal_gives : spent_of number history + k ≤ taken_of number history → IsLegalBy ButSpine heap false (history ++ entries.GivesBack number k ∷ [])
+    pub legal_gives : spent_of number history + k ≤ taken_of number history → IsLegal heap false (history ++ entries.GivesBack number k ∷ [])
     legal_gives own = legal_more heap false history (entries.GivesBack number k) legal present (keeps_gives heap false history number k some own)

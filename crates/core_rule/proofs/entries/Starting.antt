@@ -1,5 +1,6 @@
 -- Where a seat stands that begins a call which makes no record.
 use Rattle.std.proofs.Common.{◌≡◌, ℕ, List, [], refl, sym, ap, ◌∙◌}
+use Rattle.heap_words.specs.declared.spot.Spot.{Spot}
 use Rattle.heap_model.specs.declared.command.Command.{Command}
 use Rattle.heap_model.specs.declared.command.Command.TheVariants as commands
 use Rattle.heap_model.specs.declared.entry.Entry.{Entry}
@@ -21,10 +22,11 @@ use Rattle.core_machine.specs.seat.Registers.{register_in}
 use Rattle.core_machine.specs.seat.Seat.{Seat}
 use Rattle.core_rule.specs.Book.{fragment_at, object_number}
 use Rattle.core_rule.specs.Counts.{Awaits}
-use Rattle.core_rule.specs.Budgets.{granted_at, unplaced_at, refused_at, UsedStands}
+use Rattle.core_rule.specs.Budgets.{granted_at, placed_at, refused_at, UsedStands}
 use Rattle.core_rule.specs.Owners.{Owner, SpineOwner}
 use Rattle.core_rule.specs.Registers.{HoldsValue}
-use Rattle.core_rule.specs.Spines.{HasPlace, WordStandsAhead}
+use Rattle.core_rule.specs.Replicas.{AddressStands}
+use Rattle.core_rule.specs.Spines.{HasPlace}
 use Rattle.core_rule.specs.Ways.{WayStands, SetsOut}
 use Rattle.core_rule.proofs.entries.Begins.{SameData, same_data}
 use Rattle.core_rule.proofs.graph.Numbering.{id_at-number_of}
@@ -58,21 +60,22 @@ IsBare (places.Access Indexing) = ⊥
 IsBare _ = Unit {0}
 
 -- so a seat there has no spine, and has found no words to be in use
-pub record IsSpineless (owner : ℕ → Owner) (number : ℕ) (seat : Seat) (place : Place) : Type 0 where
+pub record IsSpineless (number : ℕ) (seat : Seat) (place : Place) : Type 0 where
   pub no_place : ¬ HasPlace seat place
-  pub no_word : (spine_owner : ℕ → ℕ → SpineOwner) → WordStandsAhead owner spine_owner seat place
+  pub no_address : (heap : Heap) (words : List ℕ) (nodes : ℕ → Node) (owner : ℕ → Owner) (fragments : ℕ → List ℕ) (spines : ℕ → Spot) (spine_owner : ℕ → ℕ → SpineOwner)
+      → AddressStands heap words nodes owner fragments spines spine_owner seat place
   pub none_used : (heap : Heap) (history : List Entry) → UsedStands heap history number seat place
   pub none_granted : granted_at seat place ≡ 0
-  pub none_unplaced : unplaced_at seat place ≡ 0
+  pub none_placed : (half : ℕ) → placed_at half seat place ≡ 0
   pub none_refused : refused_at seat place ≡ 0
 
-pub bare_spineless : (owner : ℕ → Owner) (number : ℕ) (seat : Seat) (place : Place) → IsBare place → IsSpineless owner number seat place
-bare_spineless owner number seat (places.Making Granting) bare =
-    record { no_place = λ has. has; no_word = λ spine_owner. tt; none_used = λ heap history. tt; none_granted = refl; none_unplaced = refl; none_refused = refl }
-bare_spineless owner number seat (places.Making _) bare = absurd bare
-bare_spineless owner number seat (places.Access Indexing) bare = absurd bare
-bare_spineless owner number seat _ bare =
-    record { no_place = λ has. has; no_word = λ spine_owner. tt; none_used = λ heap history. tt; none_granted = refl; none_unplaced = refl; none_refused = refl }
+pub bare_spineless : (number : ℕ) (seat : Seat) (place : Place) → IsBare place → IsSpineless number seat place
+bare_spineless number seat (places.Making Granting) bare =
+    record { no_place = λ has. has; no_address = λ heap words nodes owner fragments spines spine_owner. tt; none_used = λ heap history. tt; none_granted = refl; none_placed = λ half. refl; none_refused = refl }
+bare_spineless number seat (places.Making _) bare = absurd bare
+bare_spineless number seat (places.Access Indexing) bare = absurd bare
+bare_spineless number seat _ bare =
+    record { no_place = λ has. has; no_address = λ heap words nodes owner fragments spines spine_owner. tt; none_used = λ heap history. tt; none_granted = refl; none_placed = λ half. refl; none_refused = refl }
 
 module _ (g : Graph) (nodes : ℕ → Node) (made : List Id) (owner : ℕ → Owner) (fragments : ℕ → List ℕ) (number : ℕ) where
   -- the seat has what it had, awaits nothing, and its way sets out from its first place

@@ -2,7 +2,7 @@
 use Rattle.std.proofs.Common.{◌≡◌, ℕ, ◌<◌, ◌==◌, Bool, true, inl, inr, List, [], ◌∷◌, ◌++◌, refl, sym, ◌∙◌, subst, append_assoc, arith}
 use Rattle.std.proofs.lemmas.Bool.{cases_lt, or_cases, eqb-true, eq-eqb}
 use Rattle.std.proofs.lemmas.List.{append-nil}
-use Rattle.heap_model.specs.account.Account.{Judged, KeepsSpaceBy, KeepsSpaceAfterBy, IsLegalBy}
+use Rattle.heap_model.specs.account.Account.{KeepsSpace, KeepsSpaceAfter, IsLegal}
 use Rattle.heap_model.specs.account.Cycles.{graph_of, brings, all_bring, bound}
 use Rattle.heap_model.specs.account.PhaseCounts.{has_left, is_leave_of}
 use Rattle.heap_model.specs.account.Space.{total}
@@ -33,9 +33,9 @@ record IsThrough (heap : Heap) (number : ℕ) (history : List Entry) : Type 0 wh
   pub none : brings number history ≡ 0
 
 -- it has given all back when it leaves
-leave_brings : (judged : Judged) (heap : Heap) (play : Bool) (history : List Entry) (number : ℕ) (reply : Reply) → KeepsSpaceBy judged heap play history (entries.Said number commands.Leave reply)
+leave_brings : (heap : Heap) (play : Bool) (history : List Entry) (number : ℕ) (reply : Reply) → KeepsSpace heap play history (entries.Said number commands.Leave reply)
     → brings number (history ++ entries.Said number commands.Leave reply ∷ []) ≡ 0
-leave_brings judged heap play history number reply keeps =
+leave_brings heap play history number reply keeps =
     let leave : Entry = entries.Said number commands.Leave reply in
     let own : (number == number) ≡ true = eq-eqb number number refl in
     rw (
@@ -48,12 +48,12 @@ leave_brings judged heap play history number reply keeps =
     )
     (omega (arith, keeps.makes.1))
 
-module _ (judged : Judged) (heap : Heap) (play : Bool) (number : ℕ) where
+module _ (heap : Heap) (play : Bool) (number : ℕ) where
   abbrev WhereLeft : List Entry → Type 0
   WhereLeft history = has_left number history ≡ true → IsThrough heap number history
 
   -- an entry that makes it leave, or another's
-  through_more : (history : List Entry) (entry : Entry) → Accepts (graph_of heap history) entry → KeepsSpaceBy judged heap play history entry → WhereLeft history → WhereLeft (history ++ entry ∷ [])
+  through_more : (history : List Entry) (entry : Entry) → Accepts (graph_of heap history) entry → KeepsSpace heap play history entry → WhereLeft history → WhereLeft (history ++ entry ∷ [])
   through_more history entry accepts keeps through left =
       elim (or_cases (has_left number history) (is_leave_of number entry) (sym (any-more (is_leave_of number) history entry) ∙ left)) [
         | inl before ↦ record {
@@ -66,13 +66,13 @@ module _ (judged : Judged) (heap : Heap) (play : Bool) (number : ℕ) where
         }
       ]
     where
-      by : (e : Entry) → KeepsSpaceBy judged heap play history e → is_leave_of number e ≡ true → brings number (history ++ e ∷ []) ≡ 0
+      by : (e : Entry) → KeepsSpace heap play history e → is_leave_of number e ≡ true → brings number (history ++ e ∷ []) ≡ 0
       by (entries.Said other commands.Leave reply) its here =
-          subst (λ n. brings n (history ++ entries.Said other commands.Leave reply ∷ []) ≡ 0) (eqb-true other number here) (leave_brings judged heap play history other reply its)
+          subst (λ n. brings n (history ++ entries.Said other commands.Leave reply ∷ []) ≡ 0) (eqb-true other number here) (leave_brings heap play history other reply its)
       by _ its here = absurd (cc)
 
   -- so after the later part of a legal history
-  through_after : (before later rest : List Entry) → AcceptsAll (graph_of heap before) (later ++ rest) → KeepsSpaceAfterBy judged heap play before (later ++ rest) → WhereLeft before
+  through_after : (before later rest : List Entry) → AcceptsAll (graph_of heap before) (later ++ rest) → KeepsSpaceAfter heap play before (later ++ rest) → WhereLeft before
       → WhereLeft (before ++ later)
   through_after before [] rest accepts keeps through = subst WhereLeft (sym (append-nil before)) through
   through_after before (entry ∷ later) rest accepts keeps through =
@@ -80,7 +80,7 @@ module _ (judged : Judged) (heap : Heap) (play : Bool) (number : ℕ) where
       (through_after (before ++ entry ∷ []) later rest (subst (λ g. AcceptsAll g (later ++ rest)) (sym (graph_after-more (opening heap) before entry)) accepts.1) keeps.1
       (through_more before entry accepts.0 keeps.0 through))
 
-  through_legal : (history rest : List Entry) → IsLegalBy judged heap play (history ++ rest) → WhereLeft history
+  through_legal : (history rest : List Entry) → IsLegal heap play (history ++ rest) → WhereLeft history
   through_legal history rest legal = through_after [] history rest legal.objects legal.space (λ left. absurd (cc))
 
 -- the first part of what a graph accepts
@@ -88,18 +88,18 @@ pub accepts_before : (g : Graph) (history later : List Entry) → AcceptsAll g (
 accepts_before g [] later accepts = tt
 accepts_before g (entry ∷ history) later accepts = (accepts.0, accepts_before (after_entry g entry) history later accepts.1)
 
-module _ (judged : Judged) (heap : Heap) (play : Bool) (history : List Entry) (legal : IsLegalBy judged heap play history) (left : (number : ℕ) → number < heap.seats → has_left number (up_to_cycle history) ≡ true) where
+module _ (heap : Heap) (play : Bool) (history : List Entry) (legal : IsLegal heap play history) (left : (number : ℕ) → number < heap.seats → has_left number (up_to_cycle history) ≡ true) where
   abbrev earlier : Graph
   earlier = graph_of heap (up_to_cycle history)
 
-  legal_parts : IsLegalBy judged heap play (up_to_cycle history ++ since_cycle history)
-  legal_parts = subst (IsLegalBy judged heap play) (sym (parts begins_cycle history)) legal
+  legal_parts : IsLegal heap play (up_to_cycle history ++ since_cycle history)
+  legal_parts = subst (IsLegal heap play) (sym (parts begins_cycle history)) legal
 
   legal_then : IsObjectLegal heap (up_to_cycle history)
   legal_then = accepts_before (opening heap) (up_to_cycle history) (since_cycle history) legal_parts.objects
 
   through : (number : ℕ) → number < heap.seats → IsThrough heap number (up_to_cycle history)
-  through number below = through_legal judged heap play number (up_to_cycle history) (since_cycle history) legal_parts (left number below)
+  through number below = through_legal heap play number (up_to_cycle history) (since_cycle history) legal_parts (left number below)
 
   all_left : (number : ℕ) → IsGone earlier number
   all_left number = elim (cases_lt number heap.seats) [

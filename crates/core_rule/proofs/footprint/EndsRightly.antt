@@ -1,9 +1,9 @@
 -- A cycle leaves little, and keeps what is reached.
-use Rattle.std.proofs.Common.{◌≡◌, ℕ, ◌/◌, ◌%◌, inr, List, sym, ap, ◌∙◌, subst, arith}
+use Rattle.std.proofs.Common.{◌≡◌, ◌≢◌, ℕ, ◌/◌, ◌%◌, inr, List, sym, ap, ◌∙◌, subst, arith}
 use Rattle.heap_model.specs.declared.entry.Entry.TheVariants.{Ends}
 use Rattle.heap_model.specs.declared.heap.Heap.{Heap}
 use Rattle.heap_model.specs.declared.id.Id.{Id}
-use Rattle.heap_model.specs.account.Cycles.{graph_of, bound, EndsCycleBy, ButSpine}
+use Rattle.heap_model.specs.account.Cycles.{graph_of, bound, EndsCycle}
 use Rattle.heap_model.specs.account.PhaseCounts.{phase}
 use Rattle.heap_model.specs.account.Windows.{up_to_cycle}
 use Rattle.heap_model.specs.graph.Reach.{IsReach}
@@ -11,9 +11,12 @@ use Rattle.core_machine.specs.collector.FitsTurns.{HasCleared}
 use Rattle.core_machine.specs.declared.collector.stage.Stage.TheVariants as stages
 use Rattle.core_machine.specs.machine.Machine.{State}
 use Rattle.core_rule.specs.Book.{Book}
+use Rattle.core_rule.specs.Budgets.{returning}
 use Rattle.core_rule.specs.Footprint.{ClearedWithin, Footprint, StageStandsInside, is_inside}
+use Rattle.core_rule.specs.Owners.{Dead}
 use Rattle.core_rule.specs.Rule.{Rule}
 use Rattle.core_rule.specs.Stands.{Stands}
+use Rattle.core_rule.proofs.footprint.EndWords.{words_within}
 use Rattle.core_rule.proofs.footprint.EndSize.{used_within, kept_most, kept_least}
 use Rattle.core_rule.proofs.footprint.Inside.{among_contained}
 use Rattle.core_rule.proofs.footprint.KeptReached.{reached_kept}
@@ -30,6 +33,10 @@ module _ (heap : Heap) (state : State) (book : Book) (stands : Stands heap state
   last : phase book.history % 7 ≡ 6
   last = ap (λ p. p % 7) (sym rule.collector_stands.phase_told) ∙ fits.for_clearing
 
+  -- nothing is to be freed any more
+  alive : (f i k : ℕ) → book.owner f ≢ Dead i k
+  alive = rule.marks_stand.heap_marks.alive (λ settled. let between = settled_phase state.collector.phase state.collector.stage settled in omega (arith, between.upto, fits.for_clearing))
+
   -- what was counted is right, whatever was reached when the cycle began
   counted : (begun : List Id) → IsReach (graph_of heap (up_to_cycle book.history)) begun → IsCountedRight heap book.history kept begun
   counted begun reach =
@@ -39,9 +46,8 @@ module _ (heap : Heap) (state : State) (book : Book) (stands : Stands heap state
       = subst (StageStandsInside heap book.made begun (is_inside (graph_of heap (up_to_cycle book.history)) begun) book.owner most) ending foot.stage in
       let old = rule.heap_stands in
       record {
-        used = used_within heap book.made book.owner (is_inside (graph_of heap (up_to_cycle book.history)) begun) (λ f i k owned. foot.kept f i k owned (inr last))
-            (rule.marks_stand.heap_marks.alive (λ settled. let between = settled_phase state.collector.phase state.collector.stage settled in omega (arith, between.upto, fits.for_clearing)))
-            book.history most old.used foot.size;
+        used = used_within heap book.made book.owner (is_inside (graph_of heap (up_to_cycle book.history)) begun) (λ f i k owned. foot.kept f i k owned (inr last)) alive book.history most old.used foot.size;
+        spine = words_within heap state book rule begun reach (λ f i k owned. foot.kept f i k owned (inr last)) alive (ap returning ending);
         at_most = kept_most heap book.made begun book.owner most heap.groups kept cleared;
         at_least = λ both ordered all. kept_least heap state.words (graph_of heap book.history) book.made book.owner book.fragments old.ids old.objects
             old.control_words.outside begun both most kept cleared ordered
@@ -49,6 +55,6 @@ module _ (heap : Heap) (state : State) (book : Book) (stands : Stands heap state
       }
 
   -- so it may end
-  pub ends_rightly : EndsCycleBy ButSpine heap book.history (Ends (state.collector.phase / 7) kept)
+  pub ends_rightly : EndsCycle heap book.history (Ends (state.collector.phase / 7) kept)
   ends_rightly = ends_cycle heap book.history (state.collector.phase / 7) kept (let told = rule.collector_stands.phase_told in omega (arith, told, last))
       (λ number below present. rule.collector_stands.looked number (omega (arith, below, fits.all)) below present) counted

@@ -1,8 +1,8 @@
 -- What ends a cycle by the rules: counts that are right for each list of what was reached when it began.
 use Rattle.std.proofs.Common.{◌≡◌, ℕ, ◌+◌, ◌*◌, ◌≤◌, List, AllPairs, Contains}
-use Rattle.heap_model.specs.account.Cycles.{graph_of, bound, IsReachOfBoth, EndsCycleBy, ButSpine}
+use Rattle.heap_model.specs.account.Cycles.{graph_of, bound, spine_bound, IsReachOfBoth, EndsCycle}
 use Rattle.heap_model.specs.account.PhaseCounts.{phase, AllAnswered}
-use Rattle.heap_model.specs.account.Space.{fragments_gained, fragments_lost}
+use Rattle.heap_model.specs.account.Space.{fragments_gained, fragments_lost, words_granted, words_returned}
 use Rattle.heap_model.specs.account.Windows.{up_to_cycle}
 use Rattle.heap_model.specs.declared.entry.Entry.{Entry}
 use Rattle.heap_model.specs.declared.entry.Entry.TheVariants as entries
@@ -13,9 +13,10 @@ use Rattle.heap_model.specs.graph.Sizes.{fragments_of_all}
 use Rattle.heap_model.specs.PhasePlan.{cycle_phases, clearing}
 use Rattle.core_rule.proofs.footprint.ReachLists.{by_reach}
 
--- what is in use and what was counted are within the bound, and no less was counted than what is reached now and was then
+-- what is in use, fragments and spine words, and what was counted are within the bounds, and no less was counted than what is reached now and was then
 pub record IsCountedRight (heap : Heap) (history : List Entry) (kept : ℕ) (begun : List Id) : Type 0 where
   pub used : fragments_gained history ≤ fragments_lost history + bound heap begun history
+  pub spine : words_granted history ≤ words_returned history + spine_bound heap begun history
   pub at_most : kept ≤ bound heap begun history
   pub at_least : (both : List Id) → AllPairs IsBefore both → ((id : Id) → Contains both id → Reaches (graph_of heap history) id × Contains begun id)
       → fragments_of_all (graph_of heap history) both ≤ kept
@@ -27,11 +28,11 @@ module _ (heap : Heap) (history : List Entry) (cycle kept : ℕ) (in_last : phas
   counted both is = by_reach (graph_of heap (up_to_cycle history)) (fragments_of_all (graph_of heap history) both) kept (λ begun reach.
       (right begun reach).at_least both is.ordered (λ id there. (((is.reached id).0 there).1, (reach.reached id).1 ((is.reached id).0 there).0)))
 
-  pub ends_cycle : EndsCycleBy ButSpine heap history (entries.Ends cycle kept)
+  pub ends_cycle : EndsCycle heap history (entries.Ends cycle kept)
   ends_cycle = (
     (in_last, answered),
     record {
-      within = λ begun reach. record { used = (right begun reach).used; spine = tt; at_most = (right begun reach).at_most };
+      within = λ begun reach. record { used = (right begun reach).used; spine = (right begun reach).spine; at_most = (right begun reach).at_most };
       reached = counted;
     },
   )

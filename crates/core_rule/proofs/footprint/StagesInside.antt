@@ -1,7 +1,6 @@
 -- What the collector comes to by a turn that begins no phase is inside, and what it counts is right.
 use Rattle.std.specs.Prelude.{if◌then◌else◌}
-use Rattle.std.proofs.Common.{◌≡◌, ℕ, ◌+◌, ◌%◌, ◌==◌, inl, inr, true, false, nat_lt, Bool, List, Option, Some, None, refl, sym, ap, ◌∙◌, subst, arith}
-use Rattle.std.proofs.lemmas.Bool.Decides.{eqb_tells}
+use Rattle.std.proofs.Common.{◌≡◌, ℕ, ◌+◌, ◌*◌, ◌%◌, ◌==◌, inl, inr, true, false, nat_lt, Bool, List, Option, Some, None, refl, sym, ap, ◌∙◌, subst, arith}
 use Rattle.heap_model.specs.declared.heap.Heap.{Heap}
 use Rattle.heap_model.specs.declared.id.Id.{Id}
 use Rattle.heap_model.specs.account.Cycles.{graph_of}
@@ -12,14 +11,14 @@ use Rattle.heap_model.specs.graph.Reach.{IsReach}
 use Rattle.core_machine.specs.collector.Collector.{turn_at, first_work, after_last_look, after_counted_look, after_look, has_answered_of}
 use Rattle.core_machine.specs.collector.FitsTurns.{IsScanning, IsIndexing, IsClearing}
 use Rattle.core_machine.specs.collector.Marking.{after_last_group, after_pass, scan_step, scan_at, after_scan_load, after_first_load, spine_step, spine_scan_at}
-use Rattle.core_machine.specs.collector.Sweeping.{after_swept, after_examined, after_cleared, taken_count_of, next_place_of, dead_bits_of}
+use Rattle.core_machine.specs.collector.Sweeping.{after_swept, after_examined, after_freed, after_cleared, taken_count_of, next_place_of, dead_bits_of}
 use Rattle.core_machine.specs.declared.collector.stage.Scan.{Scan}
 use Rattle.core_machine.specs.declared.collector.stage.SpineScan.{SpineScan}
 use Rattle.core_machine.specs.declared.collector.stage.Stage.{Stage}
 use Rattle.core_machine.specs.declared.collector.stage.Stage.TheVariants as stages
 use Rattle.core_machine.specs.declared.table.address.Address.TheVariants.{Control, Word}
 use Rattle.core_machine.specs.machine.Machine.{State, found_by}
-use Rattle.core_machine.specs.table.Decode.{pointer_in, payload_in}
+use Rattle.core_machine.specs.table.Decode.{pointer_in, payload_in, spine_words_in}
 use Rattle.core_machine.specs.table.Layout.{at, spine_place}
 use Rattle.core_machine.proofs.collector_lemmas.SpineTurns.{spine_cases}
 use Rattle.core_rule.specs.Book.{Book, Grey, id_at}
@@ -35,6 +34,7 @@ use Rattle.core_rule.proofs.marking.Marks.{settled_phase}
 use Rattle.core_rule.proofs.marking.ObjectEdges.{kept_refers, part_owned}
 use Rattle.core_rule.proofs.marking.Scans.{spine_points}
 use Rattle.core_rule.proofs.marking.SweepMarks.{after_swept_either, after_cleared_either}
+use Rattle.core_rule.proofs.turns.WorkCases.{work_either, copying_on}
 
 module _ (heap : Heap) (state : State) (book : Book) (rule : Rule heap state book) (begun : List Id) (reach : IsReach (graph_of heap (up_to_cycle book.history)) begun) (most : ℕ)
     (foot : Footprint heap state book begun (is_inside (graph_of heap (up_to_cycle book.history)) begun) most) where
@@ -58,16 +58,7 @@ module _ (heap : Heap) (state : State) (book : Book) (rule : Rule heap state boo
 
   -- after a look
   work_inside : Inside (first_work state.collector.phase)
-  work_inside = elim (eqb_tells (state.collector.phase % 7) 3) as (λ _. Inside (first_work state.collector.phase)) [
-    | inl third ↦ rw third.0 tt
-    | inr other ↦ rw other.0 (elim (eqb_tells (state.collector.phase % 7) 5) as (λ _. Inside (if state.collector.phase % 7 == 5 then stages.Sweeping 0 else if state.collector.phase % 7 == 6 then stages.Clearing 0 0 else stages.Advancing)) [
-      | inl sweeps ↦ rw sweeps.0 tt
-      | inr neither ↦ rw neither.0 (elim (eqb_tells (state.collector.phase % 7) 6) as (λ _. Inside (if state.collector.phase % 7 == 6 then stages.Clearing 0 0 else stages.Advancing)) [
-        | inl clears ↦ rw clears.0 (begins_clearing clears.1)
-        | inr none ↦ rw none.0 tt
-      ])
-    ])
-  ]
+  work_inside = work_either (λ stage most_turns. Inside stage) heap.groups state.collector.phase (λ marks. tt) (λ copies. tt) (λ sweeps. tt) begins_clearing tt
 
   look_inside : (found : ℕ) → Inside (after_look heap state.collector found).stage
   look_inside found = by (has_answered_of state.collector.phase found)
@@ -141,11 +132,18 @@ module _ (heap : Heap) (state : State) (book : Book) (rule : Rule heap state boo
   swept_inside : (group : ℕ) → Inside (after_swept heap group)
   swept_inside group = after_swept_either Inside heap group tt (λ all. tt)
 
-  examined_inside : (group dead : ℕ) (place : Option ℕ) → Inside (after_examined heap group dead place)
-  examined_inside group dead (Some place) = tt
-  examined_inside group dead None = by (dead == 0)
+  examined_inside : (group dead words : ℕ) (place : Option ℕ) → Inside (after_examined heap group dead words place)
+  examined_inside group dead words (Some place) = tt
+  examined_inside group dead words None = by (dead == 0)
     where
-      by : (b : Bool) → Inside (if b then after_swept heap group else stages.Freeing group dead)
+      by : (b : Bool) → Inside (if b then after_swept heap group else stages.Freeing group dead words)
+      by true = swept_inside group
+      by false = tt
+
+  freed_inside : (group words : ℕ) → Inside (after_freed heap group words)
+  freed_inside group words = by (words == 0)
+    where
+      by : (b : Bool) → Inside (if b then after_swept heap group else stages.Returning group words)
       by true = swept_inside group
       by false = tt
 
@@ -169,11 +167,14 @@ module _ (heap : Heap) (state : State) (book : Book) (rule : Rule heap state boo
   turn_inside (stages.Indexing s) is = index_inside s is
   turn_inside (stages.Spreading s target) is = spine_at_inside _
   turn_inside (stages.Blackening scan) is = tt
+  turn_inside stages.Flipping is = tt
+  turn_inside (stages.Copying stage) is = copying_on Inside (λ stage. tt) tt heap state.collector.phase stage _
   turn_inside (stages.Sweeping group) is =
       let dead : ℕ = dead_bits_of (at heap state.words (Control group)) in
-      examined_inside group dead (next_place_of dead 0)
-  turn_inside (stages.Examining group dead place) is = examined_inside group dead (next_place_of dead (place + 1))
-  turn_inside (stages.Freeing group dead) is = swept_inside group
+      examined_inside group dead 0 (next_place_of dead 0)
+  turn_inside (stages.Examining group dead place words) is = examined_inside group dead (words + spine_words_in (at heap state.words (Word (16 * group + place) 0))) (next_place_of dead (place + 1))
+  turn_inside (stages.Freeing group dead words) is = freed_inside group words
+  turn_inside (stages.Returning group words) is = swept_inside group
   turn_inside (stages.Clearing group kept) is = cleared_inside group kept is
   turn_inside (stages.Ending kept) is = tt
   turn_inside stages.Advancing is = tt

@@ -12,6 +12,9 @@ use Rattle.heap_model.specs.account.Windows.{up_to_cycle, begins_cycle}
 use Rattle.heap_model.proofs.Histories.{total-more}
 use Rattle.core_machine.specs.collector.Collector.{turn_at}
 use Rattle.core_machine.specs.collector.FitsTurns.{HasCleared}
+use Rattle.core_machine.specs.collector.CopyingTurns.{copying_adds}
+use Rattle.core_machine.specs.declared.collector.stage.Copying.{Copying}
+use Rattle.core_machine.specs.declared.collector.stage.Copying.TheVariants.{Swinging}
 use Rattle.core_machine.specs.declared.collector.stage.Stage.{Stage}
 use Rattle.core_machine.specs.declared.collector.stage.Stage.TheVariants as stages
 use Rattle.core_machine.specs.machine.Machine.{State, state_after_turn, found_by}
@@ -110,11 +113,19 @@ module _ (heap : Heap) (state : State) (book : Book) (stands : Stands heap state
         looks = turn_looks heap state book.history keeps.now.history (stages.Ending kept) stands.looks keeps.grown;
       }
 
+  -- a turn of copying begins no phase
+  copying_mute : (stage : Copying) → AreMute (copying_adds stage)
+  copying_mute (Swinging copy) = one_mute _ refl refl
+  copying_mute _ = tt
+
   -- so by each turn
   pub turn_cycle : (stage : Stage) → state.collector.stage ≡ stage → (keeps : TurnKept stage) → Stands heap (after stage) keeps.now
   turn_cycle stages.Advancing is keeps = advance_stands is keeps
   turn_cycle (stages.Ending kept) is keeps = end_stands kept is keeps
-  turn_cycle (stages.Freeing group dead) is keeps = mute_stands (stages.Freeing group dead) is (one_mute _ refl refl) keeps
+  turn_cycle (stages.Freeing group dead words) is keeps = mute_stands (stages.Freeing group dead words) is (one_mute _ refl refl) keeps
+  turn_cycle (stages.Returning group words) is keeps = mute_stands (stages.Returning group words) is (one_mute _ refl refl) keeps
+  turn_cycle stages.Flipping is keeps = mute_stands stages.Flipping is tt keeps
+  turn_cycle (stages.Copying stage) is keeps = mute_stands (stages.Copying stage) is (copying_mute stage) keeps
   turn_cycle stages.Looking is keeps = mute_stands stages.Looking is tt keeps
   turn_cycle (stages.Passing group found) is keeps = mute_stands (stages.Passing group found) is tt keeps
   turn_cycle (stages.Scanning scan) is keeps = mute_stands (stages.Scanning scan) is tt keeps
@@ -124,5 +135,5 @@ module _ (heap : Heap) (state : State) (book : Book) (stands : Stands heap state
   turn_cycle (stages.Spreading s target) is keeps = mute_stands (stages.Spreading s target) is tt keeps
   turn_cycle (stages.Blackening scan) is keeps = mute_stands (stages.Blackening scan) is tt keeps
   turn_cycle (stages.Sweeping group) is keeps = mute_stands (stages.Sweeping group) is tt keeps
-  turn_cycle (stages.Examining group dead place) is keeps = mute_stands (stages.Examining group dead place) is tt keeps
+  turn_cycle (stages.Examining group dead place words) is keeps = mute_stands (stages.Examining group dead place words) is tt keeps
   turn_cycle (stages.Clearing group kept) is keeps = mute_stands (stages.Clearing group kept) is tt keeps

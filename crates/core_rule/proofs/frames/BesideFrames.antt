@@ -24,11 +24,11 @@ use Rattle.core_rule.proofs.cycle.CycleFrames.{cycle_watched}
 use Rattle.core_rule.proofs.cycle.FieldFrames.{watched_part}
 use Rattle.core_rule.proofs.entries.AtRest.{seat_fits}
 use Rattle.core_rule.proofs.entries.InFlight.{stored_within}
-use Rattle.core_rule.proofs.frames.SeatFrames.{same_party, told_nothing, kept_owners, seat_left}
+use Rattle.core_rule.proofs.frames.SeatFrames.{same_party, told_nothing, kept_owners, address_left, seat_left}
 use Rattle.core_rule.proofs.hand.HandMoves.{same_hand}
 use Rattle.core_rule.proofs.marking.KeptSources.{kept_sources}
 use Rattle.core_rule.proofs.objects.ObjectFrames.{objects_words}
-use Rattle.core_rule.proofs.spines.SpineFrames.{same_kept, SpinesLeft, SpineIsStored}
+use Rattle.core_rule.proofs.spines.SpineFrames.{same_kept, SpinesLeft, SpineIsStored, PlacesStay}
 use Rattle.core_rule.proofs.ways.KeptWords.{kept_within}
 use Rattle.core_rule.proofs.words.Addresses.{at-put_apart, SameSpines}
 use Rattle.core_rule.proofs.words.ControlLemmas.{bits_same}
@@ -120,20 +120,22 @@ module _ (heap : Heap) (state : State) (book : Book) (rule : Rule heap state boo
       let row : u / 4 < length seat.body = omega (arith, less, stored_within heap seat seat.place fits.at_place) in
       beside.parts (fragment_at seat.body (u / 4)) (u % 4) (fits.hand.body_within (u / 4) 0 row) (omega arith) ∙ (rule.seats_stand r below).own.stored u less
 
-  -- and so does all of a seat that has its spine words
+  -- and so does all of a seat that has its spine words, where what arrays have left stays as it is
   pub seat_beside : (spine_owner : ℕ → ℕ → SpineOwner) (r : ℕ) → r < heap.seats → SpinesLeft r book.spine_owner spine_owner → SpineIsStored heap now (seat_at state r)
-      → SeatStands heap now (with_spine_owner spine_owner) r (seat_at state r)
-  seat_beside spine_owner r below left stored =
+      → PlacesStay heap state.words now (length book.made) book.spines book.spines book.spine_owner spine_owner → SeatStands heap now (with_spine_owner spine_owner) r (seat_at state r)
+  seat_beside spine_owner r below left stored places =
       let stands = rule.seats_stand r below in
+      let kept = kept_owners g book.made book.owner book.owner book.fragments (same_kept book.owner) in
       seat_left heap state.words now book (with_spine_owner spine_owner) r (seat_at state r) record {
         calls = refl;
         party = same_party g g r refl;
         told = told_nothing r book.history;
-        kept = kept_owners g book.made book.owner book.owner book.fragments (same_kept book.owner);
+        kept = kept;
         hand = same_hand r book.owner;
         stored = stored_beside r below;
         spines = left;
         spine_stored = stored;
+        address = address_left heap state.words now book (with_spine_owner spine_owner) (seat_at state r) kept places stands.names.way stands.names.address;
         gathers = stands.told.gathers;
         cycle = cycle_beside r below;
       } stands

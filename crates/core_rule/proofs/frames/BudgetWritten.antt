@@ -11,7 +11,7 @@ use Rattle.core_rule.specs.Rule.{Rule, HeapStands, SeatStands}
 use Rattle.core_rule.proofs.colours.LeadsFrames.{SameSources, leads_same, same_ahead}
 use Rattle.core_rule.proofs.frames.BesideFrames.{LeavesBeside, ArraysStay, beside_aside, arrays_stay, heap_beside, seat_beside}
 use Rattle.core_rule.proofs.spines.OtherWords.{LeavesPlaces, places_left_budget}
-use Rattle.core_rule.proofs.spines.SpineFrames.{same_kept, same_shapes, spines_at_places, spine_words_stay, spines_left}
+use Rattle.core_rule.proofs.spines.SpineFrames.{same_kept, same_shapes, spines_at_places, spine_words_stay, spines_left, places_same}
 use Rattle.core_rule.proofs.words.Addresses.{at-put_apart}
 
 module _ (heap : Heap) (state : State) (book : Book) (rule : Rule heap state book) (n : ℕ) where
@@ -43,3 +43,4 @@ module _ (heap : Heap) (state : State) (book : Book) (rule : Rule heap state boo
   seat_budget r below =
       seat_beside heap state book rule budget_words beside arrays book.spine_owner r below (spines_left r book.spine_owner)
       (spine_words_stay heap state.words budget_words (seat_at state r) budget_places.spines (rule.seats_stand r below).own.spine.stored)
+      (places_same heap state.words budget_words (length book.made) book.spines book.spine_owner budget_places.spines)

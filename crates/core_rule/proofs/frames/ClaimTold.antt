@@ -6,12 +6,11 @@ use Rattle.std.proofs.lemmas.List.{append-nil}
 use Rattle.heap_model.specs.declared.entry.Entry.{Entry}
 use Rattle.heap_model.specs.declared.entry.Entry.TheVariants as entries
 use Rattle.heap_model.specs.declared.heap.Heap.{Heap}
-use Rattle.heap_model.specs.account.Account.{IsLegalBy, ButSpine}
+use Rattle.heap_model.specs.account.Account.{IsLegal}
 use Rattle.heap_model.specs.account.Cycles.{graph_of}
 use Rattle.heap_model.specs.account.Effects.{is_of}
 use Rattle.heap_model.specs.graph.Objects.{graph_seat}
 use Rattle.heap_model.specs.account.PhaseCounts.{phase, last_answer, has_left}
-use Rattle.heap_model.specs.account.Space.{words_granted, words_returned}
 use Rattle.core_machine.specs.declared.place.Place.{Place}
 use Rattle.core_machine.specs.table.Fragments.{tally}
 use Rattle.core_machine.specs.machine.Machine.{State, seat_at}
@@ -31,7 +30,8 @@ use Rattle.core_rule.proofs.entries.InFlight.{began_past}
 use Rattle.core_rule.proofs.entries.Others.{of_other}
 use Rattle.core_rule.proofs.entries.OwnEntries.{counts_own, counts_same, own_grows}
 use Rattle.core_rule.proofs.frames.SeatFrames.{SameTold, told_nothing, told_other}
-use Rattle.core_rule.proofs.spines.BudgetFrames.{none_granted_by, none_returned_by}
+use Rattle.core_rule.proofs.spines.BudgetFrames as budgets
+use Rattle.core_rule.proofs.entries.ToldSpines.{seats_tell, told_spines}
 use Rattle.core_rule.proofs.entries.SpaceEntries.{graph_takes, legal_takes}
 
 -- what is as it has to be of the history after a claim, with the new owners
@@ -39,9 +39,8 @@ pub record ClaimTold (heap : Heap) (state : State) (book : Book) (number : ℕ) 
   pub log : filter is_collectors added ≡ []
   pub graph : graph_of heap history ≡ graph_of heap book.history
   pub used : AreUsed heap owner history
-  pub granted : words_granted history ≡ words_granted book.history
-  pub returned : words_returned history ≡ words_returned book.history
-  pub legal : IsLegalBy ButSpine heap false history
+  pub spines : budgets.SameTold book.history history
+  pub legal : IsLegal heap false history
   pub phases : (words : List ℕ) (owner : ℕ → Owner) (colour : ℕ → Colour) (fragments : ℕ → List ℕ)
       → HeapInCycle heap words (phase book.history) owner colour fragments → HeapInCycle heap words (phase history) owner colour fragments
   pub cycles : (words : List ℕ) (owner : ℕ → Owner) (colour : ℕ → Colour) (r : ℕ) (seat : Seat)
@@ -73,8 +72,7 @@ module _ (heap : Heap) (state : State) (book : Book) (number : ℕ) (fs : List �
       record {
         log = refl;
         graph = graph_takes heap book.history number (length fs);
-        granted = none_granted_by book.history entry refl;
-        returned = none_returned_by book.history entry refl;
+        spines = told_spines book.history entry (seats_tell entry refl refl);
         used = claim_used heap book.owner book.history number fs once below used free;
         legal = legal_takes heap book.history number (length fs) rule.heap_stands.legal present some (claim_room heap book.owner book.history number fs once below used free);
         phases = λ words owner colour fragments cycle. heap_cycle_more heap words owner colour book.history entry refl fragments cycle;
@@ -97,8 +95,7 @@ module _ (heap : Heap) (state : State) (book : Book) (number : ℕ) (fs : List �
       record {
         log = refl;
         graph = refl;
-        granted = refl;
-        returned = refl;
+        spines = budgets.same_told book.history;
         used = claim_none heap book.owner book.history number fs once below used free nothing;
         legal = rule.heap_stands.legal;
         phases = λ words owner colour fragments cycle. cycle;

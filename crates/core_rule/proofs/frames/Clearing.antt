@@ -20,6 +20,7 @@ use Rattle.core_rule.specs.Objects.{node_at}
 use Rattle.core_rule.specs.Owners.{Borne}
 use Rattle.core_rule.specs.Phases.{AnswerStands}
 use Rattle.core_rule.specs.Rule.{Rule, HeapStands, SeatStands}
+use Rattle.core_rule.proofs.frames.SeatFrames.{names_words}
 use Rattle.core_rule.proofs.cycle.CycleFrames.{answers_same}
 use Rattle.core_rule.proofs.cycle.MakingCycle.{phase_after_control, answer_after_control}
 use Rattle.core_rule.proofs.entries.AtRest.{seat_fits}
@@ -114,7 +115,7 @@ module _ (heap : Heap) (state : State) (book : Book) (rule : Rule heap state boo
       pub seat_cleared : (r : ℕ) → r < heap.seats → SeatStands heap state.words book r (seat_at state r) → SeatStands heap words_cleared book_cleared r (seat_at state r)
       seat_cleared r under stands = record {
         own = record { holding = stands.own.holding; stored = stored_control heap state.words r (seat_at state r) g word below stands.own.stored; together = stands.own.together; spine = spine_after heap state.words words_cleared book.spine_owner r (seat_at state r) leaves_spines stands.own.spine };
-        names = stands.names;
+        names = names_words heap state.words words_cleared leaves_spines.spines (graph_of heap book.history) book.made book.owner book.fragments book.spines book.spine_owner r (seat_at state r) stands.names;
         told = stands.told;
         cycle = record {
           answers_told = answers_same heap state.words words_cleared (phase book.history) _ _ r (seat_at state r) (seat_at state r) record { answered = refl; left = refl; asked = refl }

@@ -2,7 +2,7 @@
 use Rattle.std.proofs.Common.{◌≡◌, ℕ, ◌<◌, false, List, [], ◌∷◌, ◌++◌, length, refl, ◌∙◌, arith}
 use Rattle.heap_model.specs.declared.entry.Entry.{Entry}
 use Rattle.heap_model.specs.declared.heap.Heap.{Heap}
-use Rattle.heap_model.specs.account.Account.{IsLegalBy, ButSpine}
+use Rattle.heap_model.specs.account.Account.{IsLegal}
 use Rattle.heap_model.specs.account.Cycles.{graph_of}
 use Rattle.heap_model.specs.account.Effects.{effect_of, is_of}
 use Rattle.heap_model.specs.graph.Objects.{graph_seat}
@@ -21,7 +21,8 @@ use Rattle.core_rule.proofs.words.ControlLemmas.{bits_same}
 use Rattle.core_rule.proofs.objects.ObjectFrames.{objects_words}
 use Rattle.core_rule.proofs.graph.SameNodes.{SameNodes, ids_stay, objects_stay, shapes_stay}
 use Rattle.core_rule.proofs.frames.SeatFrames.{with_entry, seat_stays, same_party}
-use Rattle.core_rule.proofs.spines.BudgetFrames.{SameGrants, none_granted_by, none_returned_by, kept_alike}
+use Rattle.core_rule.proofs.spines.BudgetFrames.{SameGrants, SameTold}
+use Rattle.core_rule.proofs.spines.SameBooks.{grants_alike}
 use Rattle.core_rule.proofs.spines.OtherWords.{LeavesPlaces, places_of, spines_left_none, spines_left_phase}
 use Rattle.core_rule.proofs.spines.SpineFrames.{same_kept, spines_at_places}
 
@@ -43,13 +44,11 @@ fragments_phase heap words n = record {
   spines = places_of heap words (put heap words Phase n) (spines_left_phase heap words n);
 }
 
--- the entry takes, gives and frees nothing, and no spine words
+-- the entry takes, gives and frees nothing
 pub record UsesNothing (entry : Entry) : Type 0 where
   pub taken : (effect_of entry).taken ≡ 0
   pub given : (effect_of entry).given ≡ 0
   pub freed : (effect_of entry).freed ≡ 0
-  pub words : (effect_of entry).words ≡ 0
-  pub returned : (effect_of entry).returned ≡ 0
 
 module _ (heap : Heap) (words now : List ℕ) (same : SameFragments heap words now) (book : Book) (entry : Entry)
     (nodes : SameNodes (graph_of heap book.history) (graph_of heap (book.history ++ entry ∷ []))) where
@@ -63,7 +62,7 @@ module _ (heap : Heap) (words now : List ℕ) (same : SameFragments heap words n
   after = graph_of heap later.history
 
   -- the heap stands
-  pub heap_past : UsesNothing entry → IsLegalBy ButSpine heap false later.history → HeapInCycle heap now (phase later.history) book.owner book.colour book.fragments
+  pub heap_past : UsesNothing entry → IsLegal heap false later.history → HeapInCycle heap now (phase later.history) book.owner book.colour book.fragments
       → HeapStands heap words book → HeapStands heap now later
   heap_past uses legal cycle stands = record {
     control_words = bits_same heap words now book.owner same.controls stands.control_words;
@@ -88,10 +87,5 @@ module _ (heap : Heap) (words now : List ℕ) (same : SameFragments heap words n
       (shapes_stay before after book.made nodes) (λ u less. same.parts _ _ ∙ stands.own.stored u less) same.spines.spines cycle stands
 
   -- and as many spine words are granted
-  pub grants_past : UsesNothing entry → SameGrants heap book later
-  grants_past uses = record {
-    told = none_granted_by book.history entry uses.words;
-    returned = none_returned_by book.history entry uses.returned;
-    kept = kept_alike (length book.made) (node_at before book.made) (node_at after book.made) book.owner book.fragments (shapes_stay before after book.made nodes);
-    gone = refl;
-  }
+  pub grants_past : SameTold book.history later.history → SameGrants heap book later
+  grants_past told = grants_alike heap book later.history told (shapes_stay before after book.made nodes)

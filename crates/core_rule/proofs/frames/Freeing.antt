@@ -3,7 +3,7 @@ use Rattle.std.proofs.Common.{◌≡◌, ℕ, ◌+◌, ◌*◌, ◌%◌, ◌^◌
 use Rattle.heap_model.specs.declared.entry.Entry.{Entry}
 use Rattle.heap_model.specs.declared.entry.Entry.TheVariants.{Frees}
 use Rattle.heap_model.specs.declared.heap.Heap.{Heap}
-use Rattle.heap_model.specs.account.Account.{IsLegalBy, ButSpine}
+use Rattle.heap_model.specs.account.Account.{IsLegal}
 use Rattle.heap_model.specs.account.Cycles.{graph_of}
 use Rattle.heap_model.specs.account.PhaseCounts.{phase, last_answer, has_left}
 use Rattle.heap_model.specs.account.Space.{fragments_gained, fragments_lost}
@@ -34,16 +34,17 @@ use Rattle.core_rule.proofs.cycle.MakingCycle.{borne_before, cycle_control, phas
 use Rattle.core_rule.proofs.entries.AtRest.{seat_fits}
 use Rattle.core_rule.proofs.entries.InFlight.{tried_within}
 use Rattle.core_rule.proofs.entries.Legality.{legal_more, keeps_frees}
-use Rattle.core_rule.proofs.frames.SeatFrames.{same_party, told_other, kept_owners, seat_left}
+use Rattle.core_rule.proofs.frames.SeatFrames.{KeptStays, same_party, told_other, kept_owners, address_left, seat_left}
 use Rattle.core_rule.proofs.gather.FreeGathers.{gathers_freed}
 use Rattle.core_rule.proofs.hand.StoredFrames.{stored_control}
 use Rattle.core_rule.proofs.objects.ObjectFrames.{SameKept, objects_owners, objects_control}
 use Rattle.core_rule.proofs.owners.DeadOwners.{of_dead, set_dead, kept_freed, hand_freed, owners_freed, dead_before}
 use Rattle.core_rule.proofs.owners.Handed.{fewer, handed_cases}
 use Rattle.core_rule.proofs.owners.OwnerLemmas.{is_dead}
-use Rattle.core_rule.proofs.spines.BudgetFrames.{SameGrants, none_granted_by, none_returned_by, kept_owned}
+use Rattle.core_rule.proofs.spines.BudgetFrames as budgets
+use Rattle.core_rule.proofs.entries.ToldSpines.{told_spines}
 use Rattle.core_rule.proofs.spines.OtherWords.{LeavesSpines, spines_left_control}
-use Rattle.core_rule.proofs.spines.SpineFrames.{same_shapes, spines_stay, spine_stored, spines_left}
+use Rattle.core_rule.proofs.spines.SpineFrames.{same_shapes, spines_stay, spine_stored, spines_left, places_same}
 use Rattle.core_rule.proofs.words.SetBits.{set_in, set_once, set_group}
 use Rattle.core_rule.proofs.words.SweepWords.{freed_bits, freed_marks}
 use Rattle.core_rule.proofs.spines.DeadWords.{dead_after_control}
@@ -71,7 +72,7 @@ module _ (heap : Heap) (state : State) (book : Book) (rule : Rule heap state boo
   abbrev before : Graph
   before = graph_of heap book.history
 
-  graph_freed : graph_of heap book_freed.history ≡ before
+  pub graph_freed : graph_of heap book_freed.history ≡ before
   graph_freed = graph_after-more (opening heap) book.history entry
 
   are_dead : (f : ℕ) → 1 ≤ tally f fs → dead_bit (book.owner f) ≡ 1
@@ -80,20 +81,19 @@ module _ (heap : Heap) (state : State) (book : Book) (rule : Rule heap state boo
   inside : (f : ℕ) → 1 ≤ tally f fs → f < 16 * heap.groups
   inside f there = omega (arith, set_group g dead f there, below)
 
-  same : SameKept book.owner owner
+  pub same : SameKept book.owner owner
   same = kept_freed book.owner fs are_dead
 
-  -- the spine words and the budget are as before, and as many spine words are granted
+  -- so what is kept stays kept
+  kept_on : KeptStays before (graph_of heap book_freed.history) book.made book.made book.owner owner book.fragments book.fragments
+  kept_on = rw graph_freed (kept_owners before book.made book.owner owner book.fragments same)
+
+  -- the spine words and the budget are as before, and the history tells of as many spine words
   pub leaves_spines : LeavesSpines heap state.words words_freed
   leaves_spines = spines_left_control heap state.words word g below
 
-  pub grants_freed : SameGrants heap book book_freed
-  grants_freed = record {
-    told = none_granted_by book.history entry refl;
-    returned = none_returned_by book.history entry refl;
-    kept = rw graph_freed (kept_owned (length book.made) (node_at before book.made) book.owner owner book.fragments same);
-    gone = refl;
-  }
+  pub told_freed : budgets.SameTold book.history book_freed.history
+  told_freed = told_spines book.history entry record { granted = refl; returned = refl; begins_none = refl; swings_none = λ id e. absurd (cc) }
 
   -- as many fewer are taken
   fewer_taken : sum_upto (16 * heap.groups) (λ f. taken_bit (book.owner f)) ≡ sum_upto (16 * heap.groups) (λ f. taken_bit (owner f)) + length fs
@@ -113,7 +113,7 @@ module _ (heap : Heap) (state : State) (book : Book) (rule : Rule heap state boo
   room = omega (arith, rule.heap_stands.used, fewer_taken)
 
   module _ (sweeps : phase book.history % 7 ≡ 5) (some : 1 ≤ length fs) (after : AfterMarking book.owner book.colour) where
-    legal : IsLegalBy ButSpine heap false book_freed.history
+    legal : IsLegal heap false book_freed.history
     legal = legal_more heap false book.history entry rule.heap_stands.legal tt (keeps_frees heap false book.history (length fs) (sweeps, some, room))
 
     -- what is marked stays born
@@ -156,11 +156,13 @@ module _ (heap : Heap) (state : State) (book : Book) (rule : Rule heap state boo
         calls = refl;
         party = same_party before (graph_of heap book_freed.history) r (ap (λ (g : Graph). graph_seat g r) graph_freed);
         told = told_other r book.history entry refl;
-        kept = rw graph_freed (kept_owners before book.made book.owner owner book.fragments same);
+        kept = kept_on;
         hand = hand_freed book.owner fs are_dead r;
         stored = stored_control heap state.words r seat g word below stands.own.stored;
         spines = spines_left r book.spine_owner;
         spine_stored = spine_stored heap state.words words_freed seat leaves_spines stands.own.spine.stored;
+        address = address_left heap state.words words_freed book book_freed seat kept_on
+            (places_same heap state.words words_freed (length book.made) book.spines book.spine_owner leaves_spines.spines) stands.names.way stands.names.address;
         gathers = gathers_freed heap book.owner book.history fs (set_once g dead) inside are_dead (book.begun r) r seat.cursor seat.tried seat.given stands.told.began.earlier
             fits.own.cursor_within (tried_within heap seat seat.place fits.at_place) stands.told.gathers;
         cycle = cycle_other heap words_freed owner book.colour book.history entry refl r seat

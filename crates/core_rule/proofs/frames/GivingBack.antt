@@ -33,12 +33,14 @@ use Rattle.core_rule.proofs.entries.AtRest.{seat_fits}
 use Rattle.core_rule.proofs.entries.InFlight.{tried_within}
 use Rattle.core_rule.proofs.cycle.MakingCycle.{cycle_goes_on, answer_after_control, heap_hands, borne_before, cycle_control}
 use Rattle.core_rule.proofs.objects.ObjectFrames.{SameKept, objects_owners, part_kept, objects_control, free_keeps_none}
-use Rattle.core_rule.proofs.spines.BudgetFrames.{SameGrants, none_granted_by, none_returned_by, kept_owned}
+use Rattle.core_rule.proofs.spines.BudgetFrames.{SameGrants}
+use Rattle.core_rule.proofs.spines.SameBooks.{grants_owned, dead_handed}
+use Rattle.core_rule.proofs.entries.ToldSpines.{seats_tell, told_spines}
 use Rattle.core_rule.proofs.spines.OtherWords.{LeavesSpines, spines_left_control}
-use Rattle.core_rule.proofs.spines.SpineFrames.{same_shapes, spines_stay, spine_stored, spines_left}
+use Rattle.core_rule.proofs.spines.SpineFrames.{same_shapes, spines_stay, spine_stored, spines_left, places_same}
 use Rattle.core_rule.proofs.entries.Others.{of_other}
 use Rattle.core_rule.proofs.owners.OwnerFrames.{owners_handed}
-use Rattle.core_rule.proofs.frames.SeatFrames.{same_party, told_other, kept_owners, seat_left}
+use Rattle.core_rule.proofs.frames.SeatFrames.{KeptStays, same_party, told_other, kept_owners, address_left, seat_left}
 use Rattle.core_rule.proofs.entries.SpaceEntries.{graph_gives, legal_gives}
 use Rattle.core_rule.proofs.hand.StoredFrames.{stored_control}
 use Rattle.core_rule.proofs.cycle.Unwatched.{IsApart}
@@ -77,6 +79,9 @@ module _ (heap : Heap) (state : State) (book : Book) (number : ℕ) (rule : Rule
   pub kept_given : SameKept book.owner owner
   kept_given = part_kept book.owner number fs Free free_keeps_none held
 
+  kept_on : KeptStays before (graph_of heap book_given.history) book.made book.made book.owner owner book.fragments book.fragments
+  kept_on = rw graph_given (kept_owners before book.made book.owner owner book.fragments kept_given)
+
   inside : (f : ℕ) → 1 ≤ tally f fs → f < 16 * heap.groups
   inside = held_within heap state.words book.owner rule.heap_stands.control_words number fs held
 
@@ -85,12 +90,8 @@ module _ (heap : Heap) (state : State) (book : Book) (number : ℕ) (rule : Rule
   leaves_spines = spines_left_control heap state.words word g below
 
   pub grants_given : SameGrants heap book book_given
-  grants_given = record {
-    told = none_granted_by book.history entry refl;
-    returned = none_returned_by book.history entry refl;
-    kept = rw graph_given (kept_owned (length book.made) (node_at before book.made) book.owner owner book.fragments kept_given);
-    gone = refl;
-  }
+  grants_given = grants_owned heap book book_given.history owner (told_spines book.history entry (seats_tell entry refl refl)) kept_given
+      (dead_handed Free book.owner fs free_no_dead (λ f i k there is. absurd (cc (held f there, is)))) (rw graph_given (same_shapes (node_at before book.made)))
 
   -- the heap stands
   pub heap_given : Bits heap words_given owner → (graph_seat before number).left ≡ false → 1 ≤ length fs → spent_of number book.history + length fs ≤ taken_of number book.history
@@ -138,11 +139,13 @@ module _ (heap : Heap) (state : State) (book : Book) (number : ℕ) (rule : Rule
         calls = refl;
         party = same_party before (graph_of heap book_given.history) r (ap (λ (g : Graph). graph_seat g r) graph_given);
         told = told_other r book.history entry away;
-        kept = rw graph_given (kept_owners before book.made book.owner owner book.fragments kept_given);
+        kept = kept_on;
         hand = hand_given book.owner r number fs apart held;
         stored = stored_control heap state.words r seat g word below other.own.stored;
         spines = spines_left r book.spine_owner;
         spine_stored = spine_stored heap state.words words_given seat leaves_spines other.own.spine.stored;
+        address = address_left heap state.words words_given book book_given seat kept_on
+            (places_same heap state.words words_given (length book.made) book.spines book.spine_owner leaves_spines.spines) other.names.way other.names.address;
         gathers = other_gives heap book.owner book.history number fs once inside rule.heap_stands.used (book.begun r) other.told.began.earlier seat.cursor seat.tried seat.given held
             fits.own.cursor_within (tried_within heap seat seat.place fits.at_place) r apart other.told.gathers;
         cycle = cycle_other heap words_given owner book.colour book.history entry refl r seat

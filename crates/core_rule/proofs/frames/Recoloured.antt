@@ -12,6 +12,7 @@ use Rattle.core_rule.specs.ControlWords.{Bits}
 use Rattle.core_rule.specs.Owners.{Borne}
 use Rattle.core_rule.specs.Objects.{node_at}
 use Rattle.core_rule.specs.Rule.{Rule, HeapStands, SeatStands}
+use Rattle.core_rule.proofs.frames.SeatFrames.{names_words}
 use Rattle.core_rule.proofs.colours.LeadsFrames.{leads_control}
 use Rattle.core_rule.proofs.cycle.CycleFrames.{LeavesCycle, cycle_stays}
 use Rattle.core_rule.proofs.cycle.FieldFrames.{watched_born}
@@ -74,7 +75,7 @@ module _ (heap : Heap) (state : State) (book : Book) (rule : Rule heap state boo
   pub seat_recoloured : (r : ℕ) → r < heap.seats → SeatStands heap state.words book r (seat_at state r) → SeatStands heap words (with_colours book coloured) r (seat_at state r)
   seat_recoloured r less stands = record {
     own = record { holding = stands.own.holding; stored = stored_control heap state.words r (seat_at state r) g n below stands.own.stored; together = stands.own.together; spine = spine_after heap state.words words book.spine_owner r (seat_at state r) leaves_spines stands.own.spine };
-    names = stands.names;
+    names = names_words heap state.words words leaves_spines.spines (graph_of heap book.history) book.made book.owner book.fragments book.spines book.spine_owner r (seat_at state r) stands.names;
     told = stands.told;
     cycle = cycle_stays heap state.words words book.owner book.owner book.colour coloured (phase book.history) (last_answer r book.history) (has_left r book.history)
         r (seat_at state r) (leaves_recoloured r less) (watched_born heap state book rule r less) stands.cycle;

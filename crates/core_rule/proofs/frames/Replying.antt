@@ -4,7 +4,7 @@ use Rattle.std.proofs.lemmas.List.{length-append}
 use Rattle.heap_model.specs.declared.account.effect.Effect.{Effect}
 use Rattle.heap_model.specs.declared.entry.Entry.{Entry}
 use Rattle.heap_model.specs.declared.heap.Heap.{Heap}
-use Rattle.heap_model.specs.account.Account.{KeepsSpaceBy, ButSpine}
+use Rattle.heap_model.specs.account.Account.{KeepsSpace}
 use Rattle.heap_model.specs.account.Cycles.{graph_of}
 use Rattle.heap_model.specs.account.Effects.{effect_of, no_effect, is_of}
 use Rattle.heap_model.specs.graph.Legal.{Accepts}
@@ -13,7 +13,9 @@ use Rattle.core_machine.specs.declared.place.Place.{Place}
 use Rattle.core_machine.specs.seat.Seat.{Seat}
 use Rattle.core_rule.specs.Book.{Book}
 use Rattle.core_rule.specs.Gathers.{Began, IsAnswered}
+use Rattle.core_rule.specs.Counts.{is_collectors}
 use Rattle.core_rule.specs.Rule.{HeapStands, SeatStands}
+use Rattle.core_rule.proofs.entries.ToldSpines.{seats_tell, told_spines}
 use Rattle.core_rule.proofs.cycle.CycleHistory.{heap_cycle_more, cycle_other}
 use Rattle.core_rule.proofs.frames.EntryFrames.{UsesNothing, heap_past, seat_past, grants_past, fragments_same}
 use Rattle.core_rule.proofs.entries.Legality.{legal_more}
@@ -39,21 +41,19 @@ module _ (heap : Heap) (words : List ℕ) (book : Book) (entry : Entry) (nothing
     taken = no_part entry (λ e. e.taken) nothing refl;
     given = no_part entry (λ e. e.given) nothing refl;
     freed = no_part entry (λ e. e.freed) nothing refl;
-    words = no_part entry (λ e. e.words) nothing refl;
-    returned = no_part entry (λ e. e.returned) nothing refl;
   }
 
   -- the heap stands
-  pub heap_told : Accepts (graph_of heap book.history) entry → KeepsSpaceBy ButSpine heap false book.history entry → HeapStands heap words book → HeapStands heap words (with_entry book entry)
+  pub heap_told : Accepts (graph_of heap book.history) entry → KeepsSpace heap false book.history entry → HeapStands heap words book → HeapStands heap words (with_entry book entry)
   heap_told accepts keeps stands =
       heap_past heap words words (fragments_same heap words) book entry nodes
       uses_nothing
       (legal_more heap false book.history entry stands.legal accepts keeps)
       (heap_cycle_more heap words book.owner book.colour book.history entry (no_part entry (λ e. e.phases) nothing refl) book.fragments stands.cycle) stands
 
-  -- as many spine words are granted
-  pub grants_told : SameGrants heap book (with_entry book entry)
-  grants_told = grants_past heap words words (fragments_same heap words) book entry nodes uses_nothing
+  -- as many spine words are granted, where a seat tells it
+  pub grants_told : is_collectors entry ≡ false → SameGrants heap book (with_entry book entry)
+  grants_told seats = grants_past heap words words (fragments_same heap words) book entry nodes (told_spines book.history entry (seats_tell entry seats (no_part entry (λ e. e.words) nothing refl)))
 
   -- another seat stands
   pub other_told : (r : ℕ) (seat : Seat) → is_of r entry ≡ false → graph_seat (graph_of heap (book.history ++ entry ∷ [])) r ≡ graph_seat (graph_of heap book.history) r

@@ -1,5 +1,6 @@
 -- What stays of a seat at another's step: all of it, where that leaves what the seat has, what it names and what is told of it.
 use Rattle.std.proofs.Common.{◌≡◌, ℕ, ◌<◌, false, List, [], ◌∷◌, ◌++◌, length, filter, drop, get_or, refl, sym, ap, ◌∙◌, subst, arith}
+use Rattle.heap_words.specs.declared.spot.Spot.{Spot}
 use Rattle.heap_model.specs.declared.entry.Entry.{Entry}
 use Rattle.heap_model.specs.declared.heap.Heap.{Heap}
 use Rattle.heap_model.specs.declared.id.Id.{Id}
@@ -21,16 +22,18 @@ use Rattle.core_rule.specs.Holding.{IsStored}
 use Rattle.core_rule.specs.Gathers.{GathersRight, Began}
 use Rattle.core_rule.specs.Budgets.{UsedStands}
 use Rattle.core_rule.specs.Objects.{node_at, IsKept}
-use Rattle.core_rule.specs.Owners.{Owner}
+use Rattle.core_rule.specs.Owners.{Owner, SpineOwner}
 use Rattle.core_rule.specs.Registers.{Registers}
 use Rattle.core_rule.specs.Registers as regs
-use Rattle.core_rule.specs.Rule.{SeatStands}
+use Rattle.core_rule.specs.Replicas.{AddressStands}
+use Rattle.core_rule.specs.Rule.{NamesStand, SeatStands}
+use Rattle.core_rule.specs.Ways.{WayStands}
 use Rattle.core_rule.proofs.entries.Others.{own-other, total_of-other, began_stays, gathers_stay}
 use Rattle.core_rule.proofs.entries.SeatLists.{list_stays, NamesStay, holds_stays}
 use Rattle.core_rule.proofs.hand.HandMoves.{SameHand, same_hand, holding_stays}
 use Rattle.core_rule.proofs.graph.SameNodes.{SameShape, shape_same}
 use Rattle.core_rule.proofs.objects.ObjectFrames.{SameKept, names_kept}
-use Rattle.core_rule.proofs.spines.SpineFrames.{SpineIsStored, spine_words_stay, SpinesLeft, spines_left, spine_stays, word_ahead_stays}
+use Rattle.core_rule.proofs.spines.SpineFrames.{SpineIsStored, spine_words_stay, SpinesLeft, spines_left, spine_stays, PlacesStay, places_same, address_stays, address_words}
 use Rattle.core_rule.proofs.spines.UsedWords.{used_other}
 use Rattle.core_rule.proofs.ways.WayFrames.{ObjectStays, ways_stay}
 use Rattle.core_rule.proofs.words.Addresses.{SameSpines}
@@ -103,6 +106,28 @@ pub registers_owners : (owner now : ℕ → Owner) → SameKept owner now → (m
 registers_owners owner now same made fragments g number held place d old =
     λ r fresh. holds_stays made made owner now fragments fragments (kept_owners g made owner now fragments same).names _ _ (old r fresh)
 
+-- the place that a seat's call has loaded is right by the book
+abbrev pub AddressAt : Heap → List ℕ → Book → Seat → Place → Type 0
+AddressAt heap words book seat = AddressStands heap words (node_at (graph_of heap book.history) book.made) book.owner book.fragments book.spines book.spine_owner seat
+
+-- so it is where what is kept stays kept, with its spine
+pub address_left : (heap : Heap) (words now_words : List ℕ) (book now : Book) (seat : Seat)
+    → KeptStays (graph_of heap book.history) (graph_of heap now.history) book.made now.made book.owner now.owner book.fragments now.fragments
+    → PlacesStay heap words now_words (length book.made) book.spines now.spines book.spine_owner now.spine_owner
+    → WayStands (node_at (graph_of heap book.history) book.made) book.made book.owner book.fragments seat seat.place → AddressAt heap words book seat seat.place → AddressAt heap now_words now seat seat.place
+address_left heap words now_words book now seat kept places =
+    address_stays heap words now_words (node_at (graph_of heap book.history) book.made) (node_at (graph_of heap now.history) now.made) book.made now.made book.owner now.owner
+    book.fragments now.fragments book.spines now.spines book.spine_owner now.spine_owner places kept.objects seat seat.place
+
+-- what a seat names stands where no more than words change, and no spine word
+pub names_words : (heap : Heap) (words now : List ℕ) → SameSpines heap words now → (g : Graph) (made : List Id) (owner : ℕ → Owner) (fragments : ℕ → List ℕ) (spines : ℕ → Spot) (spine_owner : ℕ → ℕ → SpineOwner)
+    (number : ℕ) (seat : Seat) → NamesStand heap words g made owner fragments spines spine_owner number seat → NamesStand heap now g made owner fragments spines spine_owner number seat
+names_words heap words now same g made owner fragments spines spine_owner number seat old = record {
+  registers = old.registers;
+  way = old.way;
+  address = address_words heap words now same (node_at g made) owner fragments spines spine_owner seat seat.place old.address;
+}
+
 -- what a step of another leaves of a seat
 pub record LeavesSeat (heap : Heap) (words : List ℕ) (book now : Book) (r : ℕ) (seat : Seat) : Type 0 where
   pub calls : now.begun ≡ book.begun
@@ -113,6 +138,7 @@ pub record LeavesSeat (heap : Heap) (words : List ℕ) (book now : Book) (r : �
   pub stored : IsStored heap words r seat
   pub spines : SpinesLeft r book.spine_owner now.spine_owner
   pub spine_stored : SpineIsStored heap words seat
+  pub address : AddressAt heap words now seat seat.place
   pub gathers : GathersRight heap now.owner r (drop (book.begun r) now.history) seat.cursor seat.tried seat.given
   pub cycle : SeatInCycle heap words (phase now.history) (last_answer r now.history) (has_left r now.history) now.owner now.colour r seat
 
@@ -134,8 +160,7 @@ seat_left heap words now_words book now r seat leaves old =
         registers = λ i awake. subst (regs.HoldsValue now.made now.owner now.fragments (get_or seat.registers i registers.Nil)) (sym (same i))
             (holds_stays book.made now.made book.owner now.owner book.fragments now.fragments leaves.kept.names _ _ (old.names.registers i awake));
         way = ways_stay (node_at g book.made) (node_at after now.made) book.made now.made book.owner now.owner book.fragments now.fragments leaves.kept.objects seat seat.place old.names.way;
-        ahead = word_ahead_stays (node_at g book.made) (node_at after now.made) book.made now.made book.owner now.owner book.fragments now.fragments book.spine_owner now.spine_owner
-            leaves.spines.arrays leaves.kept.objects seat seat.place old.names.way old.names.ahead;
+        address = leaves.address;
       };
       told = rw leaves.calls record {
         list = list_stays g after book.made now.made book.owner now.owner book.fragments now.fragments r seat leaves.kept.names same book.history now.history leaves.told.own old.told.list;
@@ -163,15 +188,18 @@ pub seat_stays : (heap : Heap) (words now : List ℕ) (book : Book) (entry : Ent
     → IsStored heap now r seat → SameSpines heap words now
     → SeatInCycle heap now (phase (book.history ++ entry ∷ [])) (last_answer r (book.history ++ entry ∷ [])) (has_left r (book.history ++ entry ∷ [])) book.owner book.colour r seat
     → SeatStands heap words book r seat → SeatStands heap now (with_entry book entry) r seat
-seat_stays heap words now book entry r seat other same shapes stored spines cycle old = seat_left heap words now book (with_entry book entry) r seat record {
-  calls = refl;
-  party = same;
-  told = told_other r book.history entry other;
-  kept = kept_shapes (graph_of heap book.history) (graph_of heap (book.history ++ entry ∷ [])) book.made book.owner book.fragments shapes;
-  hand = same_hand r book.owner;
-  stored = stored;
-  spines = spines_left r book.spine_owner;
-  spine_stored = spine_words_stay heap words now seat spines old.own.spine.stored;
-  gathers = gathers_stay heap book.owner r book.history (book.begun r) entry seat.cursor seat.tried seat.given old.told.began.earlier old.told.gathers;
-  cycle = cycle;
-} old
+seat_stays heap words now book entry r seat other same shapes stored spines cycle old =
+    let kept = kept_shapes (graph_of heap book.history) (graph_of heap (book.history ++ entry ∷ [])) book.made book.owner book.fragments shapes in
+    seat_left heap words now book (with_entry book entry) r seat record {
+      calls = refl;
+      party = same;
+      told = told_other r book.history entry other;
+      kept = kept;
+      hand = same_hand r book.owner;
+      stored = stored;
+      spines = spines_left r book.spine_owner;
+      spine_stored = spine_words_stay heap words now seat spines old.own.spine.stored;
+      address = address_left heap words now book (with_entry book entry) seat kept (places_same heap words now (length book.made) book.spines book.spine_owner spines) old.names.way old.names.address;
+      gathers = gathers_stay heap book.owner r book.history (book.begun r) entry seat.cursor seat.tried seat.given old.told.began.earlier old.told.gathers;
+      cycle = cycle;
+    } old

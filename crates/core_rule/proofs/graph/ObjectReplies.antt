@@ -13,7 +13,7 @@ use Rattle.heap_model.specs.declared.id.Value.{Value}
 use Rattle.heap_model.specs.declared.id.Value.TheVariants.{Object}
 use Rattle.heap_model.specs.declared.reply.Reply.{Reply}
 use Rattle.heap_model.specs.declared.reply.Reply.TheVariants as replies
-use Rattle.heap_model.specs.account.Account.{KeepsSpaceBy, most_kept, ButSpine}
+use Rattle.heap_model.specs.account.Account.{KeepsSpace, most_kept}
 use Rattle.heap_model.specs.graph.Changes.{with_register}
 use Rattle.heap_model.specs.Command.{IsCommand}
 use Rattle.heap_model.specs.graph.Growth.{after_reply}
@@ -98,18 +98,18 @@ graph_got g number value stamp command is = get_only (λ c. after_reply g number
 module _ (heap : Heap) (play : Bool) (before : List Entry) (number : ℕ) (own : spent_of number before ≤ taken_of number before) (little : taken_of number before ≤ spent_of number before + 15) where
   -- a reply that makes nothing and shows no space and no phase keeps the rules of space
   keeps_bare : (command : Command) (reply : Reply) → made_by command reply ≡ 0 → most_kept command ≡ 15 → ShowsSpace heap play before number command reply
-      → ShowsSpine heap play before number command reply → ShowsPhases heap play before number command reply → KeepsSpaceBy ButSpine heap play before (Said number command reply)
+      → ShowsSpine heap play before number command reply → ShowsPhases heap play before number command reply → KeepsSpace heap play before (Said number command reply)
   keeps_bare command reply none most space spine phases = keeps_said heap play before number command reply none space spine phases own (omega (arith, most, little))
 
   -- so these do
-  pub keeps_length : (n : ℕ) (command : Command) → IsLen command → KeepsSpaceBy ButSpine heap play before (Said number command (replies.Length n))
-  keeps_length n command is = len_only (λ c. KeepsSpaceBy ButSpine heap play before (Said number c (replies.Length n))) (λ r. keeps_bare (commands.Len r) (replies.Length n) refl refl tt tt tt) command is
+  pub keeps_length : (n : ℕ) (command : Command) → IsLen command → KeepsSpace heap play before (Said number command (replies.Length n))
+  keeps_length n command is = len_only (λ c. KeepsSpace heap play before (Said number c (replies.Length n))) (λ r. keeps_bare (commands.Len r) (replies.Length n) refl refl tt tt tt) command is
 
-  pub keeps_no_field : (command : Command) → NamesField command → KeepsSpaceBy ButSpine heap play before (Said number command replies.NoField)
+  pub keeps_no_field : (command : Command) → NamesField command → KeepsSpace heap play before (Said number command replies.NoField)
   keeps_no_field command is =
-      field_only (λ c. KeepsSpaceBy ButSpine heap play before (Said number c replies.NoField))
+      field_only (λ c. KeepsSpace heap play before (Said number c replies.NoField))
       (λ d r i. keeps_bare (commands.Get d r i) replies.NoField refl refl tt tt tt) (λ r i v. keeps_bare (commands.Set r i v) replies.NoField refl refl tt tt tt) command is
 
-  pub keeps_got : (value : Value) (stamp : ℕ) (command : Command) → IsGet command → KeepsSpaceBy ButSpine heap play before (Said number command (replies.Got value stamp))
+  pub keeps_got : (value : Value) (stamp : ℕ) (command : Command) → IsGet command → KeepsSpace heap play before (Said number command (replies.Got value stamp))
   keeps_got value stamp command is =
-      get_only (λ c. KeepsSpaceBy ButSpine heap play before (Said number c (replies.Got value stamp))) (λ d r i. keeps_bare (commands.Get d r i) (replies.Got value stamp) refl refl tt tt tt) command is
+      get_only (λ c. KeepsSpace heap play before (Said number c (replies.Got value stamp))) (λ d r i. keeps_bare (commands.Get d r i) (replies.Got value stamp) refl refl tt tt tt) command is

@@ -1,5 +1,6 @@
 -- The three ways on of a gather.
-use Rattle.std.proofs.Common.{◌≡◌, ◌∙◌, subst, ℕ, ◌+◌, List, [], length, take, drop, refl, sym, ap, arith}
+use Rattle.std.specs.Prelude.{if◌then◌else◌}
+use Rattle.std.proofs.Common.{◌≡◌, ◌∙◌, subst, ℕ, ◌+◌, ◌==◌, Bool, true, false, List, [], length, take, drop, refl, sym, ap, arith}
 use Rattle.std.proofs.lemmas.List.{length-append, take-append-drop}
 use Rattle.heap_model.specs.declared.entry.Entry.{Entry}
 use Rattle.heap_model.specs.declared.command.Command.{Command}
@@ -14,11 +15,13 @@ use Rattle.core_machine.specs.seat.Making.{fragments_gathered, gather_next, last
 use Rattle.core_machine.specs.seat.Commands.{MakesObject, IsArray}
 use Rattle.core_machine.specs.seat.Seat.{Seat, need, spine_need}
 use Rattle.core_machine.proofs.seat_lemmas.Fitting.{goes_on_cases, returning_cases, settled_cases}
-use Rattle.core_rule.specs.Budgets.{granted_at, unplaced_at, refused_at, UsedStands}
+use Rattle.core_rule.specs.Budgets.{granted_at, placed_at, refused_at, UsedStands}
 use Rattle.core_rule.specs.Gathers.{GathersRight}
 use Rattle.core_rule.specs.Holding.{Holding, fragments_in_hand}
 use Rattle.core_rule.specs.Owners.{Owner, bears_bit}
 use Rattle.core_rule.specs.Spines.{HasPlace}
+use Rattle.core_rule.proofs.spines.NoPlaces.{away_range}
+use Rattle.core_rule.proofs.spines.NoneMade.{SameWeights}
 use Rattle.core_rule.proofs.entries.Begins.{SameData, same_data}
 use Rattle.core_rule.proofs.hand.Bodies.{whole_same}
 use Rattle.core_rule.proofs.gather.GatherMoves.{nothing_tried}
@@ -79,7 +82,7 @@ same_goes_on heap seat =
 -- the spine words that the seat's call needs are granted, and have no place yet; and it found none to be in use
 pub record IsUnplaced (words : ℕ) (seat : Seat) : Type 0 where
   pub granted : granted_at seat seat.place ≡ words
-  pub unplaced : unplaced_at seat seat.place ≡ words
+  pub placed : (half : ℕ) → placed_at half seat seat.place ≡ 0
   pub refused : refused_at seat seat.place ≡ 0
   pub no_place : ¬ HasPlace seat seat.place
   pub none_used : (heap : Heap) (history : List Entry) (number : ℕ) → UsedStands heap history number seat seat.place
@@ -90,12 +93,26 @@ record_no_words (commands.New d fields) made other = refl
 record_no_words (commands.Array d cells) made other = absurd (other tt)
 record_no_words _ made other = absurd made
 
+pub none_either : (b : Bool) → ◌≡◌ {A = ℕ} (if b then 0 else 0) 0
+none_either true = refl
+none_either false = refl
+
+-- so it weighs what it weighed, where as many words were granted and none were placed or refused
+pub unplaced_weights : (words : ℕ) (old now : Seat) → granted_at old old.place ≡ words → ((half : ℕ) → placed_at half old old.place ≡ 0) → refused_at old old.place ≡ 0 → IsUnplaced words now
+    → SameWeights old now
+unplaced_weights words old now granted placed refused is = record {
+  granted = is.granted ∙ sym granted;
+  placed = λ half. is.placed half ∙ sym (placed half);
+  refused = is.refused ∙ sym refused;
+  range = away_range old now is.no_place;
+}
+
 -- so it is where what was claimed is to be given back
 pub unplaced_refusing : (seat : Seat) (hand : List ℕ) → seat.place ≡ places.Making (refusal_place hand) → IsUnplaced (spine_need seat) seat
 unplaced_refusing seat hand placed =
     returning_cases (λ m. seat.place ≡ places.Making m → IsUnplaced (spine_need seat) seat) hand
-    (λ none is. rw is record { granted = refl; unplaced = refl; refused = refl; no_place = λ has. has; none_used = λ heap history number. tt })
-    (λ some is. rw is record { granted = refl; unplaced = refl; refused = refl; no_place = λ has. has; none_used = λ heap history number. tt })
+    (λ none is. rw is record { granted = refl; placed = λ half. refl; refused = refl; no_place = λ has. has; none_used = λ heap history number. tt })
+    (λ some is. rw is record { granted = refl; placed = λ half. refl; refused = refl; no_place = λ has. has; none_used = λ heap history number. tt })
     placed
 
 -- and on each way on
@@ -103,14 +120,14 @@ pub unplaced_goes_on : (heap : Heap) (seat : Seat) → MakesObject seat.command 
 unplaced_goes_on heap seat made =
     goes_on_cases (IsUnplaced (spine_need seat)) heap seat
     (λ enough. settled_cases (λ m. (next : Seat) → next.command ≡ seat.command → next.place ≡ places.Making m → IsUnplaced (spine_need seat) next) seat.command
-    (λ an_array next is placed. rw (placed, is) record { granted = refl; unplaced = refl; refused = refl; no_place = λ has. has; none_used = λ heap history number. tt })
+    (λ an_array next is placed. rw (placed, is) record { granted = refl; placed = λ half. refl; refused = refl; no_place = λ has. has; none_used = λ heap history number. tt })
     (λ other next is placed. rw (placed, is) record {
       granted = refl;
-      unplaced = sym (record_no_words seat.command made other);
+      placed = λ half. ap (λ n. if next.spine.half == half then n else 0) (record_no_words seat.command made other) ∙ none_either (next.spine.half == half);
       refused = refl;
       no_place = other;
       none_used = λ heap history number. tt;
     })
     _ refl refl)
-    (λ few left. record { granted = refl; unplaced = refl; refused = refl; no_place = λ has. has; none_used = λ heap history number. tt })
+    (λ few left. record { granted = refl; placed = λ half. refl; refused = refl; no_place = λ has. has; none_used = λ heap history number. tt })
     (λ few tried. unplaced_refusing _ seat.hand refl)

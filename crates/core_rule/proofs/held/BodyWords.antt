@@ -1,5 +1,5 @@
 -- Where the sources of what a seat has borne lead: to its own new object.
-use Rattle.std.proofs.Common.{◌≡◌, ◌≢◌, ℕ, ◌*◌, ◌<◌, ◌≤◌, [], length, sym, subst}
+use Rattle.std.proofs.Common.{◌≡◌, ◌≢◌, ℕ, ◌*◌, ◌<◌, ◌≤◌, [], length, refl, sym, subst}
 use Rattle.heap_model.specs.declared.heap.Heap.{Heap}
 use Rattle.core_machine.specs.declared.place.Making.TheVariants.{Granting, Withdrawing, Gathering, Returning, Refusing, Placing, Listing, Storing, Bearing}
 use Rattle.core_machine.specs.declared.place.Place.{Place}
@@ -33,7 +33,7 @@ module _ (heap : Heap) (state : State) (book : Book) (rule : Rule heap state boo
   here : number < heap.seats
   here = (borne_by_seat heap state book rule number f bears).0
 
-  in_body : 1 ≤ tally f seat.body
+  pub in_body : 1 ≤ tally f seat.body
   in_body = (borne_by_seat heap state book rule number f bears).1
 
   stands : SeatStands heap state.words book number seat
@@ -49,24 +49,34 @@ module _ (heap : Heap) (state : State) (book : Book) (rule : Rule heap state boo
       = hand_held book.owner number seat.reserve seat.hand seat.body stands.own.holding f (subst (λ fs. 1 ≤ tally f fs) (sym all) in_body) in
       cc (held, bears)
 
-  -- so the seat stands at a birth, and has stored each word of the object and of its spine
+  -- so the seat stands at a birth
+  birth_place : (place : Place) → FitsPlace heap seat place → place ≡ places.Making Bearing
+  birth_place (places.Making Bearing) fits = refl
+  birth_place (places.Making Granting) fits = absurd (some_body fits.0.no_body)
+  birth_place (places.Making Withdrawing) fits = absurd (some_body fits.rests.no_body)
+  birth_place (places.Making Gathering) fits = absurd (some_body fits.no_body)
+  birth_place (places.Making Returning) fits = absurd (some_body fits.0.no_body)
+  birth_place (places.Making Refusing) fits = absurd (some_body fits.0.no_body)
+  birth_place (places.Making Placing) fits = absurd (some_borne fits.0.2.all_unborn)
+  birth_place (places.Making Listing) fits = absurd (some_borne fits.0.2.all_unborn)
+  birth_place (places.Making Storing) fits = absurd (some_borne fits.1)
+  birth_place places.Idle fits = absurd (some_body fits.no_body)
+  birth_place places.Local fits = absurd (some_body fits.0.no_body)
+  birth_place (places.Access place) fits = absurd (some_body fits.no_body)
+  birth_place (places.Polling place) fits = absurd (some_body fits.no_body)
+  birth_place (places.Collecting place) fits = absurd (some_body fits.0.no_body)
+  birth_place (places.Leaving place) fits = absurd (some_body fits.0.no_body)
+
+  pub bears_at_birth : seat.place ≡ places.Making Bearing
+  bears_at_birth = birth_place seat.place (seat_fits rule number here).at_place
+
+  -- and has stored each word of the object and of its spine
   pub bearing : (place : Place) → FitsPlace heap seat place
       → HasBody seat × (seat.stored ≡ 4 * length seat.body) × IsListed seat.command seat.spine seat.listed × (IsArray seat.command → HasPlace seat place)
-  bearing (places.Making Granting) fits = absurd (some_body fits.0.no_body)
-  bearing (places.Making Withdrawing) fits = absurd (some_body fits.rests.no_body)
-  bearing (places.Making Gathering) fits = absurd (some_body fits.no_body)
-  bearing (places.Making Returning) fits = absurd (some_body fits.0.no_body)
-  bearing (places.Making Refusing) fits = absurd (some_body fits.0.no_body)
-  bearing (places.Making Placing) fits = absurd (some_borne fits.0.2.all_unborn)
-  bearing (places.Making Listing) fits = absurd (some_borne fits.0.2.all_unborn)
-  bearing (places.Making Storing) fits = absurd (some_borne fits.1)
-  bearing (places.Making Bearing) fits = (fits.0, fits.3, fits.4, λ an_array. an_array)
-  bearing places.Idle fits = absurd (some_body fits.no_body)
-  bearing places.Local fits = absurd (some_body fits.0.no_body)
-  bearing (places.Access place) fits = absurd (some_body fits.no_body)
-  bearing (places.Polling place) fits = absurd (some_body fits.no_body)
-  bearing (places.Collecting place) fits = absurd (some_body fits.0.no_body)
-  bearing (places.Leaving place) fits = absurd (some_body fits.0.no_body)
+  bearing place fits =
+      let birth = birth_place place fits in
+      let there = subst (FitsPlace heap seat) birth fits in
+      (there.0, there.3, there.4, λ an_array. subst (HasPlace seat) (sym birth) an_array)
 
   -- a source of the fragment leads to one of the seat's
   pub borne_leads : (source x : ℕ) → WordPointsTo heap state.words f source x → IsAlive (book.owner x)

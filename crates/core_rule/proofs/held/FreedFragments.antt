@@ -6,12 +6,15 @@ use Rattle.std.proofs.lemmas.Nat.Bits.{bit_at-lt, bit_at_or}
 use Rattle.heap_model.specs.declared.heap.Heap.{Heap}
 use Rattle.core_machine.specs.collector.Collector.{turn_at}
 use Rattle.core_machine.specs.collector.FitsTurns.{IsFreeing}
+use Rattle.core_machine.specs.collector.CopyingTurns.{copying_turn}
+use Rattle.core_machine.specs.declared.collector.stage.Copying.{Copying}
+use Rattle.core_machine.specs.declared.collector.stage.Copying.TheVariants as copying
 use Rattle.core_machine.specs.declared.collector.stage.Stage.{Stage}
 use Rattle.core_machine.specs.declared.collector.stage.Stage.TheVariants as stages
 use Rattle.core_machine.specs.declared.table.address.Address.{Address}
-use Rattle.core_machine.specs.declared.table.address.Address.TheVariants.{Phase, Control}
+use Rattle.core_machine.specs.declared.table.address.Address.TheVariants.{Phase, Budget, Spot, Control, Word, Spine}
 use Rattle.core_machine.specs.machine.Machine.{State, state_after_turn}
-use Rattle.core_machine.specs.table.Layout.{at, put}
+use Rattle.core_machine.specs.table.Layout.{at, put, index_of}
 use Rattle.core_machine.specs.table.Operation.{free_mask_of, marks_cleared}
 use Rattle.core_machine.proofs.table_lemmas.Addresses.{put-at}
 use Rattle.core_rule.specs.Book.{Book}
@@ -77,10 +80,10 @@ module _ (heap : Heap) (state : State) (book : Book) (rule : Rule heap state boo
       cleared_low (at heap words (Control g)) (f % 16) (omega arith) ∙ found_set g here)
 
   -- a free clears those of what is to be freed
-  free_spares : (g dead : ℕ) → state.collector.stage ≡ stages.Freeing g dead
+  free_spares : (g dead counted : ℕ) → state.collector.stage ≡ stages.Freeing g dead counted
       → IsTaken heap (put heap words (Control g) (bit_and (at heap words (Control g)) (free_mask_of dead))) f
-  free_spares g dead freeing = control_keeps g (bit_and (at heap words (Control g)) (free_mask_of dead)) (λ here.
-      let fits : IsFreeing heap state.collector.phase state.collector.looked g dead = rw freeing at rule.machine.collector_fit.at_stage in
+  free_spares g dead counted freeing = control_keeps g (bit_and (at heap words (Control g)) (free_mask_of dead)) (λ here.
+      let fits : IsFreeing heap state.collector.phase state.collector.looked g dead counted = rw freeing at rule.machine.collector_fit.at_stage in
       let are : AreDead book.owner g dead = (subst (SweepStands heap book.owner book.colour state.collector.phase) freeing rule.marks_stand.heap_marks.sweep_stands).1 in
       omega (
         arith,
@@ -91,6 +94,17 @@ module _ (heap : Heap) (state : State) (book : Book) (rule : Rule heap state boo
         not_dead,
       ))
 
+  -- a step on the budget, the spot, a spine word or a fragment's word leaves its control word
+  beside_keeps : (a : Address) (word : ℕ) → index_of heap a ≢ index_of heap (Control (f / 16)) → IsTaken heap (put heap words a word) f
+  beside_keeps a word apart = same_keeps (put heap words a word) (at-put_apart heap words a (Control (f / 16)) word (λ e. apart (sym e)))
+
+  -- so does each of copying
+  copying_keeps_taken : (stage : Copying) → IsTaken heap (state_after_turn heap state (copying_turn heap state.collector stage)).words f
+  copying_keeps_taken (copying.Claiming array from) = beside_keeps Spot _ (λ e. omega (arith, e))
+  copying_keeps_taken (copying.Storing copy word) = beside_keeps (Spine _ _) _ (λ e. omega (arith, e, within))
+  copying_keeps_taken (copying.Swinging copy) = beside_keeps (Word _ _) _ (λ e. omega (arith, e, within))
+  copying_keeps_taken _ = load_keeps _
+
   -- so each turn leaves it taken
   turn_keeps_taken : (stage : Stage) → state.collector.stage ≡ stage → IsTaken heap (state_after_turn heap state (turn_at heap state.collector stage)).words f
   turn_keeps_taken stages.Advancing is = same_keeps _ (at-put_apart heap words Phase (Control (f / 16)) _ (λ e. omega (arith, e)))
@@ -98,7 +112,10 @@ module _ (heap : Heap) (state : State) (book : Book) (rule : Rule heap state boo
   turn_keeps_taken (stages.Shading scan target next) is = or_keeps _ _
   turn_keeps_taken (stages.Spreading s target) is = or_keeps _ _
   turn_keeps_taken (stages.Blackening scan) is = or_keeps _ _
-  turn_keeps_taken (stages.Freeing group dead) is = free_spares group dead is
+  turn_keeps_taken stages.Flipping is = beside_keeps Spot _ (λ e. omega (arith, e))
+  turn_keeps_taken (stages.Copying stage) is = copying_keeps_taken stage
+  turn_keeps_taken (stages.Freeing group dead counted) is = free_spares group dead counted is
+  turn_keeps_taken (stages.Returning group counted) is = beside_keeps Budget _ (λ e. omega (arith, e))
   turn_keeps_taken (stages.Clearing group kept) is = clear_keeps_taken group
   turn_keeps_taken _ is = load_keeps _
 

@@ -17,7 +17,7 @@ use Rattle.core_rule.proofs.marking.Paths.{white_or_marked}
 
 module _ (heap : Heap) (state : State) (book : Book) (rule : Rule heap state book) where
   -- a born fragment's bit is its owner's
-  born_owner : (f : ℕ) → f < 16 * heap.groups → IsBorn heap state.words f → born_bit (book.owner f) ≡ 1
+  pub born_owner : (f : ℕ) → f < 16 * heap.groups → IsBorn heap state.words f → born_bit (book.owner f) ≡ 1
   born_owner f within born = sym (rule.heap_stands.control_words.born f within) ∙ born
 
   -- the sources of a kept object lead to what is alive
@@ -42,7 +42,7 @@ module _ (heap : Heap) (state : State) (book : Book) (rule : Rule heap state boo
   held_alive f (by_seat number _ here holds) = holds_alive heap state book rule number here f holds
   held_alive g (by_word f _ held born edge) = word_alive f edge.source g (held_alive f held) born edge.points
 
-  held_within_heap : (f : ℕ) → IsHeld heap state f → f < 16 * heap.groups
+  pub held_within_heap : (f : ℕ) → IsHeld heap state f → f < 16 * heap.groups
   held_within_heap f held = alive_within heap state.words book.owner f rule.heap_stands.control_words (held_alive f held)
 
 pub each_held_is_taken : EachHeldIsTaken

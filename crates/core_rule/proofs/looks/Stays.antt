@@ -10,6 +10,7 @@ use Rattle.heap_model.specs.declared.heap.Heap.{Heap}
 use Rattle.heap_model.specs.account.Windows.{is_reply_to}
 use Rattle.core_machine.specs.collector.Collector.{Collector, turn_at}
 use Rattle.core_machine.specs.declared.collector.stage.Stage.{Stage}
+use Rattle.core_machine.specs.declared.collector.stage.Copying.TheVariants as copying
 use Rattle.core_machine.specs.declared.collector.stage.Stage.TheVariants as stages
 use Rattle.core_machine.specs.declared.place.Place.{Place}
 use Rattle.core_machine.specs.machine.Machine.{State, seat_at, Begins, BeginsInner, Steps, state_after, state_after_due, state_after_turn, entries, entries_shown, after_begin, after_inner_begin, MayBegin, MayBeginInner}
@@ -28,7 +29,16 @@ use Rattle.core_rule.proofs.looks.Ways.{begin_stays}
 -- a turn of the collector tells no seat a reply
 none_turned : (heap : Heap) (collector : Collector) (stage : Stage) (r : ℕ) → NoneOf (is_reply_to r) (turn_at heap collector stage).adds
 none_turned heap collector stages.Advancing r = refl
-none_turned heap collector (stages.Freeing group dead) r = refl
+none_turned heap collector (stages.Freeing group dead words) r = refl
+none_turned heap collector (stages.Returning group words) r = refl
+none_turned heap collector (stages.Copying (copying.Visiting group)) r = refl
+none_turned heap collector (stages.Copying (copying.Inspecting visit)) r = refl
+none_turned heap collector (stages.Copying (copying.Naming visit words)) r = refl
+none_turned heap collector (stages.Copying (copying.Locating array)) r = refl
+none_turned heap collector (stages.Copying (copying.Claiming array from)) r = refl
+none_turned heap collector (stages.Copying (copying.Loading copy)) r = refl
+none_turned heap collector (stages.Copying (copying.Storing copy word)) r = refl
+none_turned heap collector (stages.Copying (copying.Swinging copy)) r = refl
 none_turned heap collector (stages.Ending kept) r = refl
 none_turned heap collector _ r = refl
 

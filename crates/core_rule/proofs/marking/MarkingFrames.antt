@@ -208,8 +208,9 @@ module _ (heap : Heap) (words now : List ℕ) (owner later : ℕ → Owner) (col
 
   sweep_stays : (phase : ℕ) (stage : Stage) → OnlyClears clears stage → SweepStands heap owner colour phase stage → SweepStands heap later coloured phase stage
   sweep_stays phase (stages.Sweeping group) is stands = freed_stays group stands
-  sweep_stays phase (stages.Examining group dead place) is stands = (freed_stays group stands.0, dead_stays group dead stands.1)
-  sweep_stays phase (stages.Freeing group dead) is stands = (freed_stays group stands.0, dead_stays group dead stands.1)
+  sweep_stays phase (stages.Examining group dead place counted) is stands = (freed_stays group stands.0, dead_stays group dead stands.1)
+  sweep_stays phase (stages.Freeing group dead counted) is stands = (freed_stays group stands.0, dead_stays group dead stands.1)
+  sweep_stays phase (stages.Returning group counted) is stands = freed_stays (group + 1) stands
   sweep_stays phase (stages.Clearing group kept) is stands = cleared_stays is group stands
   sweep_stays phase (stages.Ending kept) is stands = cleared_stays is heap.groups stands
   sweep_stays phase stages.Advancing is stands = λ swept. freed_stays heap.groups (stands swept)

@@ -1,5 +1,5 @@
 -- What a seat's step has to leave of marking.
-use Rattle.std.proofs.Common.{◌≡◌, ◌≢◌, ℕ, ◌<◌, ◌%◌, false, List, inl, inr, refl, sym, ◌∙◌, arith}
+use Rattle.std.proofs.Common.{◌≡◌, ◌≢◌, ℕ, ◌<◌, ◌%◌, false, List, inl, inr, refl, sym, ◌∙◌, subst, arith}
 use Rattle.heap_model.specs.declared.heap.Heap.{Heap}
 use Rattle.heap_model.specs.account.PhaseCounts.{phase}
 use Rattle.core_machine.specs.collector.Collector.{Collector}
@@ -19,7 +19,7 @@ use Rattle.core_rule.specs.Colours.{WordPointsTo, IsBetween}
 use Rattle.core_rule.specs.Flight.{WhileAccess}
 use Rattle.core_rule.specs.Marking.{IsPart, ScanStands, IsFewWords, PassStands, MarkingStands}
 use Rattle.core_rule.specs.Roots.{IsInMarking, AtCall, OfRoots, RootsAreReached}
-use Rattle.core_rule.specs.Sweep.{SweepStands, IsSettled}
+use Rattle.core_rule.specs.Sweep.{SweepStands, HasMarked, IsSettled}
 use Rattle.core_rule.specs.Owners.{Owner, Free, Taken, Borne, Kept, Dead, born_bit}
 use Rattle.core_rule.specs.Paths.{IsReached}
 use Rattle.core_rule.specs.Rule.{Rule}
@@ -28,6 +28,7 @@ use Rattle.core_rule.proofs.colours.SpineStays.{same_spine}
 use Rattle.core_rule.proofs.cycle.CycleFrames.{while_access}
 use Rattle.core_rule.proofs.lists.Options.{if_some}
 use Rattle.core_rule.proofs.marking.Paths.{reached_on}
+use Rattle.core_rule.proofs.marking.MarkingStages.{OfMarking, marking_goes}
 use Rattle.core_rule.proofs.marking.MarkingFrames.{LeavesMarking, OnlyMarks, OnlyClears, marking_stays, reached_stays}
 
 -- what is true of each root goes on to be
@@ -83,18 +84,18 @@ settled_phase phase stage (inr (inl copies)) = record { from = omega (arith, cop
 settled_phase phase stage (inr (inr sweeps)) = record { from = omega (arith, sweeps); upto = omega (arith, sweeps) }
 
 -- so it is at another stage of the same phase, but for the phase of marking
-pub settled_moves : (phase : ℕ) (from to : Stage) → (phase % 7 ≡ 3 → from ≢ stages.Advancing) → IsSettled phase from → IsSettled phase to
+pub settled_moves : (phase : ℕ) (from to : Stage) → (phase % 7 ≡ 3 → ¬ HasMarked from) → IsSettled phase from → IsSettled phase to
 settled_moves phase from to goes (inl ended) = absurd (goes ended.0 ended.1)
 settled_moves phase from to goes (inr later) = inr later
 
 -- while it marks, marking hasn't ended
-pub unsettled : (phase : ℕ) (stage : Stage) → phase % 7 ≡ 3 → stage ≢ stages.Advancing → ¬ IsSettled phase stage
+pub unsettled : (phase : ℕ) (stage : Stage) → phase % 7 ≡ 3 → ¬ HasMarked stage → ¬ IsSettled phase stage
 unsettled phase stage third goes (inl ended) = goes ended.1
 unsettled phase stage third goes (inr (inl copies)) = omega (arith, third, copies)
 unsettled phase stage third goes (inr (inr sweeps)) = omega (arith, third, sweeps)
 
 -- what stands at a stage of marking: nothing is to be freed yet
-pub marks_at : (heap : Heap) (words : List ℕ) (owner : ℕ → Owner) (colour : ℕ → Colour) (fragments : ℕ → List ℕ) (phase : ℕ) (stage : Stage) → phase % 7 ≡ 3 → stage ≢ stages.Advancing
+pub marks_at : (heap : Heap) (words : List ℕ) (owner : ℕ → Owner) (colour : ℕ → Colour) (fragments : ℕ → List ℕ) (phase : ℕ) (stage : Stage) → phase % 7 ≡ 3 → OfMarking stage
     → ((f : ℕ) → colour f ≡ Grey → IsPart owner f) → ScanStands heap words owner colour fragments stage → IsFewWords stage → PassStands colour stage → SweepStands heap owner colour phase stage
     → ((f i k : ℕ) → owner f ≢ Dead i k) → MarkingStands heap words owner colour fragments phase stage
 marks_at heap words owner colour fragments phase stage third goes grey scan few pass sweep alive = record {
@@ -104,23 +105,23 @@ marks_at heap words owner colour fragments phase stage third goes grey scan few 
   pass = pass;
   sweep_stands = sweep;
   alive = λ going. alive;
-  after = λ settled. absurd (unsettled phase stage third goes settled);
+  after = λ settled. absurd (unsettled phase stage third (marking_goes stage goes) settled);
 }
 
 module _ (heap : Heap) (state : State) (book : Book) (rule : Rule heap state book) where
   -- in the phase of marking, until that has ended, nothing is to be freed
-  pub none_dead : state.collector.phase % 7 ≡ 3 → state.collector.stage ≢ stages.Advancing → (f i k : ℕ) → book.owner f ≢ Dead i k
+  pub none_dead : state.collector.phase % 7 ≡ 3 → ¬ HasMarked state.collector.stage → (f i k : ℕ) → book.owner f ≢ Dead i k
   none_dead third goes = rule.marks_stand.heap_marks.alive (unsettled state.collector.phase state.collector.stage third goes)
 
   -- what is true at a stage of marking is true in its phase alone, until marking has ended
   only_marks : (stage : Stage) → state.collector.stage ≡ stage → FitsStage heap state.collector.phase state.collector.looked stage → OnlyMarks (IsInMarking state.collector) stage
-  only_marks (stages.Passing group found) is fits = record { phase = fits.marks.for_marking; goes_on = λ ended. absurd (cc (is, ended)) }
-  only_marks (stages.Scanning scan) is fits = record { phase = fits.marks.for_marking; goes_on = λ ended. absurd (cc (is, ended)) }
-  only_marks (stages.Shading scan target next) is fits = record { phase = fits.marks.for_marking; goes_on = λ ended. absurd (cc (is, ended)) }
-  only_marks (stages.Locating scan count) is fits = record { phase = fits.marks.for_marking; goes_on = λ ended. absurd (cc (is, ended)) }
-  only_marks (stages.Indexing s) is fits = (record { phase = fits.marks.for_marking; goes_on = λ ended. absurd (cc (is, ended)) }, fits.index_within)
-  only_marks (stages.Spreading s target) is fits = (record { phase = fits.marks.for_marking; goes_on = λ ended. absurd (cc (is, ended)) }, fits.index_within)
-  only_marks (stages.Blackening scan) is fits = record { phase = fits.marks.for_marking; goes_on = λ ended. absurd (cc (is, ended)) }
+  only_marks (stages.Passing group found) is fits = record { phase = fits.marks.for_marking; goes_on = subst HasMarked is }
+  only_marks (stages.Scanning scan) is fits = record { phase = fits.marks.for_marking; goes_on = subst HasMarked is }
+  only_marks (stages.Shading scan target next) is fits = record { phase = fits.marks.for_marking; goes_on = subst HasMarked is }
+  only_marks (stages.Locating scan count) is fits = record { phase = fits.marks.for_marking; goes_on = subst HasMarked is }
+  only_marks (stages.Indexing s) is fits = (record { phase = fits.marks.for_marking; goes_on = subst HasMarked is }, fits.index_within)
+  only_marks (stages.Spreading s target) is fits = (record { phase = fits.marks.for_marking; goes_on = subst HasMarked is }, fits.index_within)
+  only_marks (stages.Blackening scan) is fits = record { phase = fits.marks.for_marking; goes_on = subst HasMarked is }
   only_marks _ is fits = tt
 
   -- and what is true while marks are cleared in the last phase, which all have answered

@@ -34,6 +34,7 @@ use Rattle.core_rule.specs.Rule.{Rule}
 use Rattle.core_rule.specs.Sources.{source_pointer}
 use Rattle.core_rule.proofs.colours.NewbornLeads.{link_word_at}
 use Rattle.core_rule.proofs.colours.SourceCases.{HasNoSpine, word_alone, lead_cases, lead_of_word, spine_source, spine_to, spine_cases}
+use Rattle.core_rule.proofs.marking.MarkingStages.{OfMarking}
 use Rattle.core_rule.proofs.marking.ObjectEdges.{name_small, small, found_cases, cell_no_meta, kept_leads, part_owned}
 use Rattle.core_rule.proofs.objects.ObjectWords.{name_at}
 use Rattle.core_rule.proofs.objects.SpinePlaces.{spine_placed}
@@ -68,8 +69,8 @@ scan_passes colour scan part = scan_cases (PassStands colour) scan part tt (λ b
 pub scan_sweeps : (heap : Heap) (owner : ℕ → Owner) (colour : ℕ → Colour) (phase : ℕ) (scan : Scan) (part : ℕ) → SweepStands heap owner colour phase (scan_at scan part)
 scan_sweeps heap owner colour phase scan part = scan_cases (SweepStands heap owner colour phase) scan part tt (λ behind. tt)
 
-pub scan_on_marks : (scan : Scan) (part : ℕ) → scan_at scan part ≢ stages.Advancing
-scan_on_marks scan part = scan_cases (λ stage. stage ≢ stages.Advancing) scan part (λ e. cc) (λ behind e. cc)
+pub scan_on_marks : (scan : Scan) (part : ℕ) → OfMarking (scan_at scan part)
+scan_on_marks scan part = scan_cases OfMarking scan part tt (λ behind. tt)
 
 -- behind the last word of its spine an array's first fragment is seen whole
 seen_to_end : (heap : Heap) (words : List ℕ) (colour : ℕ → Colour) (s : SpineScan) → IsSpineOf heap words s → s.words ≤ s.index → IsSeen heap words colour s.scan.fragment (4 + s.index)
@@ -95,8 +96,8 @@ spine_passes colour s = spine_places (PassStands colour) s (λ more. tt) (λ don
 pub spine_sweeps : (heap : Heap) (owner : ℕ → Owner) (colour : ℕ → Colour) (phase : ℕ) (s : SpineScan) → SweepStands heap owner colour phase (spine_scan_at s)
 spine_sweeps heap owner colour phase s = spine_places (SweepStands heap owner colour phase) s (λ more. tt) (λ done. tt)
 
-pub spine_on_marks : (s : SpineScan) → spine_scan_at s ≢ stages.Advancing
-spine_on_marks s = spine_places (λ stage. stage ≢ stages.Advancing) s (λ more e. cc) (λ done e. cc)
+pub spine_on_marks : (s : SpineScan) → OfMarking (spine_scan_at s)
+spine_on_marks s = spine_places OfMarking s (λ more. tt) (λ done. tt)
 
 -- the word of the spine that the scan is at leads to the fragment that it names
 pub spine_points : (heap : Heap) (words : List ℕ) (s : SpineScan) → IsSpineOf heap words s → s.scan.fragment < 16 * heap.groups → s.index < s.words

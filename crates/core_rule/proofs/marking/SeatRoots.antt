@@ -3,7 +3,6 @@ use Rattle.std.proofs.Common.{◌≡◌, ◌≢◌, ℕ, ◌<◌, Bool, true, fa
 use Rattle.heap_model.specs.declared.heap.Heap.{Heap}
 use Rattle.heap_model.specs.account.PhaseCounts.{phase}
 use Rattle.core_machine.specs.collector.FitsTurns.{IsMarking}
-use Rattle.core_machine.specs.declared.collector.stage.Stage.TheVariants as stages
 use Rattle.core_machine.specs.declared.place.Access.TheVariants.{LoadingMeta, Walking, Locating, Indexing, Getting, Naming, LoadingOld, ShadingOld, ShadingNew, Swapping}
 use Rattle.core_machine.specs.declared.place.Place.{Place}
 use Rattle.core_machine.specs.declared.place.Place.TheVariants as places
@@ -17,13 +16,14 @@ use Rattle.core_rule.specs.Flight.{ShadedStands, WhileAccess}
 use Rattle.core_rule.specs.Roots.{AtCall, OfRoots}
 use Rattle.core_rule.specs.Paths.{IsReached}
 use Rattle.core_rule.specs.Rule.{Rule}
+use Rattle.core_rule.specs.Sweep.{HasMarked}
 use Rattle.core_rule.proofs.entries.AtRest.{seat_fits, in_flight}
 use Rattle.core_rule.proofs.marking.Ended.{reached_marked}
 use Rattle.core_rule.proofs.marking.GoneRoots.{gone_roots}
 use Rattle.core_rule.proofs.marking.Marks.{roots_more}
 
 module _ (heap : Heap) (state : State) (book : Book) (rule : Rule heap state book) (marks : IsMarking heap.seats state.collector.phase state.collector.looked)
-    (goes_on : state.collector.stage ≢ stages.Advancing) (none : (f : ℕ) → book.colour f ≢ Grey) (number : ℕ) (here : number < heap.seats) where
+    (goes_on : ¬ HasMarked state.collector.stage) (none : (f : ℕ) → book.colour f ≢ Grey) (number : ℕ) (here : number < heap.seats) where
   abbrev seat : Seat
   seat = seat_at state number
 

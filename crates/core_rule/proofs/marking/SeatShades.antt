@@ -1,6 +1,6 @@
 -- A seat marks a kept object's fragment: its step leaves marking.
 use Rattle.std.specs.Prelude.{bit_or}
-use Rattle.std.proofs.Common.{◌≡◌, ℕ, ◌*◌, ◌/◌, ◌<◌, List, false, sym, ◌∙◌, arith, ◌%◌, ◌≢◌, ap}
+use Rattle.std.proofs.Common.{◌≡◌, ℕ, ◌*◌, ◌/◌, ◌<◌, List, false, sym, ◌∙◌, subst, arith, ◌%◌, ◌≢◌, ap}
 use Rattle.heap_model.specs.declared.heap.Heap.{Heap}
 use Rattle.core_machine.specs.declared.collector.stage.Stage.TheVariants as stages
 use Rattle.core_machine.specs.declared.table.address.Address.TheVariants.{Control}
@@ -13,6 +13,7 @@ use Rattle.core_rule.specs.Book.{Book}
 use Rattle.core_rule.specs.Colours.{WordPointsTo}
 use Rattle.core_rule.specs.Marking.{IsPart}
 use Rattle.core_rule.specs.Roots.{IsInMarking}
+use Rattle.core_rule.specs.Sweep.{HasMarked}
 use Rattle.core_rule.specs.Paths.{IsReached}
 use Rattle.core_rule.specs.Rule.{Rule}
 use Rattle.core_rule.proofs.colours.LeadsFrames.{SameSources, same_ahead, leads_control, control_leads}
@@ -59,4 +60,4 @@ module _ (heap : Heap) (state : State) (book : Book) (rule : Rule heap state boo
       passing : (group : ℕ) → state.collector.stage ≡ stages.Passing group false → IsReached heap state.words book.owner book.colour f
       passing group is =
           let fits : IsPassing heap state.collector.phase state.collector.looked group = rw is at rule.machine.collector_fit.at_stage in
-          comes record { phase = fits.marks.for_marking; goes_on = λ ended. absurd (cc (is, ended)) } (all_answered heap state book rule fits.marks.all number here present)
+          comes record { phase = fits.marks.for_marking; goes_on = subst HasMarked is } (all_answered heap state book rule fits.marks.all number here present)

@@ -15,6 +15,7 @@ use Rattle.core_rule.specs.Owners.{Owner, Borne, Kept, Dead, IsSeated, IsBoards,
 use Rattle.core_rule.specs.Paths.{IsWhite}
 use Rattle.core_rule.specs.Objects.{node_at}
 use Rattle.core_rule.specs.Rule.{Rule, HeapStands, SeatStands}
+use Rattle.core_rule.specs.Sweep.{HasMarked}
 use Rattle.core_rule.proofs.colours.Births.{births_stay}
 use Rattle.core_rule.proofs.counts.CountMoves.{used_same}
 use Rattle.core_rule.proofs.cycle.CycleFrames.{coloured_stays}
@@ -23,8 +24,7 @@ use Rattle.core_rule.proofs.gather.GatherMoves.{gathers_same}
 use Rattle.core_rule.proofs.hand.HandMoves.{holding_stays}
 use Rattle.core_rule.proofs.owners.Seated.{borne_by_seat}
 use Rattle.core_rule.proofs.marking.Marks.{none_dead}
-use Rattle.core_rule.proofs.marking.Ended.{first_marked}
-use Rattle.core_rule.proofs.spines.DyingWords.{settled_book, spines_settle, spine_settles, ahead_settles}
+use Rattle.core_rule.proofs.spines.DyingWords.{settled_book, spines_settle, spine_settles, address_settles}
 use Rattle.core_rule.proofs.marking.SeatRoots.{answered_marking, all_roots_marked, loaded_marked}
 use Rattle.core_rule.proofs.marking.Settled.{settled_owner, settled_holds, settled_same, settled_was, settled_dead, settled_borne, settled_white}
 use Rattle.core_rule.proofs.marking.SettledObjects.{objects_later}
@@ -32,9 +32,9 @@ use Rattle.core_rule.proofs.marking.SettledSeats.{holds_later, ways_later, await
 use Rattle.core_rule.proofs.marking.ObjectEdges.{kept_tells}
 
 module _ (heap : Heap) (state : State) (book : Book) (rule : Rule heap state book) (marks : IsMarking heap.seats state.collector.phase state.collector.looked)
-    (goes_on : state.collector.stage ≢ stages.Advancing) (none : (f : ℕ) → book.colour f ≢ Grey) where
+    (goes_on : ¬ HasMarked state.collector.stage) (none : (f : ℕ) → book.colour f ≢ Grey) where
   abbrev now : Book
-  now = settled_book heap book
+  now = settled_book book
 
   third : phase book.history % 7 ≡ 3
   third = let told = marks.for_marking in let same = rule.collector_stands.phase_told in omega (arith, told, same)
@@ -88,7 +88,7 @@ module _ (heap : Heap) (state : State) (book : Book) (rule : Rule heap state boo
         names = record {
           registers = λ r awake. holds_later book.made book.owner book.colour book.fragments _ _ (roots.registers r) (stands.names.registers r awake);
           way = ways_later book.made book.owner book.colour book.fragments seat roots.registers loaded (node_at (graph_of heap book.history) book.made) seat.place stands.names.way;
-          ahead = ahead_settles heap state.words book.owner book.colour book.fragments book.spine_owner (first_marked heap state book rule third none) seat seat.place stands.names.ahead;
+          address = address_settles heap state.words book.owner book.colour book.fragments book.spine_owner (node_at (graph_of heap book.history) book.made) book.spines seat seat.place stands.names.address;
         };
         told = record {
           list = record {
@@ -143,13 +143,13 @@ module _ (heap : Heap) (state : State) (book : Book) (rule : Rule heap state boo
     ];
   }
 
-  pub marking_settles : MarkingStands heap state.words now.owner book.colour book.fragments state.collector.phase stages.Advancing
+  pub marking_settles : MarkingStands heap state.words now.owner book.colour book.fragments state.collector.phase stages.Flipping
   marking_settles = record {
     grey = λ f grey. absurd (none f grey);
     scan = tt;
     few = tt;
     pass = tt;
-    sweep_stands = λ swept. absurd (omega (arith, swept, marks.for_marking));
-    alive = λ going. absurd (going (inl (marks.for_marking, refl)));
+    sweep_stands = tt;
+    alive = λ going. absurd (going (inl (marks.for_marking, tt)));
     after = λ ended. after_settles;
   }

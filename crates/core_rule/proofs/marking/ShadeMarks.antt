@@ -139,8 +139,9 @@ module _ (heap : Heap) (words now : List ℕ) (owner : ℕ → Owner) (colour : 
   -- of a sweep nothing changes
   sweep_shaded : (phase : ℕ) (stage : Stage) → OnlyClears ⊥ stage → SweepStands heap owner colour phase stage → SweepStands heap owner shaded phase stage
   sweep_shaded phase (stages.Sweeping group) unclear stands = stands
-  sweep_shaded phase (stages.Examining group dead place) unclear stands = stands
-  sweep_shaded phase (stages.Freeing group dead) unclear stands = stands
+  sweep_shaded phase (stages.Examining group dead place counted) unclear stands = stands
+  sweep_shaded phase (stages.Freeing group dead counted) unclear stands = stands
+  sweep_shaded phase (stages.Returning group counted) unclear stands = stands
   sweep_shaded phase (stages.Clearing group kept) unclear stands = absurd unclear
   sweep_shaded phase (stages.Ending kept) unclear stands = absurd unclear
   sweep_shaded phase stages.Advancing unclear stands = stands

@@ -3,7 +3,7 @@ use Rattle.std.specs.Prelude.{if◌then◌else◌}
 use Rattle.std.proofs.Common.{◌≡◌, ℕ, suc, ◌+◌, ◌%◌, ◌==◌, ◌^◌, ◌<◌, ◌≤◌, List, Option, Some, None, inl, inr, arith}
 use Rattle.std.proofs.lemmas.Bool.Decides.{eqb_tells, leb_tells}
 use Rattle.heap_model.specs.declared.heap.Heap.{Heap}
-use Rattle.core_machine.specs.collector.Sweeping.{after_swept, after_examined, after_cleared}
+use Rattle.core_machine.specs.collector.Sweeping.{after_swept, after_examined, after_freed, after_cleared}
 use Rattle.core_machine.specs.declared.collector.stage.Stage.{Stage}
 use Rattle.core_machine.specs.declared.collector.stage.Stage.TheVariants as stages
 use Rattle.core_rule.specs.Book.{Colour}
@@ -17,6 +17,13 @@ pub after_swept_either : (P : Stage → Type 0) (heap : Heap) (group : ℕ) → 
 after_swept_either P heap group on end = elim (leb_tells (suc (group + 1)) heap.groups) as (λ _. P (after_swept heap group)) [
   | inl more ↦ rw more.0 on
   | inr last ↦ rw last.0 (end (omega (arith, last.1)))
+]
+
+-- and of those that come after its fragments are freed
+pub after_freed_either : (P : Stage → Type 0) (heap : Heap) (group counted : ℕ) → P (after_swept heap group) → P (stages.Returning group counted) → P (after_freed heap group counted)
+after_freed_either P heap group counted on returns = elim (eqb_tells counted 0) as (λ _. P (after_freed heap group counted)) [
+  | inl none ↦ rw none.0 on
+  | inr some ↦ rw some.0 returns
 ]
 
 -- and after one of the clearing
@@ -45,14 +52,19 @@ module _ (heap : Heap) (words : List ℕ) (owner : ℕ → Owner) (colour : ℕ 
   swept_further group freed = after_swept_either (MarkingStands heap words owner colour fragments phase) heap group (swept_at (stages.Sweeping (group + 1)) tt tt tt freed)
       (λ last. swept_at stages.Advancing tt tt tt (λ is f i k less. freed f i k (omega (arith, less, last))))
 
+  -- and where its words are returned first
+  pub freed_further : (group counted : ℕ) → AreFreed owner (group + 1) → MarkingStands heap words owner colour fragments phase (after_freed heap group counted)
+  freed_further group counted freed = after_freed_either (MarkingStands heap words owner colour fragments phase) heap group counted (swept_further group freed)
+      (swept_at (stages.Returning group counted) tt tt tt freed)
+
   module _ (group dead : ℕ) (small : dead < 2 ^ 16) (freed : AreFreed owner group) (are : AreDead owner group dead) where
     -- behind the last dead one they are freed, where there are any
-    examined_all : MarkingStands heap words owner colour fragments phase (if dead == 0 then after_swept heap group else stages.Freeing group dead)
-    examined_all = elim (eqb_tells dead 0) as (λ _. MarkingStands heap words owner colour fragments phase (if dead == 0 then after_swept heap group else stages.Freeing group dead)) [
+    examined_all : (counted : ℕ) → MarkingStands heap words owner colour fragments phase (if dead == 0 then after_swept heap group else stages.Freeing group dead counted)
+    examined_all counted = elim (eqb_tells dead 0) as (λ _. MarkingStands heap words owner colour fragments phase (if dead == 0 then after_swept heap group else stages.Freeing group dead counted)) [
       | inl none ↦ rw none.0 (swept_further group (freed_on owner group dead small are none.1 freed))
-      | inr some ↦ rw some.0 (swept_at (stages.Freeing group dead) tt tt tt (freed, are))
+      | inr some ↦ rw some.0 (swept_at (stages.Freeing group dead counted) tt tt tt (freed, are))
     ]
 
-    pub examined_further : (place : Option ℕ) → MarkingStands heap words owner colour fragments phase (after_examined heap group dead place)
-    examined_further (Some place) = swept_at (stages.Examining group dead place) tt tt tt (freed, are)
-    examined_further None = examined_all
+    pub examined_further : (counted : ℕ) (place : Option ℕ) → MarkingStands heap words owner colour fragments phase (after_examined heap group dead counted place)
+    examined_further counted (Some place) = swept_at (stages.Examining group dead place counted) tt tt tt (freed, are)
+    examined_further counted None = examined_all counted

@@ -8,6 +8,7 @@ use Rattle.heap_model.specs.declared.command.Command.TheVariants as commands
 use Rattle.heap_model.specs.declared.heap.Heap.{Heap}
 use Rattle.heap_model.specs.account.PhaseCounts.{last_answer}
 use Rattle.heap_model.specs.PhasePlan.{black_births, sweep}
+use Rattle.core_machine.specs.declared.collector.stage.Copying.TheVariants as copying
 use Rattle.core_machine.specs.declared.collector.stage.Stage.{Stage}
 use Rattle.core_machine.specs.declared.collector.stage.Stage.TheVariants as stages
 use Rattle.core_machine.specs.declared.place.Collecting.TheVariants.{Looking, Comparing, Noting}
@@ -97,6 +98,13 @@ module _ (heap : Heap) (state : State) (book : Book) (rule : Rule heap state boo
       by Grey is = absurd (none (rule.heap_stands.cycle.coloured.born f (λ white. cc (is, white))))
       by Black is = absurd (none (rule.heap_stands.cycle.coloured.born f (λ white. cc (is, white))))
 
+  -- nor does one that changes the budget, the spot or a spine word
+  spine_bears_none : (a : Address) (word : ℕ) → index_of heap a ≢ index_of heap (Control (f / 16)) → ¬ IsBorn heap (put heap words a word) f
+  spine_bears_none a word apart = word_bears_none _ (at-put_apart heap words a (Control (f / 16)) word (λ e. apart (sym e)))
+
+  budget_bears_none : (word : ℕ) → ¬ IsBorn heap (put heap words Budget word) f
+  budget_bears_none word = spine_bears_none Budget word (λ e. omega (arith, e))
+
   module _ (number : ℕ) (here : number < heap.seats) where
     abbrev seat : Seat
     seat = seat_at state number
@@ -148,13 +156,6 @@ module _ (heap : Heap) (state : State) (book : Book) (rule : Rule heap state boo
     answer_bears_none : (word : ℕ) → ¬ IsBorn heap (put heap words (Answer number) word) f
     answer_bears_none word = word_bears_none _ (at-put_apart heap words (Answer number) (Control (f / 16)) word (λ e. omega (arith, e, here, rule.machine.limits.seats_fit)))
 
-    -- nor does one that changes the budget, the spot or a spine word
-    spine_bears_none : (a : Address) (word : ℕ) → index_of heap a ≢ index_of heap (Control (f / 16)) → ¬ IsBorn heap (put heap words a word) f
-    spine_bears_none a word apart = word_bears_none _ (at-put_apart heap words a (Control (f / 16)) word (λ e. apart (sym e)))
-
-    budget_bears_none : (word : ℕ) → ¬ IsBorn heap (put heap words Budget word) f
-    budget_bears_none word = spine_bears_none Budget word (λ e. omega (arith, e))
-
     -- nor a refusal, which changes the budget or loads the phase
     refusal_bears_none : (command : Command) (count : ℕ)
         → ¬ IsBorn heap (put heap words (address_of (refusal_step command count)) (word_after (refusal_step command count) (at heap words (address_of (refusal_step command count))))) f
@@ -198,7 +199,12 @@ module _ (heap : Heap) (state : State) (book : Book) (rule : Rule heap state boo
   turn_bears_none (stages.Ending kept) born = word_bears_none _ (at-put_apart heap words Phase (Control (f / 16)) _ (λ e. omega (arith, e))) born
   turn_bears_none (stages.Shading scan target next) born = bit_bears_none _ _ (bit_born _ 32 _ f (omega arith)) born
   turn_bears_none (stages.Spreading s target) born = bit_bears_none _ _ (bit_born _ 32 _ f (omega arith)) born
-  turn_bears_none (stages.Freeing group dead) born = masked_bears_none _ _ _ refl born
+  turn_bears_none stages.Flipping born = spine_bears_none Spot _ (λ e. omega (arith, e)) born
+  turn_bears_none (stages.Copying (copying.Claiming array from)) born = spine_bears_none Spot _ (λ e. omega (arith, e)) born
+  turn_bears_none (stages.Copying (copying.Storing copy word)) born = spine_bears_none _ _ (λ e. omega (arith, e, within)) born
+  turn_bears_none (stages.Copying (copying.Swinging copy)) born = word_bears_none _ (control_after_word heap words _ _ _ (f / 16) (omega (arith, within))) born
+  turn_bears_none (stages.Returning group counted) born = spine_bears_none Budget _ (λ e. omega (arith, e)) born
+  turn_bears_none (stages.Freeing group dead counted) born = masked_bears_none _ _ _ refl born
   turn_bears_none (stages.Clearing group kept) born = masked_bears_none _ _ _ refl born
   turn_bears_none (stages.Blackening scan) born = bit_bears_none _ _ (bit_born _ 48 _ f (omega arith)) born
   turn_bears_none _ born = load_bears_none _ born

@@ -1,18 +1,23 @@
 -- A turn adds at most one entry, by what the rule says of the history with it.
 use Rattle.std.specs.Prelude.{count_ones}
-use Rattle.std.proofs.Common.{◌%◌, ◌/◌, ◌*◌, ◌≡◌, ℕ, ◌+◌, ◌-◌, ◌<◌, ◌^◌, Bool, true, false, if◌then◌else◌, [], ◌∷◌, ◌++◌, inl, inr, filter, refl, sym, ap, ◌∙◌, subst, arith}
+use Rattle.std.proofs.Common.{◌%◌, ◌/◌, ◌*◌, ◌≡◌, ℕ, ◌+◌, ◌-◌, ◌<◌, ◌^◌, Bool, true, false, if◌then◌else◌, List, [], ◌∷◌, ◌++◌, inl, inr, filter, refl, sym, ap, ◌∙◌, subst, arith}
 use Rattle.std.specs.List.{AllByRecursion}
 use Rattle.std.proofs.lemmas.List.{append-nil}
 use Rattle.std.proofs.lemmas.List.Elements.{filter-append}
 use Rattle.heap_model.specs.declared.calls.collector_calls.Turn.{Turn as TurnAnswer}
 use Rattle.heap_model.specs.declared.calls.collector_calls.Turn.TheVariants as answers
-use Rattle.heap_model.specs.declared.entry.Entry.TheVariants.{Advance, Frees, Ends}
+use Rattle.heap_model.specs.declared.entry.Entry.{Entry}
+use Rattle.heap_model.specs.declared.entry.Entry.TheVariants.{Advance, Frees, Returns, Swings, Ends}
 use Rattle.heap_model.specs.declared.heap.Heap.{Heap}
-use Rattle.heap_model.specs.account.Account.{IsLegalBy, ButSpine}
+use Rattle.heap_model.specs.declared.id.Id.{Id}
+use Rattle.heap_model.specs.account.Account.{IsLegal}
+use Rattle.heap_model.specs.account.Effects.{effect_of}
 use Rattle.heap_model.specs.account.Noting.{is_collectors}
 use Rattle.heap_model.specs.account.PhaseCounts.{phase}
-use Rattle.heap_model.specs.calls.CollectorCalls.{CollectorState, AddsNone, ComesTo}
+use Rattle.heap_model.specs.account.Sweep.{Sweeps}
+use Rattle.heap_model.specs.calls.CollectorCalls.{CollectorState, StepsTo, AddsNone, ComesTo}
 use Rattle.heap_model.proofs.Histories.{total-more}
+use Rattle.core_machine.specs.declared.collector.stage.Copying.TheVariants.{Swinging}
 use Rattle.core_machine.specs.declared.collector.stage.Stage.{Stage}
 use Rattle.core_machine.specs.declared.collector.stage.Stage.TheVariants as stages
 use Rattle.core_machine.specs.collector.Collector.{Collector, Turn, turn_at, next_turn, has_answered_of}
@@ -23,21 +28,39 @@ use Rattle.core_rule.specs.Rule.{Rule}
 use Rattle.core_rule.proofs.runs.Plays.{keeps_there}
 use Rattle.core_rule.proofs.runs.Waits.{each_wait_is_behind}
 
--- a turn adds nothing and ends no cycle, or it begins a phase, or frees, and is a step; or it ends a cycle
-data HasShape (turn : Turn) (found : ℕ) : Type 0 where
-  adds_nothing : turn.adds ≡ [] → ((cycle kept : ℕ) → turn.answer found ≡ answers.Ended cycle kept → ⊥) → HasShape turn found
-  begins : (p : ℕ) → turn.adds ≡ Advance p ∷ [] → turn.answer found ≡ answers.Stepped → HasShape turn found
-  frees_some : (count : ℕ) → turn.adds ≡ Frees count ∷ [] → turn.answer found ≡ answers.Stepped → HasShape turn found
-  ends_cycle : (cycle kept : ℕ) → turn.adds ≡ Ends cycle kept ∷ [] → turn.answer found ≡ answers.Ended cycle kept → HasShape turn found
+-- the entry is the collector's and begins no phase, and by the rules a step that adds it stays in its phase
+record StepsInPhase (heap : Heap) (entry : Entry) : Type 0 where
+  pub no_phase : (effect_of entry).phases ≡ 0
+  pub its : is_collectors entry ≡ true
+  pub steps : (before : List Entry) (old later : ℕ) → old ≡ phase before → later ≡ old → Sweeps heap before entry → StepsTo old entry later
+
+-- so it is with what is freed or returned, and with an array that swings
+frees_in_phase : (heap : Heap) (count : ℕ) → StepsInPhase heap (Frees count)
+frees_in_phase heap count = record { no_phase = refl; its = refl; steps = λ before old later here same sweeps. (ap (λ p. p % 7) here ∙ sweeps.0, sweeps.1, same) }
+
+returns_in_phase : (heap : Heap) (count : ℕ) → StepsInPhase heap (Returns count)
+returns_in_phase heap count = record { no_phase = refl; its = refl; steps = λ before old later here same sweeps. (ap (λ p. p % 7) here ∙ sweeps.0, sweeps.1, same) }
+
+swings_in_phase : (heap : Heap) (id : Id) → StepsInPhase heap (Swings id)
+swings_in_phase heap id = record { no_phase = refl; its = refl; steps = λ before old later here same sweeps. (ap (λ p. p % 7) here ∙ sweeps.0, same) }
+
+-- a turn adds nothing and ends no cycle, or it begins a phase, or adds an entry within one, and is a step; or it ends a cycle
+data HasShape (heap : Heap) (turn : Turn) (found : ℕ) : Type 0 where
+  adds_nothing : turn.adds ≡ [] → ((cycle kept : ℕ) → turn.answer found ≡ answers.Ended cycle kept → ⊥) → HasShape heap turn found
+  begins : (p : ℕ) → turn.adds ≡ Advance p ∷ [] → turn.answer found ≡ answers.Stepped → HasShape heap turn found
+  adds_one : (entry : Entry) → StepsInPhase heap entry → turn.adds ≡ entry ∷ [] → turn.answer found ≡ answers.Stepped → HasShape heap turn found
+  ends_cycle : (cycle kept : ℕ) → turn.adds ≡ Ends cycle kept ∷ [] → turn.answer found ≡ answers.Ended cycle kept → HasShape heap turn found
 
 no_end : (b : Bool) (seat answer p cycle kept : ℕ) → (if b then answers.Stepped else answers.Waits seat answer p) ≡ answers.Ended cycle kept → ⊥
 no_end true seat answer p cycle kept same = cc same
 no_end false seat answer p cycle kept same = cc same
 
-turn_shape : (heap : Heap) (collector : Collector) (stage : Stage) (found : ℕ) → HasShape (turn_at heap collector stage) found
+turn_shape : (heap : Heap) (collector : Collector) (stage : Stage) (found : ℕ) → HasShape heap (turn_at heap collector stage) found
 turn_shape heap collector stages.Advancing found = begins (collector.phase + 1) refl refl
 turn_shape heap collector stages.Looking found = adds_nothing refl (no_end (has_answered_of collector.phase found) collector.looked found collector.phase)
-turn_shape heap collector (stages.Freeing group dead) found = frees_some (count_ones dead) refl refl
+turn_shape heap collector (stages.Freeing group dead words) found = adds_one (Frees (count_ones dead)) (frees_in_phase heap (count_ones dead)) refl refl
+turn_shape heap collector (stages.Returning group words) found = adds_one (Returns words) (returns_in_phase heap words) refl refl
+turn_shape heap collector (stages.Copying (Swinging copy)) found = adds_one (Swings copy.array.id) (swings_in_phase heap copy.array.id) refl refl
 turn_shape heap collector (stages.Ending kept) found = ends_cycle (collector.phase / 7) kept refl refl
 turn_shape heap collector _ found = adds_nothing refl (λ cycle kept same. cc same)
 
@@ -64,10 +87,10 @@ module _ (heap : Heap) (state : State) (book : Book) (old new : CollectorState) 
         (adds_none none, omega (arith, waits.0, rule.machine.limits.seats_fit), here ∙ sym told.phase_told, waits.2, λ left. omega (arith, left, waits.2, here, within, same))
     quiet_comes none goes_on (answers.Ended cycle kept) is = absurd (goes_on cycle kept is)
 
-    begins_comes : (p : ℕ) → turn.adds ≡ Advance p ∷ [] → IsLegalBy ButSpine heap false (book.history ++ turn.adds) → ComesTo old new answers.Stepped
+    begins_comes : (p : ℕ) → turn.adds ≡ Advance p ∷ [] → IsLegal heap false (book.history ++ turn.adds) → ComesTo old new answers.Stepped
     begins_comes p adds legal =
         let with_it : book.history ++ turn.adds ≡ book.history ++ Advance p ∷ [] = ap (λ es. book.history ++ es) adds in
-        let begins = (keeps_there ButSpine heap false [] book.history [] (Advance p) (subst (IsLegalBy ButSpine heap false) with_it legal).space).begins in
+        let begins = (keeps_there heap false [] book.history [] (Advance p) (subst (IsLegal heap false) with_it legal).space).begins in
         let next : p ≡ old.phase + 1 = begins.0 ∙ ap (λ n. n + 1) (sym told.phase_told) in
         let phases : phase (book.history ++ Advance p ∷ []) ≡ phase book.history + 1 = total-more (λ e. e.phases) book.history (Advance p) in
         let later : new.phase ≡ p = then_.phase_told ∙ ap phase with_it ∙ phases ∙ sym begins.0 in
@@ -75,21 +98,21 @@ module _ (heap : Heap) (state : State) (book : Book) (old new : CollectorState) 
         = then_.log_told ∙ ap (filter is_collectors) with_it ∙ filter-append is_collectors book.history (Advance p ∷ []) ∙ ap (λ es. es ++ Advance p ∷ []) (sym told.log_told) in
         inr (Advance p, (next, begins.1, later), log)
 
-    frees_comes : (count : ℕ) → turn.adds ≡ Frees count ∷ [] → IsLegalBy ButSpine heap false (book.history ++ turn.adds) → ComesTo old new answers.Stepped
-    frees_comes count adds legal =
-        let with_it : book.history ++ turn.adds ≡ book.history ++ Frees count ∷ [] = ap (λ es. book.history ++ es) adds in
-        let sweeps = (keeps_there ButSpine heap false [] book.history [] (Frees count) (subst (IsLegalBy ButSpine heap false) with_it legal).space).sweeps in
-        let phases : phase (book.history ++ Frees count ∷ []) ≡ phase book.history + 0 = total-more (λ e. e.phases) book.history (Frees count) in
-        let here : old.phase % 7 ≡ 5 = ap (λ p. p % 7) told.phase_told ∙ sweeps.0 in
-        let later : new.phase ≡ old.phase = omega (arith, then_.phase_told ∙ ap phase with_it ∙ phases, told.phase_told) in
-        let log : new.log ≡ old.log ++ Frees count ∷ []
-        = then_.log_told ∙ ap (filter is_collectors) with_it ∙ filter-append is_collectors book.history (Frees count ∷ []) ∙ ap (λ es. es ++ Frees count ∷ []) (sym told.log_told) in
-        inr (Frees count, (here, sweeps.1, later), log)
+    one_comes : (entry : Entry) → StepsInPhase heap entry → turn.adds ≡ entry ∷ [] → IsLegal heap false (book.history ++ turn.adds) → ComesTo old new answers.Stepped
+    one_comes entry kind adds legal =
+        let with_it : book.history ++ turn.adds ≡ book.history ++ entry ∷ [] = ap (λ es. book.history ++ es) adds in
+        let sweeps = (keeps_there heap false [] book.history [] entry (subst (IsLegal heap false) with_it legal).space).sweeps in
+        let phases : phase (book.history ++ entry ∷ []) ≡ phase book.history + (effect_of entry).phases = total-more (λ e. e.phases) book.history entry in
+        let later : new.phase ≡ old.phase = omega (arith, then_.phase_told ∙ ap phase with_it ∙ phases, told.phase_told, kind.no_phase) in
+        let alone : filter is_collectors (entry ∷ []) ≡ entry ∷ [] = rw kind.its refl in
+        let log : new.log ≡ old.log ++ entry ∷ []
+        = then_.log_told ∙ ap (filter is_collectors) with_it ∙ filter-append is_collectors book.history (entry ∷ []) ∙ ap (λ es. filter is_collectors book.history ++ es) alone ∙ ap (λ es. es ++ entry ∷ []) (sym told.log_told) in
+        inr (entry, kind.steps book.history old.phase new.phase told.phase_told later sweeps, log)
 
-    ends_comes : (cycle kept : ℕ) → turn.adds ≡ Ends cycle kept ∷ [] → IsLegalBy ButSpine heap false (book.history ++ turn.adds) → ComesTo old new (answers.Ended cycle kept)
+    ends_comes : (cycle kept : ℕ) → turn.adds ≡ Ends cycle kept ∷ [] → IsLegal heap false (book.history ++ turn.adds) → ComesTo old new (answers.Ended cycle kept)
     ends_comes cycle kept adds legal =
         let with_it : book.history ++ turn.adds ≡ book.history ++ Ends cycle kept ∷ [] = ap (λ es. book.history ++ es) adds in
-        let ends = (keeps_there ButSpine heap false [] book.history [] (Ends cycle kept) (subst (IsLegalBy ButSpine heap false) with_it legal).space).ends in
+        let ends = (keeps_there heap false [] book.history [] (Ends cycle kept) (subst (IsLegal heap false) with_it legal).space).ends in
         let phases : phase (book.history ++ Ends cycle kept ∷ []) ≡ phase book.history + 1 = total-more (λ e. e.phases) book.history (Ends cycle kept) in
         let last : old.phase ≡ 7 * cycle + 6 = told.phase_told ∙ ends.0.0 in
         let later : new.phase ≡ 7 * cycle + 7 = omega (arith, then_.phase_told ∙ ap phase with_it ∙ phases, ends.0.0) in
@@ -97,15 +120,15 @@ module _ (heap : Heap) (state : State) (book : Book) (old new : CollectorState) 
         = then_.log_told ∙ ap (filter is_collectors) with_it ∙ filter-append is_collectors book.history (Ends cycle kept ∷ []) ∙ ap (λ es. es ++ Ends cycle kept ∷ []) (sym told.log_told) in
         (log, last, later)
 
-    comes : IsLegalBy ButSpine heap false (book.history ++ turn.adds) → HasShape turn found
+    comes : IsLegal heap false (book.history ++ turn.adds) → HasShape heap turn found
         → AllByRecursion (λ entry. is_collectors entry ≡ true) turn.adds × ComesTo old new (turn.answer found)
     comes legal (adds_nothing none goes_on) = (rw none tt, quiet_comes none goes_on (turn.answer found) refl)
     comes legal (begins p adds stepped) = (rw adds (refl, tt), subst (ComesTo old new) (sym stepped) (begins_comes p adds legal))
-    comes legal (frees_some count adds stepped) = (rw adds (refl, tt), subst (ComesTo old new) (sym stepped) (frees_comes count adds legal))
+    comes legal (adds_one entry kind adds stepped) = (rw adds (kind.its, tt), subst (ComesTo old new) (sym stepped) (one_comes entry kind adds legal))
     comes legal (ends_cycle cycle kept adds ended) = (rw adds (refl, tt), subst (ComesTo old new) (sym ended) (ends_comes cycle kept adds legal))
 
 pub each_turn_comes_to : EachEventKeeps → EachTurnComesTo
 each_turn_comes_to each heap state book old new stands can told then_ =
     let after = each heap state book Turns stands can in
-    comes heap state book old new stands.rule told then_ (subst (IsLegalBy ButSpine heap false) after.grown after.stands.rule.heap_stands.legal)
+    comes heap state book old new stands.rule told then_ (subst (IsLegal heap false) after.grown after.stands.rule.heap_stands.legal)
     (turn_shape heap state.collector state.collector.stage (found_by heap state (next_turn heap state.collector).step))

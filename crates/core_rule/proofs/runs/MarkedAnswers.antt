@@ -7,6 +7,7 @@ use Rattle.heap_model.specs.declared.heap.Heap.{Heap}
 use Rattle.heap_model.specs.declared.reply.Reply.{Reply}
 use Rattle.heap_model.specs.declared.reply.Reply.TheVariants.{Phase}
 use Rattle.heap_model.specs.PhasePlan.{cycle_phases, marking}
+use Rattle.core_machine.specs.declared.collector.stage.Copying.TheVariants.{Swinging}
 use Rattle.core_machine.specs.declared.collector.stage.Stage.{Stage}
 use Rattle.core_machine.specs.declared.collector.stage.Stage.TheVariants as stages
 use Rattle.core_machine.specs.declared.place.Collecting.TheVariants.{Looking, Comparing, Noting}
@@ -95,7 +96,9 @@ module _ (heap : Heap) (state : State) (colour : ℕ → Colour) where
   -- a turn shows no answer
   turn_marked : (stage : Stage) → AreMarked (turn_at heap state.collector stage).adds
   turn_marked stages.Advancing = one_marked _ tt
-  turn_marked (stages.Freeing group dead) = one_marked _ tt
+  turn_marked (stages.Freeing group dead words) = one_marked _ tt
+  turn_marked (stages.Returning group words) = one_marked _ tt
+  turn_marked (stages.Copying (Swinging copy)) = one_marked _ tt
   turn_marked (stages.Ending kept) = one_marked _ tt
   turn_marked _ = none_marked
 

@@ -1,10 +1,12 @@
 -- When a heap opens nobody has a spine word, and none is granted.
-use Rattle.std.proofs.Common.{◌≡◌, ℕ, ◌<◌, List, [], refl, sym, ap, ◌∙◌, subst, arith, ◌≢◌}
+use Rattle.std.proofs.Common.{◌≡◌, ◌≢◌, ℕ, ◌*◌, ◌%◌, ◌<◌, ◌==◌, true, List, [], refl, sym, ap, ◌∙◌, subst, arith}
+use Rattle.std.specs.Prelude.{if◌then◌else◌}
 use Rattle.heap_words.specs.Spot.{spot_in, spot_word}
 use Rattle.heap_words.specs.declared.spot.Spot.{Spot as SpinePlace}
 use Rattle.heap_model.specs.declared.heap.Heap.{Heap}
 use Rattle.heap_model.specs.graph.Graph.{opening}
 use Rattle.heap_model.specs.graph.Sizes.{spine_words_of}
+use Rattle.core_machine.specs.collector.Collector.{Collector, opening_collector}
 use Rattle.core_machine.specs.declared.place.Place.{Place}
 use Rattle.core_machine.specs.declared.place.Place.TheVariants as places
 use Rattle.core_machine.specs.declared.table.address.Address.TheVariants.{Budget, Spot}
@@ -13,11 +15,14 @@ use Rattle.core_machine.specs.machine.Opening.{opening_seat, opening_word}
 use Rattle.core_machine.specs.seat.Seat.{Seat, no_spot}
 use Rattle.core_machine.specs.table.Layout.{at}
 use Rattle.core_machine.proofs.table_lemmas.Free.{sum_zero}
-use Rattle.core_rule.specs.Book.{Book, White, fragment_at}
-use Rattle.core_rule.specs.Budgets.{BudgetsStand, of_seats, granted_at, unplaced_at, refused_at, kept_weight, kept_words}
+use Rattle.core_rule.specs.Book.{Book, White}
+use Rattle.core_rule.specs.Budgets.{BudgetsStand, SweepCounts, of_seats, granted_at, placed_at, refused_at, kept_weight, dead_weight, kept_sum, dead_sum, words_of, words_in_half, nodes_in, returning, copying_words}
+use Rattle.core_rule.specs.Halves.{HalvesStand, WhileCopying, half_at}
 use Rattle.core_rule.specs.Objects.{node_at}
 use Rattle.core_rule.specs.Owners.{SpineOwner, Open, Dead}
-use Rattle.core_rule.specs.Spines.{SpinesStand, SpineInHand, next_spine}
+use Rattle.core_rule.specs.Replicas.{CopyingStands, CopyInHand}
+use Rattle.core_rule.specs.Spines.{SpinesStand, SpineInHand, HasPlace, next_spine}
+use Rattle.core_rule.proofs.hand.GoesOn.{none_either}
 use Rattle.core_rule.proofs.runs.OpeningObjects.{opening_made, opening_fragments, opening_spines}
 use Rattle.core_rule.proofs.runs.OpeningOwners.{opening_owner, opening_cases}
 use Rattle.core_rule.proofs.ways.ArrayWords.{spot_in-word}
@@ -38,8 +43,7 @@ module _ (heap : Heap) (words : List ℕ) (spot : at heap words Spot ≡ opening
   pub opening_spines_stand : (seats : ℕ) → SpinesStand heap words seats 1 (node_at (opening heap) opening_made) opening_owner opening_fragments opening_spines opening_spine_owner
   opening_spines_stand seats = record {
     spot = spot ∙ ap spot_word (sym opening_next);
-    before = λ half offset some. absurd (some refl);
-    seated = λ half offset number k is. absurd (cc);
+    parties = λ half offset party k is. absurd (cc);
     kept = λ i j below is within. absurd (no_word i j below within);
     back = λ half offset i j is. absurd (cc);
     tells = λ f i k is. absurd (opening_cases (λ o. o ≢ Dead i k) f (λ less e. cc) (λ past e. cc) is);
@@ -59,7 +63,6 @@ opening_book = record {
   fragments = opening_fragments;
   spines = opening_spines;
   spine_owner = opening_spine_owner;
-  gone = 0;
   colour = λ f. White;
   begun = λ number. 0;
 }
@@ -70,23 +73,55 @@ module _ (heap : Heap) (state : State) (seats : (number : ℕ) → number < heap
   none_of_seats weight none = sum_zero heap.seats (λ r. weight (seat_at state r) (seat_at state r).place)
       (λ r below. subst (λ (s : Seat). weight s s.place ≡ 0) (sym (seats r below)) (none r))
 
-  -- the board has none
-  none_kept : kept_words 1 (node_at (opening heap) opening_made) opening_owner opening_fragments ≡ 0
-  none_kept = sum_zero 1 (λ i. kept_weight i (spine_words_of (node_at (opening heap) opening_made i)) (opening_owner (fragment_at (opening_fragments i) 0)))
-      (λ i below. let board : 0 ≡ i = omega (arith, below) in
-      subst (λ x. kept_weight x (spine_words_of (node_at (opening heap) opening_made x)) (opening_owner (fragment_at (opening_fragments x) 0)) ≡ 0) board refl)
+  -- the board has none, and nothing is to be freed
+  none_kept : (weight : ℕ → ℕ) → weight 0 ≡ 0 → kept_sum heap weight opening_owner ≡ 0
+  none_kept weight none = sum_zero (16 * heap.groups) (λ f. kept_weight weight (opening_owner f))
+      (λ f below. opening_cases (λ o. kept_weight weight o ≡ 0) f (λ less. ap (λ n. if f == 0 then n else 0) none ∙ none_either (f == 0)) (λ past. refl))
 
-  -- so none is granted
-  pub opening_budgets : at heap state.words Spot ≡ opening_word heap Spot → at heap state.words Budget ≡ 0 → BudgetsStand heap state opening_book
-  opening_budgets spot budget =
-      let given = none_of_seats granted_at (λ number. refl) in
-      let unplaced = none_of_seats unplaced_at (λ number. refl) in
-      let refused = none_of_seats refused_at (λ number. refl) in
-      let next : (next_spine heap state.words).offset ≡ 0 = ap (λ (s : SpinePlace). s.offset) (opening_next heap state.words spot) in
-      record {
-        exact = omega (arith, next, unplaced, given, none_kept);
-        word = omega (arith, budget, given, refused, none_kept);
-        told = omega (arith, given, none_kept);
-        low = omega (arith, given, none_kept);
-        none_returned = refl;
-      }
+  none_dead : (weight : ℕ → ℕ) → dead_sum heap weight opening_owner ≡ 0
+  none_dead weight = sum_zero (16 * heap.groups) (λ f. dead_weight weight (opening_owner f)) (λ f below. opening_cases (λ o. dead_weight weight o ≡ 0) f (λ less. refl) (λ past. refl))
+
+  module _ (spot : at heap state.words Spot ≡ opening_word heap Spot) (done : state.collector ≡ opening_collector) where
+    next : next_spine heap state.words ≡ no_spot
+    next = opening_next heap state.words spot
+
+    -- so none is granted
+    pub opening_budgets : at heap state.words Budget ≡ 0 → BudgetsStand heap state opening_book
+    opening_budgets budget =
+        let given = none_of_seats granted_at (λ number. refl) in
+        let refused = none_of_seats refused_at (λ number. refl) in
+        let placed = none_of_seats (placed_at (next_spine heap state.words).half) (λ number. refl) in
+        let kept = none_kept (words_of (nodes_in heap opening_book)) refl in
+        let in_half = none_kept (words_in_half (next_spine heap state.words).half (nodes_in heap opening_book) opening_spines) (none_either ((opening_spines 0).half == (next_spine heap state.words).half)) in
+        let dead = none_dead (words_of (nodes_in heap opening_book)) in
+        let copied : copying_words state.collector.stage ≡ 0 = ap (λ (c : Collector). copying_words c.stage) done in
+        let returns : returning state.collector.stage ≡ 0 = ap (λ (c : Collector). returning c.stage) done in
+        let first : (next_spine heap state.words).offset ≡ 0 = ap (λ (s : SpinePlace). s.offset) next in
+        record {
+          level = λ stays. omega (arith, first, placed, in_half, copied, dead, returns);
+          leaving = λ leaves. omega (arith, first, placed, in_half, copied);
+          word = omega (arith, budget, given, refused, kept, dead, returns);
+          told = omega (arith, given, kept, dead, returns);
+          low = omega (arith, given, kept, dead, returns);
+          returned = omega (arith, dead, returns);
+          early = λ between. refl;
+          counts = subst (λ (c : Collector). SweepCounts (words_of (nodes_in heap opening_book)) opening_owner c.stage) (sym done) tt;
+        }
+
+    -- and no spine stands anywhere
+    pub opening_halves : HalvesStand heap state opening_book
+    opening_halves = record {
+      half = ap (λ (s : SpinePlace). s.half) next ∙ subst (λ (c : Collector). 0 ≡ half_at c.phase c.stage) (sym done) refl;
+      before = λ half offset some. absurd (some refl);
+      arrays = λ i below is an_array. absurd (no_array i below an_array);
+      hands = λ number below has. absurd (subst (λ (s : Seat). ¬ HasPlace s s.place) (sym (seats number below)) (λ none. none) has);
+      swung = λ copies. absurd (subst (λ (c : Collector). c.phase % 7 ≢ 4) (sym done) (λ e. omega (arith, e)) copies);
+      copies = subst (λ (c : Collector). WhileCopying (CopyingStands (nodes_in heap opening_book) opening_made opening_owner (λ f. White) opening_fragments opening_spines (next_spine heap state.words).half) c.stage)
+          (sym done) tt;
+      copy = subst (λ (c : Collector). CopyInHand heap state.words opening_spine_owner c.stage) (sym done) record { placed = tt; own = λ half offset j is. absurd (cc); copied = tt };
+    }
+      where
+        no_array : (i : ℕ) → i < 1 → (nodes_in heap opening_book i).array ≡ true → ⊥
+        no_array i below an_array =
+            let board : i ≡ 0 = omega (arith, below) in
+            let is : (nodes_in heap opening_book 0).array ≡ true = subst (λ x. (nodes_in heap opening_book x).array ≡ true) board an_array in absurd (cc)

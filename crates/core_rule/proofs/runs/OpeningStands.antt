@@ -35,7 +35,7 @@ use Rattle.core_rule.proofs.gather.GatherMoves.{nothing_tried}
 use Rattle.core_rule.proofs.graph.GraphRegisters.{opening_at}
 use Rattle.core_rule.proofs.runs.OpeningObjects.{opening_made, opening_fragments, opening_ids, opening_bits, opening_marks, opening_objects}
 pub use Rattle.core_rule.proofs.runs.OpeningSpines.{opening_book}
-use Rattle.core_rule.proofs.runs.OpeningSpines.{opening_in_hand, opening_spines_stand, opening_budgets}
+use Rattle.core_rule.proofs.runs.OpeningSpines.{opening_in_hand, opening_spines_stand, opening_budgets, opening_halves}
 use Rattle.core_rule.proofs.runs.OpeningOwners.{opening_owner, opening_cases, opening_seated, opening_used}
 
 abbrev Now : Register → Value → Type 0
@@ -70,7 +70,7 @@ opening_seat_stands heap words number below none_answered = record {
     together = nothing_together heap (opening_seat heap number).cursor 0 [] [] refl refl;
     spine = opening_in_hand heap words number;
   };
-  names = record { registers = opening_registers heap number below; way = tt; ahead = tt };
+  names = record { registers = opening_registers heap number below; way = tt; address = tt };
   told = record {
     list = record { awaited = []; own = refl; awaits = refl };
     counts = record {
@@ -135,11 +135,14 @@ opening_rule heap state fits machine opens = record {
     };
     roots = λ number below marks. absurd (subst (λ (c : Collector). c.phase % 7 ≢ 3) (sym opens.nothing_done) (λ e. omega (arith, e)) marks.phase);
   };
-  budgets = opening_budgets heap state (λ number below. opening_seat_at heap state number opens below) (opens.words_open Spot tt) (opens.words_open Budget tt);
+  space = record {
+    budgets = opening_budgets heap state (λ number below. opening_seat_at heap state number opens below) (opens.words_open Spot tt) opens.nothing_done (opens.words_open Budget tt);
+    halves = opening_halves heap state (λ number below. opening_seat_at heap state number opens below) (opens.words_open Spot tt) opens.nothing_done;
+  };
 }
   where
     never : ¬ IsSettled 0 stages.Looking
-    never (inl ended) = cc (ended.1)
+    never (inl ended) = ended.1
     never (inr (inl copies)) = omega (arith, copies)
     never (inr (inr sweeps)) = omega (arith, sweeps)
 

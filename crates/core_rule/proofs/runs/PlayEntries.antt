@@ -11,10 +11,10 @@ use Rattle.heap_model.specs.declared.entry.Entry.TheVariants as entries
 use Rattle.heap_model.specs.declared.heap.Heap.{Heap}
 use Rattle.heap_model.specs.declared.reply.Reply.{Reply}
 use Rattle.heap_model.specs.declared.reply.Reply.TheVariants as replies
-use Rattle.heap_model.specs.account.Account.{KeepsSpaceBy, ButSpine}
+use Rattle.heap_model.specs.account.Account.{KeepsSpace}
 use Rattle.heap_model.specs.account.Effects.{is_of}
 use Rattle.heap_model.specs.account.Refusals.{FindsSpace}
-use Rattle.heap_model.specs.account.Space.{taken_of, spent_of, words_granted}
+use Rattle.heap_model.specs.account.Space.{taken_of, spent_of, words_granted, words_returned}
 use Rattle.core_machine.specs.declared.table.address.Address.TheVariants.{Word, Phase}
 use Rattle.heap_model.specs.account.PhaseCounts.{phase}
 use Rattle.heap_model.specs.account.Phases.{IsBehind, SawBehind, ShowsPhases}
@@ -52,10 +52,10 @@ use Rattle.core_rule.proofs.looks.Words.{word_below}
 use Rattle.core_rule.proofs.runs.Plays.{behind_keeps, spine_keeps, IsPlainReply, MayPlay, taking, giving, answering, saying, plain_keeps, finds_in_play}
 use Rattle.core_rule.proofs.entries.MakingCommands.{full_keeps}
 
--- what a seat has found is so now: one that it is about to note stands behind by its word, and as many spine words are granted as its refusal tells
+-- what a seat has found is so now: one that it is about to note stands behind by its word, and as many spine words are in use as its refusal tells
 abbrev pub FoundNow : Heap → List ℕ → List Entry → Seat → Place → Type 0
 FoundNow heap words history seat (places.Collecting (Noting (notes.Waits other answer p))) = IsBehindNow heap words other answer p
-FoundNow heap words history seat (places.Making Withdrawing) = words_granted history ≡ seat.used
+FoundNow heap words history seat (places.Making Withdrawing) = words_granted history ≡ seat.used + words_returned history
 FoundNow heap words history seat _ = Unit {0}
 
 -- the entries are the seat's, and may stand in a play where they may in a run
@@ -67,7 +67,7 @@ module _ (heap : Heap) (before : List Entry) (number : ℕ) where
   nothing : AddsPlay heap before number []
   nothing = record { own = refl; may = tt }
 
-  one : (entry : Entry) → is_of number entry ≡ true → (KeepsSpaceBy ButSpine heap false before entry → KeepsSpaceBy ButSpine heap true before entry) → AddsPlay heap before number (entry ∷ [])
+  one : (entry : Entry) → is_of number entry ≡ true → (KeepsSpace heap false before entry → KeepsSpace heap true before entry) → AddsPlay heap before number (entry ∷ [])
   one entry own keeps = record { own = rw own refl; may = (keeps, tt) }
 
   took : (count : ℕ) → AddsPlay heap before number (takes_some number count)
@@ -141,14 +141,15 @@ refusal heap state book number rule here placed alone =
     (λ run. full_keeps seat.command refuses.0.makes.an_object heap true book.history number (length seat.reserve + seat.given)
     (omega (arith, own)) (omega (arith, own, fits.own.small_reserve)) less finds)
 
-spine_refusal : (heap : Heap) (state : State) (book : Book) (number : ℕ) → Rule heap state book → words_granted book.history ≡ (seat_at state number).used
+spine_refusal : (heap : Heap) (state : State) (book : Book) (number : ℕ) → Rule heap state book → words_granted book.history ≡ (seat_at state number).used + words_returned book.history
     → AddsPlay heap book.history number (spine_full_entry number (seat_at state number) ∷ [])
 spine_refusal heap state book number rule found =
     let seat : Seat = seat_at state number in
-    let few : words_granted book.history ≤ heap.spine = omega (arith, rule.budgets.told, rule.budgets.low) in
-    let shown : seat.used % 2 ^ 32 ≡ seat.used = omega (arith, few, found, rule.machine.limits.spine_fits) in
+    let budgets = rule.space.budgets in
+    let few : seat.used ≤ heap.spine = omega (arith, found, budgets.told, budgets.low) in
+    let shown : seat.used % 2 ^ 32 ≡ seat.used = omega (arith, few, rule.machine.limits.spine_fits) in
     one heap book.history number (spine_full_entry number seat) (eq-eqb number number refl)
-    (spine_keeps heap book.history number seat.command (spine_need seat) (seat.used % 2 ^ 32) (omega (arith, shown, found, rule.budgets.none_returned)))
+    (spine_keeps heap book.history number seat.command (spine_need seat) (seat.used % 2 ^ 32) (omega (arith, shown, found)))
 
 -- where a seat that is noted stands behind by its word, it does so by the history
 noted_behind : (heap : Heap) (state : State) (book : Book) (number : ℕ) → Rule heap state book → (other answer p : ℕ) → IsBehindNow heap state.words other answer p → (command : Command)

@@ -1,12 +1,12 @@
--- What a seat has found, in a run of whole calls: one that it notes stands behind by its word, and so many spine words are granted as it tells.
+-- What a seat has found, in a run of whole calls: one that it notes stands behind by its word, and so many spine words are in use as it tells.
 use Rattle.std.specs.Prelude.{Option, None, Some}
-use Rattle.std.proofs.Common.{◌≡◌, ◌≢◌, ◌++◌, ℕ, ◌<◌, inl, inr, List, length, refl, sym, ap, ◌∙◌, subst, arith}
+use Rattle.std.proofs.Common.{◌≡◌, ◌≢◌, ◌++◌, ℕ, ◌+◌, ◌<◌, inl, inr, List, length, refl, sym, ap, ◌∙◌, subst, arith}
 use Rattle.std.proofs.lemmas.Bool.Decides.{eqb_tells}
 use Rattle.std.proofs.lemmas.List.{append-nil, get_or-set_same}
 use Rattle.heap_model.specs.declared.command.Command.{Command}
 use Rattle.heap_model.specs.declared.entry.Entry.{Entry}
 use Rattle.heap_model.specs.declared.heap.Heap.{Heap}
-use Rattle.heap_model.specs.account.Space.{words_granted}
+use Rattle.heap_model.specs.account.Space.{words_granted, words_returned}
 use Rattle.core_machine.specs.declared.place.Collecting.TheVariants.{Looking, Asking, Comparing, Noting}
 use Rattle.core_machine.specs.declared.place.Making.TheVariants.{Granting, Withdrawing}
 use Rattle.core_machine.specs.declared.place.Place.{Place}
@@ -45,7 +45,7 @@ noted_alone heap state new history number alone all stay own r below =
     ]
 
 -- nor has one that stands at no note, and takes no spine words back
-elsewhere_noted : (heap : Heap) (words : List ℕ) (history : List Entry) (seat : Seat) (place : Place) → ¬ IsNote place → (place ≡ places.Making Withdrawing → words_granted history ≡ seat.used)
+elsewhere_noted : (heap : Heap) (words : List ℕ) (history : List Entry) (seat : Seat) (place : Place) → ¬ IsNote place → (place ≡ places.Making Withdrawing → words_granted history ≡ seat.used + words_returned history)
     → FoundNow heap words history seat place
 elsewhere_noted heap words history seat (places.Collecting (Noting reply)) none granted = absurd (none tt)
 elsewhere_noted heap words history seat (places.Collecting Looking) none granted = tt
@@ -65,18 +65,19 @@ module _ (heap : Heap) (state : State) (book : Book) (number : ℕ) (rule : Rule
     | inr apart ↦ ap (weight (seat_at state r)) (alone r (rw rule.machine.seated below) apart.1) ∙ idle (seat_at state r)
   ])
 
-  -- so a grant finds what is granted
-  grant_tells : seat.place ≡ places.Making Granting → at heap state.words Budget ≡ words_granted book.history
+  -- so a grant finds what is in use
+  grant_tells : seat.place ≡ places.Making Granting → words_granted book.history ≡ at heap state.words Budget + words_returned book.history
   grant_tells placed =
       let refused : of_seats heap state refused_at ≡ 0 = none_summed refused_at (λ s. refl) (ap (refused_at seat) placed) in
       let others : of_seats heap state granted_at ≡ 0 = none_summed granted_at (λ s. refl) (ap (granted_at seat) placed) in
-      omega (arith, rule.budgets.word, rule.budgets.told, refused, others)
+      omega (arith, rule.space.budgets.word, rule.space.budgets.told, refused, others)
 
   -- where a step comes to take spine words back it has found them
   abbrev TellsBy : Option Move → Type 0
   TellsBy None = Unit {0}
   TellsBy (Some move) = (seat_after move (found_by heap state move.step)).place ≡ places.Making Withdrawing
-      → words_granted (book.history ++ move.shows state.words (found_by heap state move.step)) ≡ (seat_after move (found_by heap state move.step)).used
+      → words_granted (book.history ++ move.shows state.words (found_by heap state move.step))
+      ≡ (seat_after move (found_by heap state move.step)).used + words_returned (book.history ++ move.shows state.words (found_by heap state move.step))
 
   no_grant : (place : Place) → place ≢ places.Making Granting → (move : Option Move) → ((found : ℕ) → ComesFrom place (seat_after_due seat move found).place) → TellsBy move
   no_grant place apart None comes = tt
@@ -84,7 +85,7 @@ module _ (heap : Heap) (state : State) (book : Book) (number : ℕ) (rule : Rule
 
   tells_at : (place : Place) → seat.place ≡ place → TellsBy (move_at heap number seat place)
   tells_at (places.Making Granting) placed = λ is.
-      ap words_granted (append-nil book.history) ∙ sym (grant_tells placed) ∙ sym (grant_finds heap seat (at heap state.words Budget) is)
+      rw (append-nil book.history) (grant_tells placed ∙ ap (λ n. n + words_returned book.history) (sym (grant_finds heap seat (at heap state.words Budget) is)))
   tells_at place placed = no_grant place (λ e. cc) (move_at heap number seat place) (λ found. comes_from heap number seat found place placed)
 
   -- so what a seat has found is so after its step

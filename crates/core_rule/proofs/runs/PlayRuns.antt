@@ -9,13 +9,14 @@ use Rattle.std.proofs.lemmas.List.Folds.{list_all-append}
 use Rattle.std.specs.Prelude.{count_ones}
 use Rattle.heap_model.specs.declared.command.Command.{Command}
 use Rattle.heap_model.specs.declared.entry.Entry.{Entry}
-use Rattle.heap_model.specs.declared.entry.Entry.TheVariants.{Advance, Frees, Ends}
+use Rattle.heap_model.specs.declared.entry.Entry.TheVariants.{Advance, Frees, Returns, Swings, Ends}
 use Rattle.heap_model.specs.declared.heap.Heap.{Heap}
-use Rattle.heap_model.specs.account.Account.{IsLegalBy, ButSpine}
+use Rattle.heap_model.specs.account.Account.{IsLegal}
 use Rattle.heap_model.specs.account.Effects.{is_of}
 use Rattle.heap_model.specs.graph.Graph.{opening}
 use Rattle.core_machine.specs.declared.place.Place.TheVariants as places
 use Rattle.heap_model.specs.declared.calls.collect.Inner.{Inner}
+use Rattle.core_machine.specs.declared.collector.stage.Copying.TheVariants.{Swinging}
 use Rattle.core_machine.specs.declared.collector.stage.Stage.{Stage}
 use Rattle.core_machine.specs.declared.collector.stage.Stage.TheVariants as stages
 use Rattle.core_machine.specs.collector.Collector.{Collector, turn_at}
@@ -32,13 +33,13 @@ use Rattle.core_rule.proofs.footprint.TurnCycle.{turn_cycle}
 use Rattle.core_rule.proofs.steps.Assemble.{Keeps}
 use Rattle.core_rule.proofs.runs.PlayEntries.{AddsPlay, FoundNow, adds_play}
 use Rattle.core_rule.proofs.runs.PlayNotes.{idle_noted, noted_alone, step_noted, begin_noted, inner_noted, opening_noted}
-use Rattle.core_rule.proofs.runs.Plays.{MayPlay, play_more, advancing, freeing, ending, plain_keeps}
+use Rattle.core_rule.proofs.runs.Plays.{MayPlay, play_more, advancing, freeing, returning, swinging, ending, plain_keeps}
 use Rattle.core_rule.proofs.runs.Runs.{MachineStays, OpeningStands, EachStepKeeps, EachBeginKeeps, EachInnerKeeps, EachTurnKeeps, seat_of_step}
 
 -- the history is a play's, what a seat has found is so, and since the call of a seat began all entries are its own
 pub record PlaysOn (heap : Heap) (state : State) (book : Book) : Type 0 where
   pub stands : Stands heap state book
-  pub legal : IsLegalBy ButSpine heap true book.history
+  pub legal : IsLegal heap true book.history
   pub noted : (number : ℕ) → number < heap.seats → FoundNow heap state.words book.history (seat_at state number) (seat_at state number).place
   pub own : (number : ℕ) → number < heap.seats → (seat_at state number).place ≢ places.Idle → list_all (is_of number) (drop (book.begun number) book.history) ≡ true
 
@@ -70,15 +71,15 @@ own_alone heap state new now number alone all stay own r below active =
     ]
 
 -- so it is after the rule is kept, where what is added may stand in a play
-plays_next : {heap : Heap} {before new : State} {book : Book} {begun : ℕ → ℕ} {added : List Entry} (keeps : Keeps heap before new book begun added) → Stands heap new keeps.now → MayPlay heap book.history added → IsLegalBy ButSpine heap true book.history
+plays_next : {heap : Heap} {before new : State} {book : Book} {begun : ℕ → ℕ} {added : List Entry} (keeps : Keeps heap before new book begun added) → Stands heap new keeps.now → MayPlay heap book.history added → IsLegal heap true book.history
     → ((r : ℕ) → r < heap.seats → FoundNow heap new.words (book.history ++ added) (seat_at new r) (seat_at new r).place)
     → ((r : ℕ) → r < heap.seats → (seat_at new r).place ≢ places.Idle → list_all (is_of r) (drop (keeps.now.begun r) keeps.now.history) ≡ true) → PlaysNext heap new book.history added
 plays_next {heap} {before} {new} {book} {begun} {added} keeps stands may legal noted own =
-    let run : IsLegalBy ButSpine heap false (book.history ++ added) = subst (IsLegalBy ButSpine heap false) keeps.grown keeps.rule.heap_stands.legal in
+    let run : IsLegal heap false (book.history ++ added) = subst (IsLegal heap false) keeps.grown keeps.rule.heap_stands.legal in
     record {
       now = keeps.now;
       grown = keeps.grown;
-      plays = record { stands = stands; legal = subst (IsLegalBy ButSpine heap true) (sym keeps.grown) (play_more heap book.history added may legal run); noted = λ r below. subst (λ es. FoundNow heap new.words es (seat_at new r) (seat_at new r).place) (sym keeps.grown) (noted r below); own = own };
+      plays = record { stands = stands; legal = subst (IsLegal heap true) (sym keeps.grown) (play_more heap book.history added may legal run); noted = λ r below. subst (λ es. FoundNow heap new.words es (seat_at new r) (seat_at new r).place) (sym keeps.grown) (noted r below); own = own };
     }
 
 step_plays : MachineStays → EachStepKeeps → (heap : Heap) (state : State) (book : Book) (number : ℕ) → PlaysOn heap state book → IsAlone state number → Can heap state (Steps number)
@@ -130,7 +131,9 @@ inner_plays stays inners heap state book number inner plays alone now can =
 -- what a turn of the collector adds may stand in a play
 turn_may : (heap : Heap) (before : List Entry) (collector : Collector) (stage : Stage) → MayPlay heap before (turn_at heap collector stage).adds
 turn_may heap before collector stages.Advancing = (plain_keeps heap before (Advance (collector.phase + 1)) (advancing (collector.phase + 1)), tt)
-turn_may heap before collector (stages.Freeing group dead) = (plain_keeps heap before (Frees (count_ones dead)) (freeing (count_ones dead)), tt)
+turn_may heap before collector (stages.Freeing group dead words) = (plain_keeps heap before (Frees (count_ones dead)) (freeing (count_ones dead)), tt)
+turn_may heap before collector (stages.Returning group words) = (plain_keeps heap before (Returns words) (returning words), tt)
+turn_may heap before collector (stages.Copying (Swinging copy)) = (plain_keeps heap before (Swings copy.array.id) (swinging copy.array.id), tt)
 turn_may heap before collector (stages.Ending kept) = (plain_keeps heap before (Ends (collector.phase / 7) kept) (ending (collector.phase / 7) kept), tt)
 turn_may heap before collector _ = tt
 
@@ -149,23 +152,23 @@ module _ (stays : MachineStays) (steps : EachStepKeeps) (begin : EachBeginKeeps)
   event_plays heap state book Turns plays alone can = turn_plays stays turn heap state book plays alone can
 
   run_plays : (heap : Heap) (state : State) (book : Book) (events : List Event) → PlaysOn heap state book → Run heap state events → OneCallAtATime heap state events
-      → IsLegalBy ButSpine heap true (book.history ++ history heap state events)
-  run_plays heap state book [] plays run alone = subst (IsLegalBy ButSpine heap true) (sym (append-nil book.history)) plays.legal
+      → IsLegal heap true (book.history ++ history heap state events)
+  run_plays heap state book [] plays run alone = subst (IsLegal heap true) (sym (append-nil book.history)) plays.legal
   run_plays heap state book (event ∷ events) plays run alone =
       let next = event_plays heap state book event plays alone.0 run.0 in
       let rest = run_plays heap (state_after heap state event) next.now events next.plays run.1 alone.1 in
-      subst (IsLegalBy ButSpine heap true) (ap (λ es. es ++ history heap (state_after heap state event) events) next.grown
+      subst (IsLegal heap true) (ap (λ es. es ++ history heap (state_after heap state event) events) next.grown
       ∙ append_assoc book.history (entries heap state event) (history heap (state_after heap state event) events)) rest
 
   -- so does the whole run, from the opening on
   pub whole_calls_play : OpeningStands → WholeCallsPlay
   whole_calls_play opens heap state events limits opening run alone =
       let first = opens heap state limits opening in
-      subst (λ before. IsLegalBy ButSpine heap true (before ++ history heap state events)) first.grown
+      subst (λ before. IsLegal heap true (before ++ history heap state events)) first.grown
       (run_plays heap state first.book events
       record {
         stands = first.stands;
-        legal = subst (IsLegalBy ButSpine heap true) (sym first.grown) record { objects = tt; space = tt };
+        legal = subst (IsLegal heap true) (sym first.grown) record { objects = tt; space = tt };
         noted = λ number below. opening_noted heap state first.book.history opening number below;
         own = λ number below active. rw first.grown (own_of_none number (first.book.begun number));
       } run alone)

@@ -9,9 +9,10 @@ use Rattle.heap_model.specs.declared.account.effect.Effect.{Effect}
 use Rattle.heap_model.specs.declared.entry.Entry.{Entry}
 use Rattle.heap_model.specs.declared.entry.Entry.TheVariants as entries
 use Rattle.heap_model.specs.declared.heap.Heap.{Heap}
+use Rattle.heap_model.specs.declared.id.Id.{Id}
 use Rattle.heap_model.specs.declared.reply.Reply.{Reply}
 use Rattle.heap_model.specs.declared.reply.Reply.TheVariants as replies
-use Rattle.heap_model.specs.account.Account.{KeepsSpaceBy, KeepsSpaceAfterBy, IsLegalBy, Judged, ButSpine}
+use Rattle.heap_model.specs.account.Account.{KeepsSpace, KeepsSpaceAfter, IsLegal}
 use Rattle.heap_model.specs.account.Effects.{effect_of, is_of}
 use Rattle.heap_model.specs.account.Phases.{IsBehind, ShowsPhases}
 use Rattle.heap_model.specs.account.Refusals.{FindsSpace, FindsSpine, ShowsSpace, ShowsSpine}
@@ -21,7 +22,7 @@ use Rattle.core_rule.specs.Counts.{AreUsed}
 use Rattle.core_rule.specs.Gathers.{GathersRight}
 use Rattle.core_rule.specs.Owners.{Owner}
 use Rattle.core_rule.proofs.counts.FreeSums.{taken_and_free, passed_all}
-use Rattle.core_rule.proofs.entries.Legality.{keeps_takes, keeps_gives, keeps_answers, keeps_begins, keeps_ends, keeps_frees}
+use Rattle.core_rule.proofs.entries.Legality.{keeps_takes, keeps_gives, keeps_answers, keeps_begins, keeps_ends, keeps_frees, keeps_returns, keeps_swings}
 
 -- a reply that refuses nothing for want of space, and waits for nobody
 abbrev pub IsPlainReply : Reply → Type 0
@@ -37,6 +38,8 @@ pub data IsPlain : Entry → Type 0 where
   answering : (number p : ℕ) → IsPlain (entries.Answers number p)
   advancing : (p : ℕ) → IsPlain (entries.Advance p)
   freeing : (count : ℕ) → IsPlain (entries.Frees count)
+  returning : (count : ℕ) → IsPlain (entries.Returns count)
+  swinging : (id : Id) → IsPlain (entries.Swings id)
   ending : (cycle kept : ℕ) → IsPlain (entries.Ends cycle kept)
   saying : (number : ℕ) (command : Command) (reply : Reply) → IsPlainReply reply → IsPlain (entries.Said number command reply)
 
@@ -54,12 +57,14 @@ shows_same heap before number commands.Collect (replies.Waits other answer p) pl
 shows_same heap before number _ _ plain shows = shows
 
 -- the rules for it are those of a run
-pub plain_keeps : (heap : Heap) (before : List Entry) (entry : Entry) → IsPlain entry → KeepsSpaceBy ButSpine heap false before entry → KeepsSpaceBy ButSpine heap true before entry
+pub plain_keeps : (heap : Heap) (before : List Entry) (entry : Entry) → IsPlain entry → KeepsSpace heap false before entry → KeepsSpace heap true before entry
 plain_keeps heap before _ (taking number count) keeps = keeps_takes heap true before number count keeps.takes.0 keeps.takes.1
 plain_keeps heap before _ (giving number count) keeps = keeps_gives heap true before number count keeps.takes.0 keeps.takes.1
 plain_keeps heap before _ (answering number p) keeps = keeps_answers heap true before number p keeps.answers
 plain_keeps heap before _ (advancing p) keeps = keeps_begins heap true before p keeps.begins
 plain_keeps heap before _ (freeing count) keeps = keeps_frees heap true before count keeps.sweeps
+plain_keeps heap before _ (returning count) keeps = keeps_returns heap true before count keeps.sweeps
+plain_keeps heap before _ (swinging id) keeps = keeps_swings heap true before id keeps.sweeps
 plain_keeps heap before _ (ending cycle kept) keeps = keeps_ends heap true before cycle kept keeps.ends
 plain_keeps heap before _ (saying number command reply plain) keeps = record {
   takes = tt;
@@ -81,7 +86,7 @@ shows_behind heap before number _ other answer p behind shows = shows
 
 pub behind_keeps : (heap : Heap) (before : List Entry) (number : ℕ) (command : Command) (other answer p : ℕ)
     → (ShowsPhases heap false before number command (replies.Waits other answer p) → command ≡ commands.Collect → IsBehind other answer p before)
-    → KeepsSpaceBy ButSpine heap false before (entries.Said number command (replies.Waits other answer p)) → KeepsSpaceBy ButSpine heap true before (entries.Said number command (replies.Waits other answer p))
+    → KeepsSpace heap false before (entries.Said number command (replies.Waits other answer p)) → KeepsSpace heap true before (entries.Said number command (replies.Waits other answer p))
 behind_keeps heap before number command other answer p behind keeps = record {
   takes = tt;
   makes = keeps.makes;
@@ -101,7 +106,7 @@ shows_full heap before number commands.Collect need shown shows = shows
 shows_full heap before number _ need shown shows = shows
 
 pub spine_keeps : (heap : Heap) (before : List Entry) (number : ℕ) (command : Command) (need shown : ℕ) → FindsSpine heap true before number shown
-    → KeepsSpaceBy ButSpine heap false before (entries.Said number command (replies.SpineFull need shown)) → KeepsSpaceBy ButSpine heap true before (entries.Said number command (replies.SpineFull need shown))
+    → KeepsSpace heap false before (entries.Said number command (replies.SpineFull need shown)) → KeepsSpace heap true before (entries.Said number command (replies.SpineFull need shown))
 spine_keeps heap before number command need shown finds keeps = record {
   takes = tt;
   makes = keeps.makes;
@@ -115,29 +120,29 @@ spine_keeps heap before number command need shown finds keeps = record {
 }
 
 -- each entry of a legal history keeps the rules after those before it
-pub keeps_there : (judged : Judged) (heap : Heap) (play : Bool) (before history rest : List Entry) (entry : Entry) → KeepsSpaceAfterBy judged heap play before (history ++ entry ∷ rest)
-    → KeepsSpaceBy judged heap play (before ++ history) entry
-keeps_there judged heap play before [] rest entry kept = subst (λ es. KeepsSpaceBy judged heap play es entry) (sym (append-nil before)) kept.0
-keeps_there judged heap play before (first ∷ history) rest entry kept =
-    subst (λ es. KeepsSpaceBy judged heap play es entry) (append_assoc before (first ∷ []) history) (keeps_there judged heap play (before ++ first ∷ []) history rest entry kept.1)
+pub keeps_there : (heap : Heap) (play : Bool) (before history rest : List Entry) (entry : Entry) → KeepsSpaceAfter heap play before (history ++ entry ∷ rest)
+    → KeepsSpace heap play (before ++ history) entry
+keeps_there heap play before [] rest entry kept = subst (λ es. KeepsSpace heap play es entry) (sym (append-nil before)) kept.0
+keeps_there heap play before (first ∷ history) rest entry kept =
+    subst (λ es. KeepsSpace heap play es entry) (append_assoc before (first ∷ []) history) (keeps_there heap play (before ++ first ∷ []) history rest entry kept.1)
 
 -- each entry may stand in a play where it may in a run
 abbrev pub MayPlay : Heap → List Entry → List Entry → Type 0
 MayPlay heap before [] = Unit {0}
-MayPlay heap before (entry ∷ rest) = (KeepsSpaceBy ButSpine heap false before entry → KeepsSpaceBy ButSpine heap true before entry) × MayPlay heap (before ++ entry ∷ []) rest
+MayPlay heap before (entry ∷ rest) = (KeepsSpace heap false before entry → KeepsSpace heap true before entry) × MayPlay heap (before ++ entry ∷ []) rest
 
 -- a play's history with such entries
-pub play_more : (heap : Heap) (before added : List Entry) → MayPlay heap before added → IsLegalBy ButSpine heap true before → IsLegalBy ButSpine heap false (before ++ added) → IsLegalBy ButSpine heap true (before ++ added)
+pub play_more : (heap : Heap) (before added : List Entry) → MayPlay heap before added → IsLegal heap true before → IsLegal heap false (before ++ added) → IsLegal heap true (before ++ added)
 play_more heap before added may play run = record { objects = run.objects; space = space_more before added may play.space run.space }
   where
-    space_more : (before added : List Entry) → MayPlay heap before added → KeepsSpaceAfterBy ButSpine heap true [] before → KeepsSpaceAfterBy ButSpine heap false [] (before ++ added)
-        → KeepsSpaceAfterBy ButSpine heap true [] (before ++ added)
-    space_more before [] may play run = subst (KeepsSpaceAfterBy ButSpine heap true []) (sym (append-nil before)) play
+    space_more : (before added : List Entry) → MayPlay heap before added → KeepsSpaceAfter heap true [] before → KeepsSpaceAfter heap false [] (before ++ added)
+        → KeepsSpaceAfter heap true [] (before ++ added)
+    space_more before [] may play run = subst (KeepsSpaceAfter heap true []) (sym (append-nil before)) play
     space_more before (entry ∷ rest) may play run =
-        subst (KeepsSpaceAfterBy ButSpine heap true []) (append_assoc before (entry ∷ []) rest)
+        subst (KeepsSpaceAfter heap true []) (append_assoc before (entry ∷ []) rest)
         (space_more (before ++ entry ∷ []) rest may.1
-        (KeepsSpaceAfter-more heap {play = true} [] before entry play (may.0 (keeps_there ButSpine heap false [] before rest entry run)))
-        (subst (KeepsSpaceAfterBy ButSpine heap false []) (sym (append_assoc before (entry ∷ []) rest)) run))
+        (KeepsSpaceAfter-more heap {play = true} [] before entry play (may.0 (keeps_there heap false [] before rest entry run)))
+        (subst (KeepsSpaceAfter heap false []) (sym (append_assoc before (entry ∷ []) rest)) run))
 
 -- where all entries are the seat's, the others did nothing, and nothing was freed
 others_nothing : (number : ℕ) (part : Effect → ℕ) (since : List Entry) → list_all (is_of number) since ≡ true → total_but number part since ≡ 0

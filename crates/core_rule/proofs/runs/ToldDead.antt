@@ -51,20 +51,20 @@ module _ (heap : Heap) (state : State) (book : Book) (rule : Rule heap state boo
       }
 
   -- and the one that is examined is to be freed
-  module _ (group dead place : ℕ) (examining : state.collector.stage ≡ stages.Examining group dead place) where
-    fits : IsExamining heap state.collector.phase state.collector.looked group dead place
+  module _ (group dead place words : ℕ) (examining : state.collector.stage ≡ stages.Examining group dead place words) where
+    fits : IsExamining heap state.collector.phase state.collector.looked group dead place words
     fits = rw examining at rule.machine.collector_fit.at_stage
 
     are : AreDead book.owner group dead
     are = (subst (SweepStands heap book.owner book.colour state.collector.phase) examining rule.marks_stand.heap_marks.sweep_stands).1
 
-    pub examined_told : IsDeadTold heap book (16 * group + place) (found_by heap state (turn_at heap state.collector (stages.Examining group dead place)).step)
+    pub examined_told : IsDeadTold heap book (16 * group + place) (found_by heap state (turn_at heap state.collector (stages.Examining group dead place words)).step)
     examined_told =
         let one : dead_bit (book.owner (16 * group + place)) ≡ 1 = sym (are place fits.place_within) ∙ fits.is_dead in
         let is = is_dead (book.owner (16 * group + place)) one in
         dead_told (16 * group + place) is.0 is.1 is.2
 
 pub each_dead_is_told : EachDeadIsTold
-each_dead_is_told heap state book group dead place rule examining =
+each_dead_is_told heap state book group dead place words rule examining =
     subst (λ stage. IsDeadTold heap book (16 * group + place) (found_by heap state (turn_at heap state.collector stage).step)) (sym examining)
-    (examined_told heap state book rule group dead place examining)
+    (examined_told heap state book rule group dead place words examining)

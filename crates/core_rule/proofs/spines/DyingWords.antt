@@ -1,24 +1,18 @@
--- The spine words of arrays that are to be freed are nobody's once marking has ended, and count as gone.
-use Rattle.std.proofs.Common.{◌≡◌, ◌≢◌, ℕ, ◌+◌, ◌-◌, ◌/◌, ◌≤◌, List, length, refl, sym, ap, ◌∙◌, arith, ◌<◌, inl, inr}
+-- The spine words of arrays that are to be freed are nobody's once marking has ended.
+use Rattle.std.proofs.Common.{◌≡◌, ◌≢◌, ℕ, ◌<◌, ◌⊎◌, List, refl, sym, ap, ◌∙◌, inl, inr}
 use Rattle.heap_words.specs.declared.spot.Spot.{Spot}
 use Rattle.heap_model.specs.declared.heap.Heap.{Heap}
-use Rattle.heap_model.specs.account.Cycles.{graph_of}
 use Rattle.heap_model.specs.graph.Graph.{Node}
 use Rattle.heap_model.specs.graph.Sizes.{spine_words_of}
-use Rattle.core_machine.specs.collector.Collector.{Collector}
 use Rattle.core_machine.specs.declared.place.Access.TheVariants.{Indexing}
 use Rattle.core_machine.specs.declared.place.Place.{Place}
 use Rattle.core_machine.specs.declared.place.Place.TheVariants as places
-use Rattle.core_machine.specs.machine.Machine.{State}
-use Rattle.core_machine.specs.seat.Commands.{field_of}
 use Rattle.core_machine.specs.seat.Seat.{Seat}
 use Rattle.core_rule.specs.Book.{Book, Colour, White, Grey, Black, fragment_at}
-use Rattle.core_rule.specs.Budgets.{BudgetsStand, kept_weight, kept_words}
-use Rattle.core_rule.specs.Objects.{node_at}
 use Rattle.core_rule.specs.Owners.{Owner, Kept, SpineOwner, Placed, Spined, Gone}
-use Rattle.core_rule.specs.Spines.{SpinesStand, SpineInHand, WordStandsAhead}
-use Rattle.core_rule.proofs.lists.SumLemmas.{sum_le}
-use Rattle.core_rule.proofs.marking.Settled.{settled_owner, settled_owners, settled_was, settled_stays, settled_dies}
+use Rattle.core_rule.specs.Replicas.{IsLeftReplica, AddressStands}
+use Rattle.core_rule.specs.Spines.{SpinesStand, SpineInHand}
+use Rattle.core_rule.proofs.marking.Settled.{settled_owners, settled_was, settled_stays, settled_dies}
 use Rattle.core_rule.specs.Sweep.{TellsWords}
 use Rattle.core_machine.specs.declared.table.address.Address.TheVariants.{Word}
 use Rattle.core_machine.specs.table.Layout.{at}
@@ -38,17 +32,15 @@ abbrev pub head_colour : (ℕ → Colour) → (ℕ → List ℕ) → ℕ → Col
 head_colour colour fragments i = colour (fragment_at (fragments i) 0)
 
 -- the book once marking has ended: what is white of kept objects is to be freed, and the spine words of those are gone
-abbrev pub settled_book : Heap → Book → Book
-settled_book heap book = record book {
+abbrev pub settled_book : Book → Book
+settled_book book = record book {
   owner = settled_owners book.owner book.colour;
   spine_owner = λ half offset. settled_word (head_colour book.colour book.fragments) (book.spine_owner half offset);
-  gone = book.gone + (kept_words (length book.made) (node_at (graph_of heap book.history) book.made) book.owner book.fragments
-      - kept_words (length book.made) (node_at (graph_of heap book.history) book.made) (settled_owners book.owner book.colour) book.fragments);
 }
 
 module _ (heads : ℕ → Colour) where
   -- what a seat has it had
-  placed_was : (o : SpineOwner) (number k : ℕ) → settled_word heads o ≡ Placed number k → o ≡ Placed number k
+  pub placed_was : (o : SpineOwner) (number k : ℕ) → settled_word heads o ≡ Placed number k → o ≡ Placed number k
   placed_was (Spined i j) number k is = absurd (by (heads i) is)
     where
       by : (c : Colour) → settled_array c i j ≢ Placed number k
@@ -99,8 +91,7 @@ module _ (heap : Heap) (words : List ℕ) (owner : ℕ → Owner) (colour : ℕ 
       → SpinesStand heap words seats made nodes later fragments spines words_later
   spines_settle seats made nodes spines kept_tell old = record {
     spot = old.spot;
-    before = λ half offset some. old.before half offset (λ is. some (ap (settled_word heads) is));
-    seated = λ half offset number k is. old.seated half offset number k (placed_was heads (spine_owner half offset) number k is);
+    parties = λ half offset party k is. old.parties half offset party k (placed_was heads (spine_owner half offset) party k is);
     kept = λ i j below is within.
         let was = settled_was (owner (fragment_at (fragments i) 0)) (colour (fragment_at (fragments i) 0)) i 0 is in
         spined_stays heads _ i j (old.kept i j below was.0 within) was.1;
@@ -122,34 +113,13 @@ module _ (heap : Heap) (words : List ℕ) (owner : ℕ → Owner) (colour : ℕ 
     stored = old.stored;
   }
 
-  -- and the one that a call is about to load
-  pub ahead_settles : ((f i k : ℕ) → owner f ≡ Kept i k → colour f ≢ White → heads i ≢ White) → (seat : Seat) (place : Place)
-      → WordStandsAhead owner spine_owner seat place → WordStandsAhead later words_later seat place
-  ahead_settles dark seat (places.Access Indexing) ahead = λ i is.
-      let was = settled_was (owner seat.reached) (colour seat.reached) i 0 is in
-      spined_stays heads _ i (field_of seat.command / 4) (ahead i was.0) (dark seat.reached i 0 was.0 was.1)
-  ahead_settles dark seat _ ahead = tt
-
-  -- no more words are kept then
-  weight_less : (i n : ℕ) (o : Owner) (c : Colour) → kept_weight i n (settled_owner o c) ≤ kept_weight i n o
-  weight_less i n (Kept j k) White = omega arith
-  weight_less i n (Kept j k) Grey = omega arith
-  weight_less i n (Kept j k) Black = omega arith
-  weight_less i n _ c = omega arith
-
-  kept_less : (made : ℕ) (nodes : ℕ → Node) → kept_words made nodes later fragments ≤ kept_words made nodes owner fragments
-  kept_less made nodes = sum_le made (λ i. kept_weight i (spine_words_of (nodes i)) (later (fragment_at (fragments i) 0))) (λ i. kept_weight i (spine_words_of (nodes i)) (owner (fragment_at (fragments i) 0)))
-      (λ i below. weight_less i (spine_words_of (nodes i)) (owner (fragment_at (fragments i) 0)) (colour (fragment_at (fragments i) 0)))
-
--- as many spine words are granted
-pub budgets_settle : (heap : Heap) (state : State) (book : Book) (collector : Collector) → BudgetsStand heap state book
-    → BudgetsStand heap (record state { words = state.words; collector = collector }) (settled_book heap book)
-budgets_settle heap state book collector old =
-    let less = kept_less heap state.words book.owner book.colour book.fragments book.spine_owner (length book.made) (node_at (graph_of heap book.history) book.made) in
-    record {
-      exact = omega (arith, old.exact, less);
-      word = omega (arith, old.word, less);
-      told = omega (arith, old.told, less);
-      low = omega (arith, old.low, less);
-      none_returned = old.none_returned;
-    }
+  -- and the place of a spine that a call has loaded
+  pub address_settles : (nodes : ℕ → Node) (spines : ℕ → Spot) (seat : Seat) (place : Place)
+      → AddressStands heap words nodes owner fragments spines spine_owner seat place → AddressStands heap words nodes later fragments spines words_later seat place
+  address_settles nodes spines seat (places.Access Indexing) stands = λ i is.
+      elim (stands i (settled_was (owner seat.reached) (colour seat.reached) i 0 is).0)
+      as (λ _. (seat.address ≡ spines i) ⊎ IsLeftReplica heap words (nodes i) (fragments i) words_later seat.answered seat.address) [
+        | inl own ↦ inl own
+        | inr replica ↦ inr record { late = replica.late; left = λ k less. ap (settled_word heads) (replica.left k less); listed = replica.listed }
+      ]
+  address_settles nodes spines seat _ stands = tt

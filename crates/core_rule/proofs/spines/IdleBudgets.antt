@@ -17,7 +17,7 @@ none_idle heap state number seated idle none =
 
 pub words_are_used : WordsAreUsed
 words_are_used heap state book rule idle =
-    let budgets = rule.budgets in
+    let budgets = rule.space.budgets in
     let granted = none_idle heap state granted_at rule.machine.seated idle (λ seat. refl) in
     let refused = none_idle heap state refused_at rule.machine.seated idle (λ seat. refl) in
-    (omega (arith, budgets.word, budgets.told, budgets.none_returned, granted, refused), omega (arith, budgets.word, budgets.low, refused))
+    (omega (arith, budgets.word, budgets.told, granted, refused), omega (arith, budgets.word, budgets.low, refused))

@@ -1,4 +1,5 @@
 -- A spine word that is stored is no kept array's, and none of an array that another seat bears: the sources of what is kept or borne are the same.
+use Rattle.std.specs.Prelude.{IfSome}
 use Rattle.std.proofs.lemmas.Bool.{cases_eq}
 use Rattle.std.proofs.Common.{◌≡◌, ◌≢◌, ◌⊎◌, ℕ, zero, suc, ◌+◌, ◌*◌, ◌%◌, ◌^◌, ◌<◌, ◌≤◌, false, eqb, inl, inr, List, length, get_or, refl, sym, ap, ◌∙◌, subst, arith}
 use Rattle.heap_words.specs.declared.name.Name.{Name}
@@ -11,6 +12,10 @@ use Rattle.heap_model.specs.Command.{IsCommand}
 use Rattle.heap_model.specs.Needs.{need_of, spine_need_of}
 use Rattle.heap_model.specs.account.Cycles.{graph_of}
 use Rattle.heap_model.specs.account.PhaseCounts.{phase}
+use Rattle.core_machine.specs.collector.CopyingTurns.{sentinel_at}
+use Rattle.core_machine.specs.collector.FitsTurns.{FitsStage}
+use Rattle.core_machine.specs.declared.collector.stage.Copying.TheVariants as copying
+use Rattle.core_machine.specs.declared.collector.stage.SpineCopy.{SpineCopy}
 use Rattle.core_machine.specs.declared.collector.stage.Stage.{Stage}
 use Rattle.core_machine.specs.declared.collector.stage.Stage.TheVariants as stages
 use Rattle.core_machine.specs.declared.place.Making.TheVariants.{Listing}
@@ -26,10 +31,13 @@ use Rattle.core_machine.specs.table.Layout.{at, put, spine_place}
 use Rattle.core_rule.specs.Book.{Book, White, Black}
 use Rattle.core_rule.specs.Colours.{WordPointsTo}
 use Rattle.core_rule.specs.Objects.{node_at}
-use Rattle.core_rule.specs.Owners.{Owner, Free, Taken, Borne, Kept, Dead, born_bit, SpineOwner, Placed}
+use Rattle.core_rule.specs.Owners.{Owner, Free, Taken, Borne, Kept, Dead, born_bit, SpineOwner, Open, Placed}
 use Rattle.core_rule.specs.Rule.{Rule, SeatStands}
-use Rattle.core_rule.specs.Spines.{HasPlace}
-use Rattle.core_rule.specs.Sweep.{IsSettled}
+use Rattle.core_rule.specs.Budgets.{nodes_in}
+use Rattle.core_rule.specs.Halves.{WhileCopying}
+use Rattle.core_rule.specs.Replicas.{CopyingStands, CopyInHand, IsToCopy, copy_in}
+use Rattle.core_rule.specs.Spines.{HasPlace, next_spine}
+use Rattle.core_rule.specs.Sweep.{HasMarked, IsSettled}
 use Rattle.core_rule.proofs.colours.LeadsFrames.{SameSources, leads_same}
 use Rattle.core_rule.proofs.colours.NoSpines.{newborn_no_spine}
 use Rattle.core_rule.proofs.entries.AtRest.{seat_fits}
@@ -40,7 +48,9 @@ use Rattle.core_rule.proofs.marking.KeptSources.{kept_sources}
 use Rattle.core_rule.proofs.marking.Marks.{unsettled}
 use Rattle.core_rule.proofs.objects.LastBirth.{all_stored}
 use Rattle.core_rule.proofs.owners.Seated.{borne_by_seat}
-use Rattle.core_rule.proofs.spines.SpineStores.{unowned, arrays_stored}
+use Rattle.core_rule.proofs.objects.SpinePlaces.{place_fits}
+use Rattle.core_rule.proofs.spines.SpineFrames.{PlacesStay}
+use Rattle.core_rule.proofs.spines.SpineStores.{unowned, others_stored, gone_stored, arrays_stored}
 use Rattle.core_rule.proofs.ways.ArrayWords.{words_in-meta, spot_in-word}
 
 -- an object that makes an array needs a fragment
@@ -61,9 +71,10 @@ module _ (name : Name) (spine : Spot) (body : List ℕ) (small : (i : ℕ) → i
       absurd (omega (arith, less, none))
   newborn_spine _ made range k j less = absurd made
 
-ended_or_not : (stage : Stage) → (stage ≡ stages.Advancing) ⊎ (stage ≢ stages.Advancing)
-ended_or_not stages.Advancing = inl refl
-ended_or_not _ = inr (λ e. absurd (cc))
+ended_or_not : (stage : Stage) → HasMarked stage ⊎ (¬ HasMarked stage)
+ended_or_not stages.Flipping = inl tt
+ended_or_not stages.Advancing = inl tt
+ended_or_not _ = inr (λ e. e)
 
 -- marking has ended, and the sweep hasn't, or not
 settled_or_not : (phase : ℕ) (stage : Stage) → IsSettled phase stage ⊎ (¬ IsSettled phase stage)
@@ -116,10 +127,54 @@ module _ (heap : Heap) (state : State) (book : Book) (rule : Rule heap state boo
   pub beside_listed : LeavesBeside heap state.words words_now
   beside_listed = beside_spine heap state.words (spine_place seat.spine seat.listed) n (omega arith)
 
+  -- each word that is somebody's stands in one of the two halves
+  in_halves : (half offset : ℕ) → book.spine_owner half offset ≢ Open → half < 2
+  in_halves half offset some = (place_fits heap state book rule.machine.limits rule.space.halves half offset some).half_within
+
   -- the spines of kept arrays stay
   pub arrays_listed : ArraysStay heap state.words words_now book
-  arrays_listed = arrays_stored heap state.words book.spine_owner number seat stands.own.spine has fits.1 small n heap.seats (length book.made) (node_at (graph_of heap book.history) book.made)
-      book.owner book.fragments book.spines rule.heap_stands.spines (omega arith)
+  arrays_listed = arrays_stored heap state.words book.spine_owner number seat stands.own.spine has fits.1 small n in_halves heap.seats (length book.made) (node_at (graph_of heap book.history) book.made)
+      book.owner book.fragments book.spines rule.heap_stands.spines
+
+  -- so do the words that arrays have left
+  pub places_listed : PlacesStay heap state.words words_now (length book.made) book.spines book.spines book.spine_owner book.spine_owner
+  places_listed = record {
+    stay = λ i below. refl;
+    gone = λ half offset is. is;
+    as_were = gone_stored heap state.words book.spine_owner number seat stands.own.spine has fits.1 small n in_halves;
+  }
+
+  -- and what the collector has copied
+  copied_listed : (copy : SpineCopy) → IsToCopy (nodes_in heap book) book.made book.owner book.colour book.spines (next_spine heap state.words).half copy.array copy.from → copy.index ≤ copy.array.words
+      → ((j : ℕ) → j < copy.array.words → book.spine_owner copy.to.half (copy.to.offset + j) ≡ Placed heap.seats j)
+      → ((j : ℕ) → j < copy.index → at heap state.words (spine_place copy.to j) ≡ at heap state.words (spine_place copy.from j))
+      → (j : ℕ) → j < copy.index → at heap words_now (spine_place copy.to j) ≡ at heap words_now (spine_place copy.from j)
+  copied_listed copy copies few placed copied j less =
+      let begins = copies.found.begins in
+      let there = rule.heap_stands.objects.back (sentinel_at copy.array) begins.index 0 begins.kept in
+      let within : j < copy.array.words = omega (arith, less, few) in
+      let to = others_stored heap state.words book.spine_owner number seat stands.own.spine has fits.1 small n in_halves copy.to.half (copy.to.offset + j) heap.seats j (λ e. omega (arith, e, here)) (placed j within) in
+      let from = arrays_listed begins.index j there.0 there.1 (subst (λ m. j < m) begins.as_many within) in
+      to ∙ copied j less ∙ sym (subst (λ (s : Spot). at heap words_now (spine_place s j) ≡ at heap state.words (spine_place s j)) (sym copies.own) from)
+
+  pub copy_listed : CopyInHand heap words_now book.spine_owner state.collector.stage
+  copy_listed =
+      let halves = rule.space.halves in
+      record {
+        placed = halves.copy.placed;
+        own = halves.copy.own;
+        copied = by state.collector.stage rule.machine.collector_fit.at_stage halves.copies halves.copy.placed halves.copy.copied;
+      }
+    where
+      by : (stage : Stage) → FitsStage heap state.collector.phase state.collector.looked stage
+          → WhileCopying (CopyingStands (nodes_in heap book) book.made book.owner book.colour book.fragments book.spines (next_spine heap state.words).half) stage
+          → IfSome (copy_in stage) (λ copy. (j : ℕ) → j < copy.array.words → book.spine_owner copy.to.half (copy.to.offset + j) ≡ Placed heap.seats j)
+          → IfSome (copy_in stage) (λ copy. (j : ℕ) → j < copy.index → at heap state.words (spine_place copy.to j) ≡ at heap state.words (spine_place copy.from j))
+          → IfSome (copy_in stage) (λ copy. (j : ℕ) → j < copy.index → at heap words_now (spine_place copy.to j) ≡ at heap words_now (spine_place copy.from j))
+      by (stages.Copying (copying.Loading copy)) fit copies placed copied = copied_listed copy copies fit.1.0.index_within placed copied
+      by (stages.Copying (copying.Storing copy word)) fit copies placed copied = copied_listed copy copies.0 fit.1.copies.index_within placed copied
+      by (stages.Copying (copying.Swinging copy)) fit copies placed copied = copied_listed copy copies fit.1.0.index_within placed copied
+      by _ fit copies placed copied = tt
 
   pub kept_listed : (f i k : ℕ) → book.owner f ≡ Kept i k → SameSources heap state.words words_now f
   kept_listed = kept_sources heap state book rule words_now beside_listed.parts arrays_listed

@@ -1,5 +1,5 @@
 -- A seat's spine becomes its new array's.
-use Rattle.std.proofs.Common.{◌≡◌, ◌≢◌, ℕ, suc, ◌+◌, ◌<◌, ◌≤◌, ◌==◌, inl, inr, List, length, refl, sym, ap, ◌∙◌, subst, arith}
+use Rattle.std.proofs.Common.{◌≡◌, ◌≢◌, ℕ, ◌+◌, ◌<◌, ◌≤◌, ◌==◌, inl, inr, List, length, refl, sym, ap, ◌∙◌, subst, arith}
 use Rattle.std.specs.Prelude.{if◌then◌else◌}
 use Rattle.std.proofs.lemmas.Bool.{cases_eq}
 use Rattle.std.proofs.lemmas.Bool.Decides.{eqb_tells, nat_tests}
@@ -7,20 +7,15 @@ use Rattle.heap_words.specs.declared.spot.Spot.{Spot}
 use Rattle.heap_model.specs.declared.heap.Heap.{Heap}
 use Rattle.heap_model.specs.graph.Graph.{Node}
 use Rattle.heap_model.specs.graph.Sizes.{spine_words_of}
-use Rattle.core_machine.specs.machine.Sums.{sum_upto}
 use Rattle.core_machine.specs.seat.Seat.{Seat, spine_need}
 use Rattle.core_machine.specs.table.Fragments.{tally}
-use Rattle.core_machine.proofs.table_lemmas.Free.{sum_same}
 use Rattle.core_rule.specs.Book.{fragment_at}
-use Rattle.core_rule.specs.Budgets.{kept_weight, kept_words}
 use Rattle.core_rule.specs.Objects.{IsKept}
-use Rattle.core_rule.specs.Owners.{Owner, Kept, SpineOwner, Open, Placed, Spined}
+use Rattle.core_rule.specs.Owners.{Owner, Kept, SpineOwner, Open, Placed, Spined, Gone}
 use Rattle.core_rule.specs.Spines.{SpinesStand, SpineInHand, HasPlace, IsWordOf}
 use Rattle.core_rule.proofs.graph.SameNodes.{SameShape, shape_words}
-use Rattle.core_rule.proofs.lists.Members.{place_of, tally_at}
-use Rattle.core_rule.proofs.lists.SumLemmas.{sum-suc}
 use Rattle.core_rule.proofs.objects.ObjectsGrowth.{with_spine, spine_new, spine_old}
-use Rattle.core_rule.proofs.owners.Keeping.{kept_by, with_object, object_new, object_old, kept_cases, kept_was, kept_stays}
+use Rattle.core_rule.proofs.owners.Keeping.{kept_by, with_object, object_new, object_old, kept_was, kept_stays}
 use Rattle.core_rule.proofs.spines.OtherWords.{LeavesSpines}
 use Rattle.core_rule.proofs.spines.SpineFrames.{SpinesLeft}
 use Rattle.core_rule.proofs.spines.DeadWords.{DeadStay, dead_tell}
@@ -64,16 +59,19 @@ module _ (number n : ℕ) where
   arrays_were P _ i k is old new = absurd (cc)
 
   -- nobody's were so
-  open_was : (o : SpineOwner) → o ≡ Open → born_word number n o ≡ Open
+  pub open_was : (o : SpineOwner) → o ≡ Open → born_word number n o ≡ Open
   open_was o is = ap (born_word number n) is
 
-  -- each other seat has what it had
+  -- each other party has what it had
   pub born_leaves : (spine_owner : ℕ → ℕ → SpineOwner) (r : ℕ) → r ≢ number → SpinesLeft r spine_owner (born_words number n spine_owner)
   born_leaves spine_owner r apart = record {
     stays = λ half offset k is. born_other _ r k apart is;
     own = λ half offset k is. (seats_were (spine_owner half offset) r k is).0;
-    arrays = λ half offset i k is. born_arrays _ i k is;
   }
+
+  -- and what arrays have left stays left
+  pub born_gone : (o : SpineOwner) → o ≡ Gone → born_word number n o ≡ Gone
+  born_gone o is = ap (born_word number n) is
 
 -- and the seat has none
 pub spine_born : (heap : Heap) (words : List ℕ) (spine_owner : ℕ → ℕ → SpineOwner) (number n : ℕ) (new : Seat) → ¬ HasPlace new new.place
@@ -92,44 +90,13 @@ module _ (n : ℕ) (nodes now_nodes : ℕ → Node) (owner : ℕ → Owner) (fra
   abbrev bodies : ℕ → List ℕ
   bodies = with_object fragments n body
 
-  -- an older object's words count as before
-  weight_old : (i words f : ℕ) → i < n → kept_weight i words (now f) ≡ kept_weight i words (owner f)
-  weight_old i words f below = kept_cases n body owner (λ o. kept_weight i words o ≡ kept_weight i words (owner f)) f
-      (λ there. none n (place_of f body) (λ e. omega (arith, e, below)) ∙ sym (unowned (owner f) (λ j k. unkept f j k there)))
-      (λ away. refl)
-    where
-      none : (j k : ℕ) → j ≢ i → kept_weight i words (Kept j k) ≡ 0
-      none j k apart = grind (arith, nat_tests, apart)
-
-      unowned : (o : Owner) → ((j k : ℕ) → o ≢ Kept j k) → kept_weight i words o ≡ 0
-      unowned (Kept j k) free = absurd (free j k refl)
-      unowned _ free = refl
-
-  -- and the new object's are its spine's
-  weight_new : (words : ℕ) → kept_weight n words (now (fragment_at body 0)) ≡ words
-  weight_new words = kept_cases n body owner (λ o. kept_weight n words o ≡ words) (fragment_at body 0) (λ there. grind (arith, nat_tests))
-      (λ away. absurd (let there = tally_at body 0 some in omega (arith, there, away)))
-
-  -- so as many more words are kept
-  pub words_born : kept_words (n + 1) now_nodes now bodies ≡ kept_words n nodes owner fragments + spine_words_of (now_nodes n)
-  words_born =
-      let one : n + 1 ≡ suc n = omega arith in
-      let rest : sum_upto n (λ i. kept_weight i (spine_words_of (now_nodes i)) (now (fragment_at (bodies i) 0))) ≡ kept_words n nodes owner fragments
-      = sum_same n (λ i. kept_weight i (spine_words_of (now_nodes i)) (now (fragment_at (bodies i) 0))) (λ i. kept_weight i (spine_words_of (nodes i)) (owner (fragment_at (fragments i) 0))) (λ i below.
-      ap (λ fs. kept_weight i (spine_words_of (now_nodes i)) (now (fragment_at fs 0))) (object_old fragments n body i (λ e. omega (arith, e, below)))
-      ∙ weight_old i (spine_words_of (now_nodes i)) (fragment_at (fragments i) 0) below
-      ∙ ap (λ w. kept_weight i w (owner (fragment_at (fragments i) 0))) (shape_words (now_nodes i) (nodes i) (shapes i below))) in
-      let last : kept_weight n (spine_words_of (now_nodes n)) (now (fragment_at (bodies n) 0)) ≡ spine_words_of (now_nodes n)
-      = ap (λ fs. kept_weight n (spine_words_of (now_nodes n)) (now (fragment_at fs 0))) (object_new fragments n body) ∙ weight_new (spine_words_of (now_nodes n)) in
-      ap (λ m. kept_words m now_nodes now bodies) one ∙ sum-suc n (λ i. kept_weight i (spine_words_of (now_nodes i)) (now (fragment_at (bodies i) 0))) ∙ omega (arith, rest, last)
-
   module _ (heap : Heap) (words now_words : List ℕ) (seats : ℕ) (spines : ℕ → Spot) (spine_owner : ℕ → ℕ → SpineOwner) (number : ℕ) (seat : Seat)
       (leaves : LeavesSpines heap words now_words) (hand : SpineInHand heap words spine_owner number seat) (as_many : spine_words_of (now_nodes n) ≡ spine_need seat)
       (has : 0 < spine_need seat → HasPlace seat seat.place) (head : now (fragment_at body 0) ≡ Kept n 0) (dead : DeadStay heap words now_words owner now) where
     head_new : IsKept now bodies n
     head_new = ap (λ fs. now (fragment_at fs 0)) (object_new fragments n body) ∙ head
 
-    kept_old : (i : ℕ) → i ≢ n → IsKept now bodies i → IsKept owner fragments i
+    pub kept_old : (i : ℕ) → i ≢ n → IsKept now bodies i → IsKept owner fragments i
     kept_old i apart is = kept_was n body owner (fragment_at (fragments i) 0) i 0 apart (ap (λ fs. now (fragment_at fs 0)) (sym (object_old fragments n body i apart)) ∙ is)
 
     kept_on : (i : ℕ) → i ≢ n → IsKept owner fragments i → IsKept now bodies i
@@ -140,8 +107,7 @@ module _ (n : ℕ) (nodes now_nodes : ℕ → Node) (owner : ℕ → Owner) (fra
         → SpinesStand heap now_words seats (n + 1) now_nodes now bodies (with_spine spines n seat.spine) (born_words number n spine_owner)
     spines_born old = record {
       spot = rw leaves.spot old.spot;
-      before = λ half offset other. rw leaves.spot (old.before half offset (λ none. other (open_was number n (spine_owner half offset) none)));
-      seated = λ half offset r k is. old.seated half offset r k (seats_were number n (spine_owner half offset) r k is).0;
+      parties = λ half offset r k is. old.parties half offset r k (seats_were number n (spine_owner half offset) r k is).0;
       kept = λ i j below is within. elim (cases_eq i n) as (λ _. born_words number n spine_owner (with_spine spines n seat.spine i).half ((with_spine spines n seat.spine i).offset + j) ≡ Spined i j) [
         | inl same ↦ of_new i j same within
         | inr apart ↦ of_old i j apart (omega (arith, below, apart)) (kept_old i apart is) within

@@ -1,5 +1,5 @@
 -- Whose the spine words are, and what they are, stands as before where a step leaves them.
-use Rattle.std.proofs.Common.{◌≡◌, ℕ, ◌+◌, ◌<◌, List, length, refl, sym, ap, ◌∙◌, subst}
+use Rattle.std.proofs.Common.{◌≡◌, ℕ, ◌+◌, ◌<◌, ◌⊎◌, inl, inr, List, length, refl, sym, ap, ◌∙◌, subst}
 use Rattle.heap_words.specs.declared.spot.Spot.{Spot}
 use Rattle.heap_model.specs.declared.heap.Heap.{Heap}
 use Rattle.heap_model.specs.declared.id.Id.{Id}
@@ -14,8 +14,9 @@ use Rattle.core_machine.specs.table.Layout.{at, spine_place}
 use Rattle.core_machine.specs.table.Newborn.{spine_word}
 use Rattle.core_rule.specs.Book.{fragment_at}
 use Rattle.core_rule.specs.Objects.{IsKept}
-use Rattle.core_rule.specs.Owners.{Owner, Kept, SpineOwner, Placed, Spined}
-use Rattle.core_rule.specs.Spines.{SpinesStand, SpineInHand, HasPlace, WordStandsAhead}
+use Rattle.core_rule.specs.Owners.{Owner, Kept, SpineOwner, Placed, Gone}
+use Rattle.core_rule.specs.Replicas.{AddressStands, IsLeftReplica}
+use Rattle.core_rule.specs.Spines.{SpinesStand, SpineInHand, HasPlace}
 use Rattle.core_rule.specs.Ways.{WayStands}
 use Rattle.core_rule.proofs.graph.SameNodes.{SameShape, shape_words, shape_same}
 use Rattle.core_rule.proofs.objects.ObjectFrames.{SameKept}
@@ -41,8 +42,7 @@ module _ (heap : Heap) (words now : List ℕ) (same : at heap now addresses.Spot
       let words_of : (i : ℕ) → spine_words_of (now_nodes i) ≡ spine_words_of (nodes i) = λ i. shape_words (now_nodes i) (nodes i) (shapes i) in
       record {
         spot = rw same old.spot;
-        before = λ half offset some. rw same (old.before half offset some);
-        seated = old.seated;
+        parties = old.parties;
         kept = λ i j below is within. old.kept i j below (kept.was _ _ _ is) (subst (λ n. j < n) (words_of i) within);
         back = λ half offset i j is. let one = old.back half offset i j is in (one.0, kept.stays _ _ _ one.1, subst (λ n. j < n) (sym (words_of i)) one.2, one.3);
         tells = dead_tell heap words now made nodes now_nodes owner now_owner (λ i below. shapes i) dead old.tells;
@@ -75,14 +75,13 @@ spine_words_stay heap words now seat same stored = λ has j less. same _ _ ∙ s
 pub spine_stored : (heap : Heap) (words now : List ℕ) (seat : Seat) → LeavesSpines heap words now → SpineIsStored heap words seat → SpineIsStored heap now seat
 spine_stored heap words now seat leaves = spine_words_stay heap words now seat leaves.spines
 
--- the seat has the spine words that it had, and those of arrays are theirs
+-- the party has the spine words that it had
 pub record SpinesLeft (r : ℕ) (was now : ℕ → ℕ → SpineOwner) : Type 0 where
   pub stays : (half offset k : ℕ) → was half offset ≡ Placed r k → now half offset ≡ Placed r k
   pub own : (half offset k : ℕ) → now half offset ≡ Placed r k → was half offset ≡ Placed r k
-  pub arrays : (half offset i k : ℕ) → was half offset ≡ Spined i k → now half offset ≡ Spined i k
 
 pub spines_left : (r : ℕ) (spine_owner : ℕ → ℕ → SpineOwner) → SpinesLeft r spine_owner spine_owner
-spines_left r spine_owner = record { stays = λ half offset k is. is; own = λ half offset k is. is; arrays = λ half offset i k is. is }
+spines_left r spine_owner = record { stays = λ half offset k is. is; own = λ half offset k is. is }
 
 -- so its spine stands
 pub spine_stays : (heap : Heap) (words now : List ℕ) (was later : ℕ → ℕ → SpineOwner) (r : ℕ) (seat : Seat) → SpinesLeft r was later → SpineIsStored heap now seat
@@ -129,14 +128,51 @@ spine_goes_on heap words now spine_owner number old new leaves same hand = recor
 kept_index : (i k j l : ℕ) → Kept i k ≡ Kept j l → i ≡ j
 kept_index i k j l e = cc
 
--- the spine word that a call is about to load is the array's also where whose they are went on
-pub word_ahead_stays : (nodes now_nodes : ℕ → Node) (made now_made : List Id) (owner now_owner : ℕ → Owner) (fragments now_fragments : ℕ → List ℕ) (was now : ℕ → ℕ → SpineOwner)
-    → ((half offset i k : ℕ) → was half offset ≡ Spined i k → now half offset ≡ Spined i k)
-    → ((i : ℕ) → i < length made → IsKept owner fragments i → ObjectStays nodes now_nodes made now_made owner now_owner fragments now_fragments i)
-    → (seat : Seat) (place : Place) → WayStands nodes made owner fragments seat place → WordStandsAhead owner was seat place → WordStandsAhead now_owner now seat place
-word_ahead_stays nodes now_nodes made now_made owner now_owner fragments now_fragments was now arrays stay seat (places.Access Indexing) way ahead = λ i is.
-    let one = stay way.index way.way.below way.way.kept in
-    let same : now_owner seat.reached ≡ Kept way.index 0 = ap now_owner way.way.here ∙ ap (λ fs. now_owner (fragment_at fs 0)) (sym one.fragments_stay) ∙ one.kept in
-    let index : i ≡ way.index = kept_index i 0 way.index 0 (sym is ∙ same) in
-    arrays _ _ i _ (ahead i (ap owner way.way.here ∙ way.way.kept ∙ ap (λ n. Kept n 0) (sym index)))
-word_ahead_stays nodes now_nodes made now_made owner now_owner fragments now_fragments was now arrays stay seat _ way ahead = tt
+-- each object that was made has its spine where it was, and the words that arrays have left stay left, and as they are
+pub record PlacesStay (heap : Heap) (words now_words : List ℕ) (made : ℕ) (spines now_spines : ℕ → Spot) (was now : ℕ → ℕ → SpineOwner) : Type 0 where
+  pub stay : (i : ℕ) → i < made → now_spines i ≡ spines i
+  pub gone : (half offset : ℕ) → was half offset ≡ Gone → now half offset ≡ Gone
+  pub as_were : (half offset : ℕ) → was half offset ≡ Gone → at heap now_words (addresses.Spine half offset) ≡ at heap words (addresses.Spine half offset)
+
+-- so it is where all spine words are as before, and whose they are
+pub places_same : (heap : Heap) (words now : List ℕ) (made : ℕ) (spines : ℕ → Spot) (spine_owner : ℕ → ℕ → SpineOwner) → SameSpines heap words now
+    → PlacesStay heap words now made spines spines spine_owner spine_owner
+places_same heap words now made spines spine_owner same = record { stay = λ i below. refl; gone = λ half offset is. is; as_were = λ half offset is. same half offset }
+
+module _ (heap : Heap) (words now_words : List ℕ) (nodes now_nodes : ℕ → Node) (made now_made : List Id) (owner now_owner : ℕ → Owner) (fragments now_fragments : ℕ → List ℕ)
+    (spines now_spines : ℕ → Spot) (was now : ℕ → ℕ → SpineOwner) (still : PlacesStay heap words now_words (length made) spines now_spines was now) where
+  -- a replica that an array has left is still one
+  replica_stays : (i answered : ℕ) (address : Spot) → SameShape (now_nodes i) (nodes i) → now_fragments i ≡ fragments i
+      → IsLeftReplica heap words (nodes i) (fragments i) was answered address → IsLeftReplica heap now_words (now_nodes i) (now_fragments i) now answered address
+  replica_stays i answered address shape same replica =
+      let as_many : (k : ℕ) → k < spine_words_of (now_nodes i) → k < spine_words_of (nodes i) = λ k. subst (λ n. k < n) (shape_words (now_nodes i) (nodes i) shape) in
+      record {
+        late = replica.late;
+        left = λ k less. still.gone _ _ (replica.left k (as_many k less));
+        listed = λ k less. still.as_were _ _ (replica.left k (as_many k less)) ∙ replica.listed k (as_many k less) ∙ ap (λ fs. spine_word (fragment_at fs (k + 1))) (sym same);
+      }
+
+  -- the place that a call has loaded is the array's, or one that this has left, also where kept objects went on
+  pub address_stays : ((i : ℕ) → i < length made → IsKept owner fragments i → ObjectStays nodes now_nodes made now_made owner now_owner fragments now_fragments i)
+      → (seat : Seat) (place : Place) → WayStands nodes made owner fragments seat place
+      → AddressStands heap words nodes owner fragments spines was seat place → AddressStands heap now_words now_nodes now_owner now_fragments now_spines now seat place
+  address_stays stay seat (places.Access Indexing) way address = λ i is.
+      let one = stay way.index way.way.below way.way.kept in
+      let same : now_owner seat.reached ≡ Kept way.index 0 = ap now_owner way.way.here ∙ ap (λ fs. now_owner (fragment_at fs 0)) (sym one.fragments_stay) ∙ one.kept in
+      let index : way.index ≡ i = sym (kept_index i 0 way.index 0 (sym is ∙ same)) in
+      subst (λ n. (seat.address ≡ now_spines n) ⊎ IsLeftReplica heap now_words (now_nodes n) (now_fragments n) now seat.answered seat.address) index
+      (elim (address way.index (ap owner way.way.here ∙ way.way.kept)) as (λ _. (seat.address ≡ now_spines way.index) ⊎ IsLeftReplica heap now_words (now_nodes way.index) (now_fragments way.index) now seat.answered seat.address) [
+        | inl own ↦ inl (own ∙ sym (still.stay way.index way.way.below))
+        | inr left ↦ inr (replica_stays way.index seat.answered seat.address one.shape one.fragments_stay left)
+      ])
+  address_stays stay seat _ way address = tt
+
+-- so it is where no more than words change
+pub address_words : (heap : Heap) (words now : List ℕ) → SameSpines heap words now → (nodes : ℕ → Node) (owner : ℕ → Owner) (fragments : ℕ → List ℕ) (spines : ℕ → Spot) (spine_owner : ℕ → ℕ → SpineOwner)
+    (seat : Seat) (place : Place) → AddressStands heap words nodes owner fragments spines spine_owner seat place → AddressStands heap now nodes owner fragments spines spine_owner seat place
+address_words heap words now same nodes owner fragments spines spine_owner seat (places.Access Indexing) address = λ i is.
+    elim (address i is) as (λ _. (seat.address ≡ spines i) ⊎ IsLeftReplica heap now (nodes i) (fragments i) spine_owner seat.answered seat.address) [
+      | inl own ↦ inl own
+      | inr left ↦ inr record { late = left.late; left = left.left; listed = λ k less. same _ _ ∙ left.listed k less }
+    ]
+address_words heap words now same nodes owner fragments spines spine_owner seat _ address = tt

@@ -12,8 +12,8 @@ use Rattle.core_machine.specs.table.Newborn.{spine_word}
 use Rattle.core_machine.proofs.table_lemmas.Addresses.{at-put_same}
 use Rattle.core_rule.specs.Book.{fragment_at}
 use Rattle.core_rule.specs.Objects.{IsKept}
-use Rattle.core_rule.specs.Owners.{Owner, SpineOwner, Placed, Spined}
-use Rattle.core_rule.specs.Spines.{SpinesStand, SpineInHand, HasPlace, next_spine}
+use Rattle.core_rule.specs.Owners.{Owner, SpineOwner, Open, Placed, Spined, Gone}
+use Rattle.core_rule.specs.Spines.{SpinesStand, SpineInHand, HasPlace}
 use Rattle.core_rule.proofs.spines.SpineFrames.{SpineIsStored}
 use Rattle.core_rule.proofs.words.Addresses.{at-put_apart, spine_other}
 
@@ -53,13 +53,20 @@ module _ (heap : Heap) (words : List ℕ) (spine_owner : ℕ → ℕ → SpineOw
       let its = theirs.placed placed j (omega (arith, less, few placed)) in
       unowned other.spine.half (other.spine.offset + j) within (λ own. apart (placed_apart _ number r seat.listed j own its)) ∙ theirs.stored placed j less
 
-  -- and the spines of kept arrays
-  pub arrays_stored : (seats made : ℕ) (nodes : ℕ → Node) (owner : ℕ → Owner) (fragments : ℕ → List ℕ) (spines : ℕ → Spot) → SpinesStand heap words seats made nodes owner fragments spines spine_owner
-      → (next_spine heap words).half < 2 → (i j : ℕ) → i < made → IsKept owner fragments i → j < spine_words_of (nodes i) → at heap words_listed (spine_place (spines i) j) ≡ at heap words (spine_place (spines i) j)
-  arrays_stored seats made nodes owner fragments spines stands half_small i j below is within =
-      let its = stands.kept i j below is within in
-      let there = stands.before (spines i).half ((spines i).offset + j) (λ none. absurd (cc (its, none))) in
-      unowned (spines i).half ((spines i).offset + j) (omega (arith, there.0, half_small)) (λ own. placed_unspined _ number seat.listed i j own its)
+  module _ (halves : (half offset : ℕ) → spine_owner half offset ≢ Open → half < 2) where
+    -- a word that is another party's, or that arrays have left
+    pub others_stored : (half offset r k : ℕ) → r ≢ number → spine_owner half offset ≡ Placed r k → at heap words_listed (addresses.Spine half offset) ≡ at heap words (addresses.Spine half offset)
+    others_stored half offset r k apart its = unowned half offset (halves half offset (λ none. absurd (cc (its, none)))) (λ own. apart (placed_apart _ number r seat.listed k own its))
+
+    pub gone_stored : (half offset : ℕ) → spine_owner half offset ≡ Gone → at heap words_listed (addresses.Spine half offset) ≡ at heap words (addresses.Spine half offset)
+    gone_stored half offset its = unowned half offset (halves half offset (λ none. absurd (cc (its, none)))) (λ own. absurd (cc (its, own)))
+
+    -- and the spines of kept arrays
+    pub arrays_stored : (seats made : ℕ) (nodes : ℕ → Node) (owner : ℕ → Owner) (fragments : ℕ → List ℕ) (spines : ℕ → Spot) → SpinesStand heap words seats made nodes owner fragments spines spine_owner
+        → (i j : ℕ) → i < made → IsKept owner fragments i → j < spine_words_of (nodes i) → at heap words_listed (spine_place (spines i) j) ≡ at heap words (spine_place (spines i) j)
+    arrays_stored seats made nodes owner fragments spines stands i j below is within =
+        let its = stands.kept i j below is within in
+        unowned (spines i).half ((spines i).offset + j) (halves (spines i).half ((spines i).offset + j) (λ none. absurd (cc (its, none)))) (λ own. placed_unspined _ number seat.listed i j own its)
 
   -- the seat has stored one more
   pub spine_listed : (new : Seat) → length words ≡ table_length heap → seat.spine.offset + seat.listed < 2 * heap.spine → n ≡ spine_word (fragment_at seat.body (seat.listed + 1))

@@ -1,27 +1,20 @@
 -- What a call finds that asks for too many spine words: a run may show it as it is.
-use Rattle.std.proofs.Common.{◌≡◌, ℕ, ◌%◌, ◌^◌, ◌<◌, ◌≤◌, false, arith}
+use Rattle.std.proofs.Common.{ℕ, ◌<◌, false, arith}
 use Rattle.heap_model.specs.declared.heap.Heap.{Heap}
 use Rattle.heap_model.specs.account.Refusals.{FindsSpine}
-use Rattle.heap_model.proofs.account_lemmas.Windows.{all_since}
 use Rattle.core_machine.specs.declared.table.address.Address.TheVariants.{Budget}
 use Rattle.core_machine.specs.machine.Machine.{State, seat_at}
 use Rattle.core_machine.specs.machine.Value.{IsMachine}
 use Rattle.core_machine.specs.table.Layout.{at}
 use Rattle.core_rule.specs.Book.{Book}
 use Rattle.core_rule.specs.Budgets.{BudgetsStand}
+use Rattle.core_rule.specs.Spines.{next_spine}
 use Rattle.core_rule.proofs.spines.BudgetSteps.{HasWeights}
 use Rattle.core_rule.proofs.spines.WeightSums.{others_few}
 
 module _ (heap : Heap) (state : State) (book : Book) (machine : IsMachine heap state) (stands : BudgetsStand heap state book) (number : ℕ) (here : number < heap.seats) where
   -- a seat that has asked for nothing yet finds what arrays have, and what others have asked for
-  pub finds_budget : HasWeights (seat_at state number) 0 0 0 → FindsSpine heap false book.history number (at heap state.words Budget)
+  pub finds_budget : HasWeights (next_spine heap state.words).half (seat_at state number) 0 0 0 → FindsSpine heap false book.history number (at heap state.words Budget)
   finds_budget none =
       let others = others_few heap state machine number here none.given_is none.refused_is in
       (omega (arith, stands.told, stands.word), omega (arith, stands.told, stands.word, others, here))
-
-  -- what is found has far fewer than thirty-two bits
-  pub found_small : (used : ℕ) → FindsSpine heap false book.history number used → used % 2 ^ 32 ≡ used
-  found_small used finds =
-      let since = all_since number (λ e. e.returned) book.history in
-      let few : used ≤ 32768 = omega (arith, finds.1, stands.told, stands.low, stands.none_returned, since, machine.limits.seats_fit, machine.limits.spine_fits) in
-      grind (arith, few)

@@ -8,7 +8,7 @@ use Rattle.heap_model.specs.declared.entry.Entry.{Entry}
 use Rattle.heap_model.specs.declared.entry.Entry.TheVariants.{Said}
 use Rattle.heap_model.specs.declared.heap.Heap.{Heap}
 use Rattle.heap_model.specs.declared.reply.Reply.{Reply}
-use Rattle.heap_model.specs.account.Account.{KeepsSpaceBy, ButSpine}
+use Rattle.heap_model.specs.account.Account.{KeepsSpace}
 use Rattle.heap_model.specs.account.Cycles.{graph_of}
 use Rattle.heap_model.specs.account.Effects.{effect_of, no_effect}
 use Rattle.heap_model.specs.graph.Growth.{after_reply}
@@ -37,12 +37,14 @@ use Rattle.core_rule.specs.Gathers.{Began, IsAnswered}
 use Rattle.core_rule.specs.Objects.{node_at}
 use Rattle.core_rule.specs.Registers.{Registers}
 use Rattle.core_rule.specs.Rule.{Rule, OwnStands}
-use Rattle.core_rule.specs.Spines.{WordStandsAhead}
+use Rattle.core_rule.specs.Replicas.{AddressStands}
 use Rattle.core_rule.specs.Ways.{WayStands}
+use Rattle.core_rule.proofs.spines.BudgetFrames.{grants_same}
+use Rattle.core_rule.proofs.frames.SeatFrames.{AddressAt, with_entry}
 use Rattle.core_rule.proofs.colours.SpineStays.{same_sources}
 use Rattle.core_rule.proofs.marking.Marks.{Leaves, RootsGoOn, marks_go_on, leaves_words}
 use Rattle.core_rule.proofs.footprint.BookGoing.{book_stays}
-use Rattle.core_rule.proofs.steps.Assemble.{Keeps, seat_steps, step_budgets}
+use Rattle.core_rule.proofs.steps.Assemble.{Keeps, seat_steps, step_space}
 use Rattle.core_rule.proofs.spines.NoneMade.{MakesNone, none_has_place, none_used, none_weights}
 use Rattle.core_rule.proofs.spines.OtherWords.{spines_left_none}
 use Rattle.core_rule.proofs.spines.SpineFrames.{spine_away}
@@ -51,7 +53,6 @@ use Rattle.core_rule.proofs.entries.Others.{gathers_stay}
 use Rattle.core_rule.proofs.entries.OwnEntries.{counts_own, counts_same}
 use Rattle.core_rule.proofs.graph.PutRegister.{OnlyRegisters}
 use Rattle.core_rule.proofs.frames.Replying.{no_part, began_told}
-use Rattle.core_rule.proofs.frames.SeatFrames.{with_entry}
 use Rattle.core_rule.proofs.steps.ReplyStep.{graph_replies, told_keeps}
 use Rattle.core_rule.proofs.entries.Legality.{legal_more}
 use Rattle.core_rule.proofs.cycle.CycleFrames.{leaves_same}
@@ -131,18 +132,18 @@ module _ (heap : Heap) (state : State) (book : Book) (number : ℕ) (rule : Rule
       → Registers (graph_of heap book.history) book.made book.owner book.fragments number registers place (target_of (seat_at state number).command)
       → OwnList (graph_of heap book.history) book.history book.made book.owner book.fragments number new
       → WayStands (node_at (graph_of heap book.history) book.made) book.made book.owner book.fragments new place
-      → WordStandsAhead book.owner book.spine_owner new place
+      → AddressAt heap state.words book new place
       → Began book.history number (book.begun number) place
       → SeatInCycle heap state.words (phase book.history) (last_answer number book.history) (has_left number book.history) book.owner book.colour number new
       → RootsGoOn heap state book rule number here new
       → Keeps heap state (loaded_state heap state number a new) book book.begun []
-  load_goes before after held list way ahead began cycle roots =
+  load_goes before after held list way address began cycle roots =
       let stands = rule.seats_stand number here in
       from_same book.begun []
       (seat_steps heap state book number state.words new book [] rule here same_machine (sym (append-nil book.history)) refl rule.heap_stands
       record {
         own = own_stays before after;
-        names = record { registers = held; way = way; ahead = ahead };
+        names = record { registers = held; way = way; address = address };
         told = record {
           list = list;
           counts = counts_same (graph_of heap book.history) book.history number (seat_at state number) new refl refl refl refl stands.told.counts;
@@ -154,23 +155,23 @@ module _ (heap : Heap) (state : State) (book : Book) (number : ℕ) (rule : Rule
       }
       (λ r below apart other. other)
       (marks_go_on heap state book rule number here state.words book new words_lead refl roots)
-      (step_budgets heap state book number rule here state.words new book (spines_left_none heap state.words) (none_weights (seat_at state number) new before after)
-      record { told = refl; returned = refl; kept = refl; gone = refl })
+      (step_space heap state book number rule here state.words new book (spines_left_none heap state.words) (none_weights (seat_at state number) new before after)
+      (grants_same heap book book.colour book.begun) (λ f dark. dark))
       (book_stays heap state book book.history book.begun))
 
   module _ (command : Command) (reply : Reply) (nothing : effect_of (Said number command reply) ≡ no_effect)
       (after : Graph) (grows : after_reply (graph_of heap book.history) number command reply ≡ after) (only : OnlyRegisters (graph_of heap book.history) after number) where
     -- a reply is shown
-    pub load_tells : MakesNone (seat_at state number).place → MakesNone place → Accepts (graph_of heap book.history) (Said number command reply) → KeepsSpaceBy ButSpine heap false book.history (Said number command reply)
+    pub load_tells : MakesNone (seat_at state number).place → MakesNone place → Accepts (graph_of heap book.history) (Said number command reply) → KeepsSpace heap false book.history (Said number command reply)
         → Registers after book.made book.owner book.fragments number registers place (target_of (seat_at state number).command)
         → OwnList after (book.history ++ Said number command reply ∷ []) book.made book.owner book.fragments number new
         → WayStands (node_at after book.made) book.made book.owner book.fragments new place
-        → WordStandsAhead book.owner book.spine_owner new place
+        → AddressStands heap state.words (node_at after book.made) book.owner book.fragments book.spines book.spine_owner new place
         → IsAnswered place → is_leave_of number (Said number command reply) ≡ false
         → SeatInCycle heap state.words (phase book.history) (last_answer number book.history) (has_left number book.history) book.owner book.colour number new
         → RootsGoOn heap state book rule number here new
         → Keeps heap state (loaded_state heap state number a new) book book.begun (Said number command reply ∷ [])
-    load_tells before then accepts keeps held list way ahead answers stays cycle roots =
+    load_tells before then accepts keeps held list way address answers stays cycle roots =
         let entry : Entry = Said number command reply in
         let g : Graph = graph_of heap book.history in
         let stands = rule.seats_stand number here in
@@ -181,7 +182,7 @@ module _ (heap : Heap) (state : State) (book : Book) (number : ℕ) (rule : Rule
         (graph_replies g (after_reply g number command reply) number (rw grows only.changes) heap state.words book rule.heap_stands.ids rule.heap_stands.objects)
         (none_weights (seat_at state number) new before then) (no_part entry (λ e. e.words) nothing refl)
         (own_stays before then)
-        (rw grows record { registers = held; way = way; ahead = ahead })
+        (rw grows record { registers = held; way = way; address = address })
         (rw grows record {
           list = list;
           counts = counts_own g after book.history number (seat_at state number) new stands.told.counts entry (eq-eqb number number refl)

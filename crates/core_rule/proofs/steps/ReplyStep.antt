@@ -6,7 +6,7 @@ use Rattle.heap_model.specs.declared.entry.Entry.{Entry}
 use Rattle.heap_model.specs.declared.entry.Entry.TheVariants as entries
 use Rattle.heap_model.specs.declared.heap.Heap.{Heap}
 use Rattle.heap_model.specs.declared.reply.Reply.{Reply}
-use Rattle.heap_model.specs.account.Account.{IsLegalBy, ButSpine}
+use Rattle.heap_model.specs.account.Account.{IsLegal}
 use Rattle.heap_model.specs.account.Cycles.{graph_of}
 use Rattle.heap_model.specs.account.Effects.{is_of}
 use Rattle.heap_model.specs.graph.Growth.{after_reply}
@@ -28,7 +28,7 @@ use Rattle.core_rule.specs.Objects.{AreMade, Objects, node_at}
 use Rattle.core_rule.specs.Registers as regs
 use Rattle.core_rule.specs.Rule.{Rule, OwnStands, NamesStand, ToldStands}
 use Rattle.core_rule.proofs.marking.Marks.{MarksGoOn}
-use Rattle.core_rule.proofs.steps.Assemble.{Keeps, seat_fits, seat_steps, step_budgets}
+use Rattle.core_rule.proofs.steps.Assemble.{Keeps, seat_fits, seat_steps, step_space}
 use Rattle.core_rule.proofs.entries.AtRest.{own_reserve}
 use Rattle.core_rule.proofs.words.ControlLemmas.{bits_same}
 use Rattle.core_rule.proofs.cycle.CycleFrames.{LeavesCycle, cycle_stays}
@@ -44,7 +44,8 @@ use Rattle.core_rule.proofs.graph.SameNodes.{SameShape, ids_stay, objects_stay, 
 use Rattle.core_rule.proofs.footprint.BookGoing.{book_stays}
 use Rattle.core_rule.proofs.frames.SeatFrames.{SameParty, with_entry, seat_stays, same_party}
 use Rattle.core_rule.proofs.hand.StoredFrames.{SameUnkept, stored_stays}
-use Rattle.core_rule.proofs.spines.BudgetFrames.{none_granted_by, none_returned_by, kept_alike}
+use Rattle.core_rule.proofs.spines.SameBooks.{grants_alike}
+use Rattle.core_rule.proofs.entries.ToldSpines.{seats_tell, told_spines}
 use Rattle.core_rule.proofs.spines.NoneMade.{MakesNone, SameWeights, none_has_place, none_weights, none_made_words}
 use Rattle.core_rule.proofs.spines.SpineFrames.{same_kept, spines_stay, spine_away}
 use Rattle.core_rule.proofs.owners.DeadOwners.{dead_keeps_none}
@@ -104,9 +105,9 @@ module _ (heap : Heap) (state : State) (book : Book) (number : ℕ) (words : Lis
       subst (Fits heap) (get_or-set_same state.seats number now absent_seat below) (machine.fit number (rw (length-set state.seats number now) below))
 
   -- a reply is told, and what the seat has, names and is told of stands
-  pub told_keeps : IsLegalBy ButSpine heap false later.history → SameUnkept heap book.owner state.words words → GraphReplies heap words book before after number
+  pub told_keeps : IsLegal heap false later.history → SameUnkept heap book.owner state.words words → GraphReplies heap words book before after number
       → SameWeights seat now → words_by command reply ≡ 0
-      → OwnStands heap words book.owner book.spine_owner number now → NamesStand after book.made book.owner book.fragments book.spine_owner number now
+      → OwnStands heap words book.owner book.spine_owner number now → NamesStand heap words after book.made book.owner book.fragments book.spines book.spine_owner number now
       → ToldStands heap after later.history book.made book.owner book.fragments (book.begun number) number now
       → HeapInCycle heap words (phase book.history) book.owner book.colour book.fragments
       → SeatInCycle heap words (phase later.history) (last_answer number later.history) (has_left number later.history) book.owner book.colour number now
@@ -138,16 +139,12 @@ module _ (heap : Heap) (state : State) (book : Book) (number : ℕ) (words : Lis
       (leaves r below apart) (watched_born heap state book rule r below) other.cycle) (of_other number r apart))
       other)
       marks
-      (step_budgets heap state book number rule here words now later same.spines weights record {
-        told = none_granted_by book.history entry wordless;
-        returned = none_returned_by book.history entry refl;
-        kept = rw graph (kept_alike (length book.made) (node_at before book.made) (node_at after book.made) book.owner book.fragments grows.shapes);
-        gone = refl;
-      })
+      (step_space heap state book number rule here words now later same.spines weights
+      (grants_alike heap book later.history (told_spines book.history entry (seats_tell entry refl wordless)) (rw graph grows.shapes)) (λ f dark. dark))
       (book_stays heap state book later.history book.begun)
 
   -- the seat stands idle then
-  pub reply_keeps : made_by command reply ≡ 0 → MakesNone seat.place → IsAtRest seat → seat.mine ≡ filter (is_of number) book.history → IsLegalBy ButSpine heap false later.history
+  pub reply_keeps : made_by command reply ≡ 0 → MakesNone seat.place → IsAtRest seat → seat.mine ≡ filter (is_of number) book.history → IsLegal heap false later.history
       → SameUnkept heap book.owner state.words words → GraphReplies heap words book before after number → SeatReplies book after number seat now entry
       → HeapInCycle heap words (phase book.history) book.owner book.colour book.fragments
       → SeatInCycle heap words (phase later.history) (last_answer number later.history) (has_left number later.history) book.owner book.colour number now
@@ -167,7 +164,7 @@ module _ (heap : Heap) (state : State) (book : Book) (number : ℕ) (words : Lis
         together = nothing_together heap now.cursor now.tried now.hand now.body idle.empty_hand idle.no_body;
         spine = spine_away heap state.words words book.spine_owner number seat now (none_has_place seat seat.place makes) (none_has_place now now.place ends) stands.own.spine;
       }
-      record { registers = λ i awake. replies.registers i; way = rw replies.idle tt; ahead = rw replies.idle tt }
+      record { registers = λ i awake. replies.registers i; way = rw replies.idle tt; address = rw replies.idle tt }
       record {
         list = record {
           awaited = [];

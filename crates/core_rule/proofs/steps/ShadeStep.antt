@@ -24,15 +24,16 @@ use Rattle.core_rule.specs.Owners.{Borne, Kept as KeepsPart}
 use Rattle.core_rule.specs.Paths.{IsReached}
 use Rattle.core_rule.specs.Registers.{Registers}
 use Rattle.core_rule.specs.Rule.{Rule}
-use Rattle.core_rule.specs.Spines.{WordStandsAhead}
 use Rattle.core_rule.specs.Ways.{WayStands}
+use Rattle.core_rule.proofs.spines.BudgetFrames.{grants_same}
+use Rattle.core_rule.proofs.frames.SeatFrames.{AddressAt}
 use Rattle.core_rule.proofs.footprint.BookGoing.{IsNamed, mark_goes}
 use Rattle.core_rule.proofs.frames.Recoloured.{Recolours, heap_recoloured, seat_recoloured}
 use Rattle.core_rule.proofs.colours.OneBit.{bits_marked}
 use Rattle.core_rule.proofs.words.Addresses.{at-put_apart}
 use Rattle.core_rule.proofs.marking.Marks.{RootsGoOn}
 use Rattle.core_rule.proofs.marking.SeatShades.{marks_shaded}
-use Rattle.core_rule.proofs.steps.Assemble.{Keeps, seat_steps, step_budgets, in_flight}
+use Rattle.core_rule.proofs.steps.Assemble.{Keeps, seat_steps, step_space, in_flight}
 use Rattle.core_rule.proofs.entries.InFlight.{began_on}
 use Rattle.core_rule.proofs.ways.KeptWords.{kept_within}
 use Rattle.core_rule.proofs.objects.ObjectFrames.{bears_keeps_none}
@@ -86,13 +87,13 @@ module _ (heap : Heap) (state : State) (book : Book) (number : ℕ) (rule : Rule
       → Registers (graph_of heap book.history) book.made book.owner book.fragments number (seat_at state number).registers place (target_of (seat_at state number).command)
       → OwnList (graph_of heap book.history) book.history book.made book.owner book.fragments number (shading (seat_at state number) shaded place)
       → WayStands (node_at (graph_of heap book.history) book.made) book.made book.owner book.fragments (shading (seat_at state number) shaded place) place
-      → MakesNone (seat_at state number).place → MakesNone place → WordStandsAhead book.owner book.spine_owner (shading (seat_at state number) shaded place) place
+      → MakesNone (seat_at state number).place → MakesNone place → ((words : List ℕ) (book_now : Book) (seat_now : Seat) → AddressAt heap words book_now seat_now place)
       → ¬ IsAnswered (seat_at state number).place
       → SeatInCycle heap words_shaded (phase book.history) (last_answer number book.history) (has_left number book.history) book.owner (with_mark book.colour f) number (shading (seat_at state number) shaded place)
       → (IsInMarking state.collector → (seat_at state number).answered ≡ state.collector.phase → IsReached heap state.words book.owner book.colour f)
       → RootsGoOn heap state book rule number here (shading (seat_at state number) shaded place) → (seat_at state number).answered % 7 ≢ 6
       → IsNamed heap state book f → Keeps heap state (record state { words = words_shaded; seats = slice_set state.seats number (shading (seat_at state number) shaded place) }) book book.begun []
-  shade_keeps shaded place runs machine held list way before after ahead busy cycle comes roots early named =
+  shade_keeps shaded place runs machine held list way before after none busy cycle comes roots early named =
       let seat : Seat = seat_at state number in
       let new : Seat = shading seat shaded place in
       let stands = rule.seats_stand number here in
@@ -107,7 +108,7 @@ module _ (heap : Heap) (state : State) (book : Book) (number : ℕ) (rule : Rule
           together = stands.own.together;
           spine = spine_away heap state.words words_shaded book.spine_owner number seat new (none_has_place seat seat.place before) (none_has_place new place after) stands.own.spine;
         };
-        names = record { registers = held; way = way; ahead = ahead };
+        names = record { registers = held; way = way; address = none words_shaded now new };
         told = record {
           list = list;
           counts = counts_same (graph_of heap book.history) book.history number seat new refl refl refl refl stands.told.counts;
@@ -120,5 +121,5 @@ module _ (heap : Heap) (state : State) (book : Book) (number : ℕ) (rule : Rule
       (λ r less apart other. seat_recoloured heap state book rule (f / 16) _ group_below (with_mark book.colour f) (recolours runs) r less other)
       (marks_shaded heap state book rule f shade_within number here new record { index = index; place = 0; kept = owned }
       (in_flight rule number here (λ idle. busy (subst IsAnswered (sym idle) tt))) refl comes roots early)
-      (step_budgets heap state book number rule here words_shaded new now leaves (none_weights seat new before after) record { told = refl; returned = refl; kept = refl; gone = refl })
+      (step_space heap state book number rule here words_shaded new now leaves (none_weights seat new before after) (grants_same heap book (with_mark book.colour f) book.begun) (mark_keeps book.colour f))
       (mark_goes heap state book f named)

@@ -1,5 +1,6 @@
 -- Kinds of the collector, a file for each, and one for the loads of the sweep.
 pub mod PassStep
+pub mod FlipStep
 pub mod AdvanceStep
 pub mod PhaseTurn
 pub mod ColourTurn
@@ -42,6 +43,7 @@ module _ (heap : Heap) (state : State) (book : Book) (rule : Rule heap state boo
   turn_keeps_at (stages.Blackening scan) is = BlackenStep.blacken_keeps scan heap state book rule is
   turn_keeps_at stages.Advancing is = AdvanceStep.advance_keeps heap state book rule is
   turn_keeps_at (stages.Passing group found) is = PassStep.pass_keeps group found heap state book rule is
+  turn_keeps_at stages.Flipping is = FlipStep.flip_keeps heap state book rule is
   turn_keeps_at (stages.Sweeping group) is = SweepStep.sweep_keeps group heap state book rule is
   turn_keeps_at (stages.Examining group dead place) is = SweepStep.examine_keeps group dead place heap state book rule is
   turn_keeps_at (stages.Freeing group dead) is = FreeStep.free_keeps group dead heap state book rule is

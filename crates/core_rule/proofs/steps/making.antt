@@ -10,4 +10,5 @@ pub mod PlacingStep
 pub mod ListingStep
 pub mod StoreStep
 pub mod BirthStep
+pub mod LastBirthSpace
 pub mod LastBirthStep

@@ -13,40 +13,27 @@ use Rattle.core_machine.specs.declared.table.address.Address.TheVariants.{Answer
 use Rattle.core_machine.specs.machine.Machine.{State}
 use Rattle.core_machine.specs.table.Layout.{at}
 use Rattle.core_machine.proofs.table_lemmas.Addresses.{put-at}
-use Rattle.core_rule.specs.TurnsLeft.{scanned_count, fragment_most, work_most, stage_left, turns_left_at, turns_left}
+use Rattle.core_rule.specs.TurnsLeft.{scanned_count, fragment_most, sweep_most, work_most, stage_left, turns_left_at, turns_left}
 use Rattle.core_rule.proofs.turns.Lefts.{StageLeavesFewer, fewer_at}
-
--- what holds of each thing that a phase is for, and of the most turns of that
-work_either : (P : Stage → ℕ → Type 0) (groups phase : ℕ) → P (stages.Passing 0 false) (16 * groups * fragment_most groups + groups) → P (stages.Sweeping 0) (18 * groups) → P (stages.Clearing 0 0) groups
-    → P stages.Advancing 0 → P (first_work phase) (work_most groups phase)
-work_either P groups phase marks sweeps clears none = elim (eqb_tells (phase % 7) 3) as (λ _. P (first_work phase) (work_most groups phase)) [
-  | inl third ↦ rw third.0 marks
-  | inr unmarked ↦ rw unmarked.0 (elim (eqb_tells (phase % 7) 5) as (λ _. P (if phase % 7 == 5 then stages.Sweeping 0 else if phase % 7 == 6 then stages.Clearing 0 0 else stages.Advancing)
-      (if phase % 7 == 5 then 18 * groups else if phase % 7 == 6 then groups else 0)) [
-        | inl fifth ↦ rw fifth.0 sweeps
-        | inr unswept ↦ rw unswept.0 (elim (eqb_tells (phase % 7) 6) as (λ _. P (if phase % 7 == 6 then stages.Clearing 0 0 else stages.Advancing) (if phase % 7 == 6 then groups else 0)) [
-          | inl last ↦ rw last.0 clears
-          | inr other ↦ rw other.0 none
-        ])
-      ])
-]
+use Rattle.core_rule.proofs.turns.WorkCases.{work_either}
 
 -- what a phase is for begins with no more than the most turns of it
 work_starts : (heap : Heap) (words : List ℕ) (phase looked : ℕ) → stage_left heap words phase looked (first_work phase) ≤ work_most heap.groups phase
 work_starts heap words phase looked =
     work_either (λ stage most. stage_left heap words phase looked stage ≤ most) heap.groups phase
-    (by ((16 * heap.groups - scanned_count heap words) * (heap.groups + 2060)) (16 * heap.groups * (heap.groups + 2060)) (mul-le-mul_right (heap.groups + 2060) (omega arith)))
-    (omega arith) (omega arith) (omega arith)
+    (λ marks. by ((16 * heap.groups - scanned_count heap words) * (heap.groups + 2060)) (16 * heap.groups * (heap.groups + 2060)) (mul-le-mul_right (heap.groups + 2060) (omega arith)))
+    (λ copies. omega arith) (λ sweeps. omega arith) (λ clears. omega arith) (omega arith)
   where
-    by : (m n : ℕ) → m ≤ n → m + 0 + (heap.groups - 0) + 0 ≤ n + heap.groups
+    by : (m n : ℕ) → m ≤ n → m + 0 + (heap.groups - 0) + 0 + 1 ≤ n + heap.groups + 1
     by m n less = omega (arith, less)
 
 -- of which no phase has more than these
-work_few : (groups phase : ℕ) → work_most groups phase ≤ 16 * groups * fragment_most groups + 18 * groups
-work_few groups phase = work_either (λ stage most. most ≤ 16 * groups * fragment_most groups + 18 * groups) groups phase (by (16 * groups * fragment_most groups)) (omega arith) (omega arith) (omega arith)
+work_few : (groups phase : ℕ) → 1 ≤ groups → work_most groups phase ≤ 16 * groups * fragment_most groups + sweep_most * groups
+work_few groups phase some = work_either (λ stage most. most ≤ 16 * groups * fragment_most groups + sweep_most * groups) groups phase
+    (λ marks. by (16 * groups * fragment_most groups)) (λ copies. omega arith) (λ sweeps. omega arith) (λ clears. omega arith) (omega arith)
   where
-    by : (m : ℕ) → m + groups ≤ m + 18 * groups
-    by m = omega arith
+    by : (m : ℕ) → m + groups + 1 ≤ m + 19 * groups
+    by m = omega (arith, some)
 
 module _ (heap : Heap) (state : State) (looking : state.collector.stage ≡ stages.Looking) (below : state.collector.looked < heap.seats) where
   abbrev collector : Collector
@@ -85,9 +72,9 @@ advance_leaves heap state book rule advancing stepped =
     let fits : HasLooked heap.seats state.collector.phase state.collector.looked = rw advancing at rule.machine.collector_fit.at_stage in
     let p : ℕ = state.collector.phase in
     let one : 6 - p % 7 ≡ suc (6 - (p + 1) % 7) = omega (arith, fits.goes_on) in
-    rw (advancing, one) (by (6 - (p + 1) % 7) (16 * heap.groups * fragment_most heap.groups) (work_most heap.groups (p + 1)) (work_few heap.groups (p + 1)))
+    rw (advancing, one) (by (6 - (p + 1) % 7) (16 * heap.groups * fragment_most heap.groups) (work_most heap.groups (p + 1)) (work_few heap.groups (p + 1) rule.machine.limits.some_group))
   where
-    by : (k m work : ℕ) → work ≤ m + 18 * heap.groups → k * (heap.seats + m + 18 * heap.groups + 1) + (heap.seats - 0 + work) < suc k * (heap.seats + m + 18 * heap.groups + 1) + 0
+    by : (k m work : ℕ) → work ≤ m + 19 * heap.groups → k * (heap.seats + m + 19 * heap.groups + 1) + (heap.seats - 0 + work) < suc k * (heap.seats + m + 19 * heap.groups + 1) + 0
     by k m work few =
-        let more : suc k * (heap.seats + m + 18 * heap.groups + 1) ≡ k * (heap.seats + m + 18 * heap.groups + 1) + (heap.seats + m + 18 * heap.groups + 1) = grind arith in
+        let more : suc k * (heap.seats + m + 19 * heap.groups + 1) ≡ k * (heap.seats + m + 19 * heap.groups + 1) + (heap.seats + m + 19 * heap.groups + 1) = grind arith in
         omega (arith, more, few)

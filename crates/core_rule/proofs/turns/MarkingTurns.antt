@@ -2,13 +2,15 @@
 use Rattle.std.proofs.Common.{suc, ◌≡◌, ℕ, ◌+◌, ◌-◌, ◌*◌, ◌/◌, ◌<◌, Bool, true, false, List, Option, Some, None, inl, inr, refl, sym, ap, ◌∙◌, subst, bit_or, arith}
 use Rattle.std.proofs.lemmas.Bool.Decides.{leb_tells}
 use Rattle.heap_words.specs.Control.{shade_bit_of, blacken_bit_of}
+use Rattle.heap_words.specs.Spot.{spot_word}
 use Rattle.heap_model.specs.declared.heap.Heap.{Heap}
 use Rattle.core_machine.specs.collector.Marking.{lowest_grey_of, after_last_group, after_group, after_pass, part_after, scan_step, scan_at, after_scan_load, array_at, after_first_load}
+use Rattle.core_machine.specs.collector.Copying.{next_half}
 use Rattle.core_machine.specs.collector.FitsTurns.{IsPassing, IsScanning, IsShading, IsBlackening}
 use Rattle.core_machine.specs.declared.collector.stage.Scan.{Scan}
 use Rattle.core_machine.specs.declared.collector.stage.Stage.{Stage}
 use Rattle.core_machine.specs.declared.collector.stage.Stage.TheVariants as stages
-use Rattle.core_machine.specs.declared.table.address.Address.TheVariants.{Control, Word}
+use Rattle.core_machine.specs.declared.table.address.Address.TheVariants.{Spot, Control, Word}
 use Rattle.core_machine.specs.machine.Machine.{State}
 use Rattle.core_machine.specs.table.Decode.{pointer_in}
 use Rattle.core_machine.specs.table.Layout.{at, put}
@@ -25,6 +27,10 @@ use Rattle.core_rule.proofs.marking.GreyPlaces.{lowest_is_grey}
 use Rattle.core_rule.proofs.marking.Scans.{scan_cases}
 use Rattle.core_rule.proofs.turns.Lefts.{StageLeavesFewer, fewer_at}
 use Rattle.core_rule.proofs.turns.ScannedCounts.{scanned_black, black_same, black_more, black_fewer}
+
+-- the flip comes after all of it
+and_flip : (less more : ℕ) → less < more → less + 1 < more + 1
+and_flip less more fewer = omega (arith, fewer)
 
 -- a scan begins: one fragment more counts as seen, which is more than the scan and the next pass take
 scan_begins : (groups seen group again : ℕ) → seen < 16 * groups → marking_left groups (seen + 1) 2051 group (groups + 1) < marking_left groups seen 0 group again
@@ -63,18 +69,18 @@ some_left groups seen group again below = by ((16 * groups - seen) * (groups + 2
 
 module _ (heap : Heap) (phase looked : ℕ) (words : List ℕ) where
   last_group_leaves : (group : ℕ) (found : Bool) → group < heap.groups → stage_left heap words phase looked (after_last_group found) < stage_left heap words phase looked (stages.Passing group found)
-  last_group_leaves group true below = next_pass_less heap.groups (scanned_count heap words) group below
-  last_group_leaves group false below = some_left heap.groups (scanned_count heap words) group 0 below
+  last_group_leaves group true below = and_flip _ _ (next_pass_less heap.groups (scanned_count heap words) group below)
+  last_group_leaves group false below = and_flip 0 _ (some_left heap.groups (scanned_count heap words) group 0 below)
 
   group_leaves : (group : ℕ) (found : Bool) → group < heap.groups → stage_left heap words phase looked (after_group heap group found) < stage_left heap words phase looked (stages.Passing group found)
   group_leaves group found below = elim (leb_tells (suc (group + 1)) heap.groups) as (λ _. stage_left heap words phase looked (after_group heap group found) < stage_left heap words phase looked (stages.Passing group found)) [
-    | inl more ↦ rw more.0 (next_group_less heap.groups (scanned_count heap words) group (next_pass heap.groups found) below)
+    | inl more ↦ rw more.0 (and_flip _ _ (next_group_less heap.groups (scanned_count heap words) group (next_pass heap.groups found) below))
     | inr last ↦ rw last.0 (last_group_leaves group found below)
   ]
 
   -- a scan has made one step more
   pub scan_goes_on : (scan : Scan) → scan.steps < 2051 → scanning_left heap words (scan_step scan) < scanning_left heap words scan
-  scan_goes_on scan few = less_of_scan heap.groups (scanned_count heap words + 1) (2051 - scan.steps) (2051 - (scan.steps + 1)) (scan.fragment / 16) (heap.groups + 1) (omega (arith, few))
+  scan_goes_on scan few = and_flip _ _ (less_of_scan heap.groups (scanned_count heap words + 1) (2051 - scan.steps) (2051 - (scan.steps + 1)) (scan.fragment / 16) (heap.groups + 1) (omega (arith, few)))
 
   scan_at_leaves : (scan : Scan) (part : ℕ) → scan.steps < 2051 → stage_left heap words phase looked (scan_at (scan_step scan) part) < scanning_left heap words scan
   scan_at_leaves scan part few = scan_cases (λ stage. stage_left heap words phase looked stage < scanning_left heap words scan) (scan_step scan) part (scan_goes_on scan few) (λ behind. scan_goes_on scan few)
@@ -110,7 +116,7 @@ module _ (heap : Heap) (state : State) (book : Book) (rule : Rule heap state boo
         let within = grey_within (at heap state.words (Control group)) place is in
         let here : (16 * group + place) / 16 ≡ group = omega (arith, within) in
         let grey = lowest_is_grey heap state.words book.colour group rule.machine.table below marks place is in
-        rw here (scan_begins heap.groups (scanned_count heap state.words) group (next_pass heap.groups found) (seen_few (16 * group + place) (omega (arith, within, below)) grey))
+        rw here (and_flip _ _ (scan_begins heap.groups (scanned_count heap state.words) group (next_pass heap.groups found) (seen_few (16 * group + place) (omega (arith, within, below)) grey)))
 
   -- a shade scans nothing
   pub shaded_count : (m : ℕ) → m < 16 * heap.groups
@@ -147,7 +153,7 @@ shade_leaves scan target next heap state book rule shading stepped =
     let fits : IsShading heap state.collector.phase state.collector.looked scan target next = rw shading at rule.machine.collector_fit.at_stage in
     let now : List ℕ = put heap state.words (Control (target / 16)) (bit_or (at heap state.words (Control (target / 16))) (shade_bit_of target)) in
     fewer_at heap state (stages.Shading scan target next) now state.collector.looked (scan_at (scan_step scan) next) shading
-    (subst (λ n. stage_left heap now state.collector.phase state.collector.looked (scan_at (scan_step scan) next) < marking_left heap.groups (n + 1) (2051 - scan.steps) (scan.fragment / 16) (heap.groups + 1))
+    (subst (λ n. stage_left heap now state.collector.phase state.collector.looked (scan_at (scan_step scan) next) < marking_left heap.groups (n + 1) (2051 - scan.steps) (scan.fragment / 16) (heap.groups + 1) + 1)
     (shaded_count heap state book rule target fits.target_within)
     (scan_at_leaves heap state.collector.phase state.collector.looked now scan next (omega (arith, fits.few_steps, fits.part_within))))
 
@@ -158,4 +164,8 @@ blacken_leaves scan few heap state book rule blackening stepped =
     let now : List ℕ = put heap state.words (Control (scan.fragment / 16)) (bit_or (at heap state.words (Control (scan.fragment / 16))) (blacken_bit_of scan.fragment)) in
     fewer_at heap state (stages.Blackening scan) now state.collector.looked (stages.Passing (scan.fragment / 16) true) blackening
     (rw (blackened_count heap state book rule scan.fragment fits.fragment_within seen.grey)
-    (less_of_scan heap.groups (scanned_count heap state.words + 1) (2051 - scan.steps) 0 (scan.fragment / 16) (heap.groups + 1) (omega (arith, few))))
+    (and_flip _ _ (less_of_scan heap.groups (scanned_count heap state.words + 1) (2051 - scan.steps) 0 (scan.fragment / 16) (heap.groups + 1) (omega (arith, few)))))
+
+pub flip_leaves : StageLeavesFewer stages.Flipping
+flip_leaves heap state book rule flipping stepped =
+    fewer_at heap state stages.Flipping (put heap state.words Spot (spot_word (record { half = next_half state.collector.phase; offset = 0 }))) state.collector.looked stages.Advancing flipping (omega arith)

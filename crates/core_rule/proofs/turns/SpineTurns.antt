@@ -45,6 +45,6 @@ spread_leaves s target few heap state book rule spreading stepped =
     let fits : IsSpreading heap state.collector.phase state.collector.looked s target = rw spreading at rule.machine.collector_fit.at_stage in
     let now : List ℕ = put heap state.words (Control (target / 16)) (bit_or (at heap state.words (Control (target / 16))) (shade_bit_of target)) in
     fewer_at heap state (stages.Spreading s target) now state.collector.looked (after_spread s) spreading
-    (subst (λ n. stage_left heap now state.collector.phase state.collector.looked (after_spread s) < marking_left heap.groups (n + 1) (2051 - s.scan.steps) (s.scan.fragment / 16) (heap.groups + 1))
+    (subst (λ n. stage_left heap now state.collector.phase state.collector.looked (after_spread s) < marking_left heap.groups (n + 1) (2051 - s.scan.steps) (s.scan.fragment / 16) (heap.groups + 1) + 1)
     (shaded_count heap state book rule target fits.target_within)
     (spine_at_leaves heap state.collector.phase state.collector.looked now s.scan _ refl (omega (arith, fits.steps_made, fits.index_within, few))))

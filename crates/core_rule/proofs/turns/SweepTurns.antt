@@ -1,57 +1,42 @@
 -- Each turn of the sweep and of the clearing leaves fewer turns.
 use Rattle.std.specs.Prelude.{IfSome}
-use Rattle.std.specs.Int.{bit_at}
-use Rattle.std.specs.List.{find, range_with_len}
-use Rattle.std.proofs.Common.{zero, suc, ◌≡◌, ℕ, ◌+◌, ◌-◌, ◌*◌, ◌==◌, ◌<◌, ◌≤◌, Bool, List, Option, Some, None, inl, inr, bit_and, arith}
+use Rattle.std.proofs.Common.{◌≡◌, ℕ, ◌+◌, ◌-◌, ◌*◌, ◌==◌, ◌<◌, ◌≤◌, List, Option, Some, None, inl, inr, bit_and, arith}
 use Rattle.std.proofs.lemmas.Bool.Decides.{eqb_tells}
 use Rattle.heap_words.specs.Control.{free_mask_of, marks_cleared}
 use Rattle.heap_model.specs.declared.heap.Heap.{Heap}
-use Rattle.core_machine.specs.collector.FitsTurns.{IsSweeping, IsExamining, IsFreeing, IsClearing}
-use Rattle.core_machine.specs.collector.Sweeping.{dead_bits_of, next_place_of, taken_count_of, after_swept, after_examined, after_cleared}
+use Rattle.core_machine.specs.collector.FitsTurns.{IsSweeping, IsExamining, IsFreeing, IsReturning, IsClearing}
+use Rattle.core_machine.specs.collector.Sweeping.{dead_bits_of, next_place_of, taken_count_of, after_swept, after_examined, after_freed, after_cleared}
 use Rattle.core_machine.specs.declared.collector.stage.Stage.TheVariants as stages
-use Rattle.core_machine.specs.declared.table.address.Address.TheVariants.{Control, Word}
+use Rattle.core_machine.specs.declared.step.CopyingStep.TheVariants.{BudgetReturn}
+use Rattle.core_machine.specs.declared.step.Step.TheVariants.{Copying}
+use Rattle.core_machine.specs.declared.table.address.Address.TheVariants.{Budget, Control, Word}
+use Rattle.core_machine.specs.table.Decode.{spine_words_in}
 use Rattle.core_machine.specs.table.Layout.{at, put}
-use Rattle.core_machine.proofs.table_lemmas.Bits.{bool_tells}
-use Rattle.core_machine.proofs.table_lemmas.DeadBits.{place_stands}
+use Rattle.core_machine.specs.table.Operation.{word_after}
 use Rattle.core_rule.specs.TurnsLeft.{stage_left}
 use Rattle.core_rule.proofs.marking.SweepMarks.{after_swept_either, after_cleared_either}
 use Rattle.core_rule.proofs.turns.Lefts.{StageLeavesFewer, fewer_at}
-
--- what is found among numbers in a row is none before them
-found_after : (p : ℕ → Bool) (a n : ℕ) → IfSome (find p (range_with_len a n)) (λ i. a ≤ i)
-found_after p a zero = tt
-found_after p a (suc n) = elim (bool_tells (p a)) as (λ _. IfSome (find p (range_with_len a (suc n))) (λ i. a ≤ i)) [
-  | inl yes_ ↦ rw yes_ (omega arith)
-  | inr no_ ↦ rw no_ (on (find p (range_with_len (a + 1) n)) (found_after p (a + 1) n))
-]
-  where
-    on : (o : Option ℕ) → IfSome o (λ i. a + 1 ≤ i) → IfSome o (λ i. a ≤ i)
-    on None after = tt
-    on (Some i) after = omega (arith, after)
-
--- so the next place isn't either, and is one of the sixteen
-place_after : (bits from : ℕ) → IfSome (next_place_of bits from) (λ i. from ≤ i)
-place_after bits from = found_after (λ place. bit_at bits place == 1) from (16 - from)
-
-place_within : (bits from : ℕ) → IfSome (next_place_of bits from) (λ i. i < 16)
-place_within bits from = on (next_place_of bits from) (place_stands bits from)
-  where
-    on : (o : Option ℕ) → IfSome o (λ i. (i < 16) × (bit_at bits i ≡ 1)) → IfSome o (λ i. i < 16)
-    on None is = tt
-    on (Some i) is = is.0
+use Rattle.core_rule.proofs.turns.NextPlaces.{place_after, place_within}
 
 module _ (heap : Heap) (phase looked : ℕ) (words : List ℕ) (group : ℕ) (below : group < heap.groups) where
   -- behind a group that is swept less is left than before its last turn
-  swept_leaves : (before : ℕ) → 18 * (heap.groups - group) < before + 18 → stage_left heap words phase looked (after_swept heap group) < before
+  swept_leaves : (before : ℕ) → 19 * (heap.groups - group) < before + 19 → stage_left heap words phase looked (after_swept heap group) < before
   swept_leaves before last = after_swept_either (λ stage. stage_left heap words phase looked stage < before) heap group (omega (arith, last, below)) (λ end. omega (arith, last, below))
 
   -- a later fragment is looked at, or the dead ones are freed, or there were none
-  examined_leaves : (dead from before : ℕ) (place : Option ℕ) → before + from ≡ 18 * (heap.groups - group) → from ≤ 16 → IfSome place (λ i. from ≤ i) → IfSome place (λ i. i < 16)
-      → stage_left heap words phase looked (after_examined heap group dead place) < before
-  examined_leaves dead from before (Some i) is few after within = omega (arith, is, below, after, within)
-  examined_leaves dead from before None is few after within = elim (eqb_tells dead 0) as (λ _. stage_left heap words phase looked (after_examined heap group dead None) < before) [
+  examined_leaves : (dead counted from before : ℕ) (place : Option ℕ) → before + from ≡ 19 * (heap.groups - group) → from ≤ 16 → IfSome place (λ i. from ≤ i) → IfSome place (λ i. i < 16)
+      → stage_left heap words phase looked (after_examined heap group dead counted place) < before
+  examined_leaves dead counted from before (Some i) is few after within = omega (arith, is, below, after, within)
+  examined_leaves dead counted from before None is few after within = elim (eqb_tells dead 0) as (λ _. stage_left heap words phase looked (after_examined heap group dead counted None) < before) [
     | inl none ↦ rw none.0 (swept_leaves before (omega (arith, is, few)))
     | inr some ↦ rw some.0 (omega (arith, is, few, below))
+  ]
+
+  -- the spine words of what was freed are returned, where there are any
+  freed_leaves : (counted : ℕ) → stage_left heap words phase looked (after_freed heap group counted) < 19 * (heap.groups - group) - 16 - 1
+  freed_leaves counted = elim (eqb_tells counted 0) as (λ _. stage_left heap words phase looked (after_freed heap group counted) < 19 * (heap.groups - group) - 16 - 1) [
+    | inl none ↦ rw none.0 (swept_leaves (19 * (heap.groups - group) - 16 - 1) (omega (arith, below)))
+    | inr some ↦ rw some.0 (omega (arith, below))
   ]
 
 pub sweep_leaves : (group : ℕ) → StageLeavesFewer (stages.Sweeping group)
@@ -59,24 +44,32 @@ sweep_leaves group heap state book rule sweeping stepped =
     let fits : IsSweeping heap state.collector.phase state.collector.looked group = rw sweeping at rule.machine.collector_fit.at_stage in
     let dead : ℕ = dead_bits_of (at heap state.words (Control group)) in
     let now : List ℕ = put heap state.words (Control group) (at heap state.words (Control group)) in
-    fewer_at heap state (stages.Sweeping group) now state.collector.looked (after_examined heap group dead (next_place_of dead 0)) sweeping
-    (examined_leaves heap state.collector.phase state.collector.looked now group fits.group_within dead 0 (18 * (heap.groups - group)) (next_place_of dead 0)
+    fewer_at heap state (stages.Sweeping group) now state.collector.looked (after_examined heap group dead 0 (next_place_of dead 0)) sweeping
+    (examined_leaves heap state.collector.phase state.collector.looked now group fits.group_within dead 0 0 (19 * (heap.groups - group)) (next_place_of dead 0)
     (omega arith) (omega arith) (place_after dead 0) (place_within dead 0))
 
-pub examine_leaves : (group dead place : ℕ) → StageLeavesFewer (stages.Examining group dead place)
-examine_leaves group dead place heap state book rule examining stepped =
-    let fits : IsExamining heap state.collector.phase state.collector.looked group dead place = rw examining at rule.machine.collector_fit.at_stage in
-    let now : List ℕ = put heap state.words (Word (16 * group + place) 0) (at heap state.words (Word (16 * group + place) 0)) in
-    fewer_at heap state (stages.Examining group dead place) now state.collector.looked (after_examined heap group dead (next_place_of dead (place + 1))) examining
-    (examined_leaves heap state.collector.phase state.collector.looked now group fits.sweeps.group_within dead (place + 1) (18 * (heap.groups - group) - (place + 1)) (next_place_of dead (place + 1))
-    (omega (arith, fits.place_within, fits.sweeps.group_within)) (omega (arith, fits.place_within)) (place_after dead (place + 1)) (place_within dead (place + 1)))
+pub examine_leaves : (group dead place counted : ℕ) → StageLeavesFewer (stages.Examining group dead place counted)
+examine_leaves group dead place counted heap state book rule examining stepped =
+    let fits : IsExamining heap state.collector.phase state.collector.looked group dead place counted = rw examining at rule.machine.collector_fit.at_stage in
+    let word : ℕ = at heap state.words (Word (16 * group + place) 0) in
+    let now : List ℕ = put heap state.words (Word (16 * group + place) 0) word in
+    fewer_at heap state (stages.Examining group dead place counted) now state.collector.looked (after_examined heap group dead (counted + spine_words_in word) (next_place_of dead (place + 1))) examining
+    (examined_leaves heap state.collector.phase state.collector.looked now group fits.sweeps.group_within dead (counted + spine_words_in word) (place + 1) (19 * (heap.groups - group) - (place + 1))
+    (next_place_of dead (place + 1)) (omega (arith, fits.place_within, fits.sweeps.group_within)) (omega (arith, fits.place_within)) (place_after dead (place + 1)) (place_within dead (place + 1)))
 
-pub free_leaves : (group dead : ℕ) → StageLeavesFewer (stages.Freeing group dead)
-free_leaves group dead heap state book rule freeing stepped =
-    let fits : IsFreeing heap state.collector.phase state.collector.looked group dead = rw freeing at rule.machine.collector_fit.at_stage in
+pub free_leaves : (group dead counted : ℕ) → StageLeavesFewer (stages.Freeing group dead counted)
+free_leaves group dead counted heap state book rule freeing stepped =
+    let fits : IsFreeing heap state.collector.phase state.collector.looked group dead counted = rw freeing at rule.machine.collector_fit.at_stage in
     let now : List ℕ = put heap state.words (Control group) (bit_and (at heap state.words (Control group)) (free_mask_of dead)) in
-    fewer_at heap state (stages.Freeing group dead) now state.collector.looked (after_swept heap group) freeing
-    (swept_leaves heap state.collector.phase state.collector.looked now group fits.sweeps.group_within (18 * (heap.groups - group) - 16 - 1) (omega (arith, fits.sweeps.group_within)))
+    fewer_at heap state (stages.Freeing group dead counted) now state.collector.looked (after_freed heap group counted) freeing
+    (freed_leaves heap state.collector.phase state.collector.looked now group fits.sweeps.group_within counted)
+
+pub return_leaves : (group counted : ℕ) → StageLeavesFewer (stages.Returning group counted)
+return_leaves group counted heap state book rule returning stepped =
+    let fits : IsReturning heap state.collector.phase state.collector.looked group counted = rw returning at rule.machine.collector_fit.at_stage in
+    let now : List ℕ = put heap state.words Budget (word_after (Copying (BudgetReturn counted)) (at heap state.words Budget)) in
+    fewer_at heap state (stages.Returning group counted) now state.collector.looked (after_swept heap group) returning
+    (swept_leaves heap state.collector.phase state.collector.looked now group fits.sweeps.group_within (19 * (heap.groups - group) - 16 - 2) (omega (arith, fits.sweeps.group_within)))
 
 pub clear_leaves : (group kept : ℕ) → StageLeavesFewer (stages.Clearing group kept)
 clear_leaves group kept heap state book rule clearing stepped =

@@ -1,5 +1,5 @@
 -- The way after a fragment's first word was found.
-use Rattle.std.proofs.Common.{◌≡◌, ℕ, ◌+◌, ◌-◌, ◌/◌, ◌<◌, false, eqb, inl, inr, List, None, IsSome, refl, ap, ◌∙◌, subst, arith, true}
+use Rattle.std.proofs.Common.{◌≡◌, ℕ, ◌+◌, ◌-◌, ◌/◌, ◌<◌, false, eqb, inl, inr, List, None, IsSome, refl, sym, ap, ◌∙◌, subst, arith, true}
 use Rattle.std.proofs.lemmas.Bool.{false≢true, cond_both, eqb-true, eqb-false}
 use Rattle.std.proofs.lemmas.Bool.Decides.{eqb_tells}
 use Rattle.heap_words.specs.declared.spot.Spot.{Spot}
@@ -12,9 +12,10 @@ use Rattle.heap_model.specs.graph.Sizes.{spine_words_of}
 use Rattle.core_machine.specs.declared.table.address.Address.TheVariants.{Word}
 use Rattle.core_machine.specs.declared.place.Place.TheVariants as places
 use Rattle.core_machine.specs.declared.place.Access.{Access}
-use Rattle.core_machine.specs.declared.place.Access.TheVariants.{Walking, Getting, Swapping, LoadingOld}
+use Rattle.core_machine.specs.declared.place.Access.TheVariants.{Walking, Getting, Indexing, Swapping, LoadingOld}
 use Rattle.core_machine.specs.table.Layout.{at, spine_place}
 use Rattle.core_machine.specs.table.Decode.{head_of, link_of, payload_in}
+use Rattle.core_machine.specs.table.Newborn.{spine_word}
 use Rattle.core_machine.specs.seat.Access.{has_barrier_of, way_place_of, after_link, after_walk, at_access}
 use Rattle.core_machine.specs.seat.Commands.{field_of}
 use Rattle.core_machine.specs.seat.Seat.{Seat}
@@ -22,8 +23,8 @@ use Rattle.core_machine.proofs.seat_lemmas.FieldPlaces.{field_cases}
 use Rattle.core_rule.specs.Book.{fragment_at}
 use Rattle.core_rule.specs.ControlWords.{Bits}
 use Rattle.core_rule.specs.Objects.{AreMade, Objects, node_at}
-use Rattle.core_rule.specs.Owners.{Owner}
-use Rattle.core_rule.specs.Spines.{IsWordOf}
+use Rattle.core_rule.specs.Owners.{Owner, SpineOwner}
+use Rattle.core_rule.specs.Replicas.{AddressStands}
 use Rattle.core_rule.specs.Ways.{Finds, Locates, LoadedKept, OldKept, AccessStands}
 use Rattle.core_rule.proofs.ways.KeptWords.{link_ahead, payload_found}
 use Rattle.core_rule.proofs.ways.Rows.{array_word}
@@ -113,15 +114,27 @@ module _ (heap : Heap) (words : List ℕ) (g : Graph) (made : List Id) (owner : 
   pub word_ahead : (seat : Seat) (locates : Locates (node_at g made) made owner fragments seat) → field_of seat.command / 4 < spine_words_of (node_at g made locates.index)
   word_ahead seat locates = array_word (node_at g made locates.index) (field_of seat.command) locates.an_array locates.within
 
-  -- by that its fragment is found, where the word is its spine's
-  pub payload_reached : (seat : Seat) (locates : Locates (node_at g made) made owner fragments seat)
-      → IsWordOf (spines locates.index) seat.address.half (seat.address.offset + field_of seat.command / 4) (field_of seat.command / 4)
-      → payload_in (at heap words (spine_place seat.address (field_of seat.command / 4))) ≡ fragment_at (fragments locates.index) (field_of seat.command / 4 + 1)
-  payload_reached seat locates its = rw (its.half_is, its.offset_is)
-      (payload_found heap words g made owner fragments limits bits ids objects locates.index locates.way.below locates.way.kept (field_of seat.command / 4) (word_ahead seat locates)).1
+  -- the word that a call is about to load names its cell's fragment
+  abbrev pub NamesCell : (seat : Seat) → Locates (node_at g made) made owner fragments seat → Type 0
+  NamesCell seat locates = at heap words (spine_place seat.address (field_of seat.command / 4)) ≡ spine_word (fragment_at (fragments locates.index) (field_of seat.command / 4 + 1))
 
-  pub finds_payload : (seat : Seat) (loaded : ℕ) (place : Access) (mine : List Entry) → seat.links ≡ 0 → (locates : Locates (node_at g made) made owner fragments seat)
-      → IsWordOf (spines locates.index) seat.address.half (seat.address.offset + field_of seat.command / 4) (field_of seat.command / 4)
+  -- so it is where the place that it loaded is the array's, or one that this has left
+  pub names_cell : (spine_owner : ℕ → ℕ → SpineOwner) (seat : Seat) (locates : Locates (node_at g made) made owner fragments seat)
+      → AddressStands heap words (node_at g made) owner fragments spines spine_owner seat (places.Access Indexing) → NamesCell seat locates
+  names_cell spine_owner seat locates address = elim (address locates.index (ap owner locates.way.here ∙ locates.way.kept)) as (λ _. NamesCell seat locates) [
+    | inl own ↦ ap (λ (s : Spot). at heap words (spine_place s (field_of seat.command / 4))) own
+        ∙ (objects.kept locates.index locates.way.below locates.way.kept).listed (field_of seat.command / 4) (word_ahead seat locates)
+    | inr left ↦ left.listed (field_of seat.command / 4) (word_ahead seat locates)
+  ]
+
+  -- by that word its fragment is found
+  pub payload_reached : (seat : Seat) (locates : Locates (node_at g made) made owner fragments seat) → NamesCell seat locates
+      → payload_in (at heap words (spine_place seat.address (field_of seat.command / 4))) ≡ fragment_at (fragments locates.index) (field_of seat.command / 4 + 1)
+  payload_reached seat locates its =
+      ap payload_in (its ∙ sym ((objects.kept locates.index locates.way.below locates.way.kept).listed (field_of seat.command / 4) (word_ahead seat locates)))
+      ∙ (payload_found heap words g made owner fragments limits bits ids objects locates.index locates.way.below locates.way.kept (field_of seat.command / 4) (word_ahead seat locates)).1
+
+  pub finds_payload : (seat : Seat) (loaded : ℕ) (place : Access) (mine : List Entry) → seat.links ≡ 0 → (locates : Locates (node_at g made) made owner fragments seat) → NamesCell seat locates
       → Finds (node_at g made) made owner fragments
       (record seat { reached = payload_in (at heap words (spine_place seat.address (field_of seat.command / 4))); loaded = loaded; place = places.Access place; mine = mine })
   finds_payload seat loaded place mine arrived locates its = record {

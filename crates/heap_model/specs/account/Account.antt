@@ -1,5 +1,5 @@
 -- The rules of space and phases that each entry keeps. Sums are compared with sums, so that nothing is cut off at 0.
-use Rattle.std.specs.Prelude.{◌≡◌, ℕ, ◌+◌, ◌*◌, ◌≤◌, Bool, List, [], ◌∷◌, ◌++◌}
+use Rattle.std.specs.Prelude.{ℕ, ◌+◌, ◌*◌, ◌≤◌, Bool, List, [], ◌∷◌, ◌++◌}
 use Rattle.heap_model.specs.Limits.{group_fragments, most_reserve}
 use Rattle.heap_model.specs.declared.heap.Heap.{Heap}
 use Rattle.heap_model.specs.declared.command.Command.{Command}
@@ -7,7 +7,7 @@ use Rattle.heap_model.specs.declared.command.Command.TheVariants as commands
 use Rattle.heap_model.specs.declared.entry.Entry.{Entry}
 use Rattle.heap_model.specs.declared.entry.Entry.TheVariants as entries
 use Rattle.heap_model.specs.graph.Legal.{IsObjectLegal}
-use Rattle.heap_model.specs.account.Space.{fragments_gained, fragments_lost, taken_of, spent_of, words_granted}
+use Rattle.heap_model.specs.account.Space.{fragments_gained, fragments_lost, taken_of, spent_of}
 use Rattle.heap_model.specs.Needs.{made_by}
 use Rattle.heap_model.specs.account.Phases.{AnswersPhase, BeginsPhase, ShowsRightly}
 use Rattle.heap_model.specs.account.Cycles.{EndsCycle}

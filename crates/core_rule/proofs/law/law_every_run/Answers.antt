@@ -1,6 +1,7 @@
 use Rattle.core_machine.proofs.machine_lemmas.Runs.{machine_after}
 use Rattle.core_rule.proofs.counts.FreeSums.{free_is_unused}
 use Rattle.core_rule.proofs.held.FreedFragments.{no_free_takes_held}
+use Rattle.core_rule.proofs.held.HeldWordLaws.{no_place_takes_held, no_copy_takes_held, each_store_is_own, each_spine_store_is_own, each_copy_store_is_own}
 use Rattle.core_rule.proofs.held.HeldFragments.{each_held_is_taken, no_claim_takes_held, each_held_is_marked}
 use Rattle.core_rule.proofs.runs.BornWords.{each_birth_has_its_colour}
 use Rattle.core_rule.proofs.runs.MarkedAnswers.{each_answer_is_marked}
@@ -56,6 +57,21 @@ returns-clause-frees c = no_free_takes_held
 
 pub returns-clause-marked : goal.returns-clause-marked
 returns-clause-marked c = each_held_is_marked
+
+pub returns-clause-places : goal.returns-clause-places
+returns-clause-places c = no_place_takes_held
+
+pub returns-clause-copies : goal.returns-clause-copies
+returns-clause-copies c = no_copy_takes_held
+
+pub returns-clause-stores : goal.returns-clause-stores
+returns-clause-stores c = each_store_is_own
+
+pub returns-clause-spine_stores : goal.returns-clause-spine_stores
+returns-clause-spine_stores c = each_spine_store_is_own
+
+pub returns-clause-copy_stores : goal.returns-clause-copy_stores
+returns-clause-copy_stores c = each_copy_store_is_own
 
 pub returns-clause-fewer : goal.returns-clause-fewer
 returns-clause-fewer c = each_turn_leaves_fewer

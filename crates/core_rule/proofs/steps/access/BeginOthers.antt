@@ -17,6 +17,7 @@ use Rattle.core_rule.specs.Book.{Book}
 use Rattle.core_rule.specs.Objects.{node_at}
 use Rattle.core_rule.specs.Registers.{HoldsValue}
 use Rattle.core_rule.specs.Rule.{Rule}
+use Rattle.core_rule.proofs.spines.NoPlaces.{away_range}
 use Rattle.core_rule.proofs.marking.CallRoots.{IsReachedNow, begin_roots}
 use Rattle.core_rule.proofs.steps.Assemble.{Keeps, seat_begins}
 use Rattle.core_rule.proofs.entries.AtRest.{seat_fits, none_awaited}
@@ -25,7 +26,7 @@ use Rattle.core_rule.proofs.hand.EmptyHand.{nothing_together, none_stored, gathe
 use Rattle.core_rule.proofs.cycle.FreshCycle.{cycle_fresh}
 use Rattle.core_rule.proofs.entries.OwnEntries.{counts_same}
 use Rattle.core_rule.proofs.entries.SeatLists.{all_told}
-use Rattle.core_rule.proofs.spines.NoneMade.{MakesNone, none_has_place, none_granted, none_unplaced, none_refused}
+use Rattle.core_rule.proofs.spines.NoneMade.{MakesNone, none_has_place, none_granted, none_placed, none_refused}
 use Rattle.core_rule.proofs.spines.SpineFrames.{spine_away}
 use Rattle.core_rule.proofs.entries.Starting.{bare_spineless, Starts, starts_other}
 
@@ -46,7 +47,7 @@ begin_others_keep heap state book number command rule here may other machine =
     = starts_other g (node_at g book.made) book.made book.owner book.fragments number heap seat command other may.served refl (λ r. (register_value g number r, holds r)) in
     let own = start.own in
     let same = own.same in
-    let bare = bare_spineless book.owner number next next.place start.bare in
+    let bare = bare_spineless number next next.place start.bare in
     let before : MakesNone old.place = rw may.idle tt in
     seat_begins heap state book number next rule here machine record {
       own = record {
@@ -55,7 +56,7 @@ begin_others_keep heap state book number command rule here may other machine =
         together = nothing_together heap next.cursor next.tried next.hand next.body (own.hand ∙ rest.empty_hand) (own.body ∙ rest.no_body);
         spine = spine_away heap state.words state.words book.spine_owner number old next (none_has_place old old.place before) bare.no_place stands.own.spine;
       };
-      names = record { registers = λ r awake. rw same.registers (holds r); way = start.way; ahead = bare.no_word book.spine_owner };
+      names = record { registers = λ r awake. rw same.registers (holds r); way = start.way; address = bare.no_address heap state.words (node_at g book.made) book.owner book.fragments book.spines book.spine_owner };
       told = record {
         list = record {
           awaited = [];
@@ -72,6 +73,7 @@ begin_others_keep heap state book number command rule here may other machine =
     }
     same.answered record {
       granted = bare.none_granted ∙ sym (none_granted old old.place before);
-      unplaced = bare.none_unplaced ∙ sym (none_unplaced old old.place before);
+      placed = λ half. bare.none_placed half ∙ sym (none_placed half old old.place before);
       refused = bare.none_refused ∙ sym (none_refused old old.place before);
+      range = away_range old next bare.no_place;
     } (λ marks roots. begin_roots (IsReachedNow heap state book) heap seat command other may.served roots.registers)

@@ -1,5 +1,5 @@
 -- Loading the spine word that names a cell's fragment keeps the rule.
-use Rattle.std.proofs.Common.{ℕ, ◌+◌, ◌/◌, [], ◌++◌, refl, sym, ap, ◌∙◌, subst}
+use Rattle.std.proofs.Common.{ℕ, ◌+◌, ◌/◌, [], ◌++◌, refl, sym, subst}
 use Rattle.heap_model.specs.account.Cycles.{graph_of}
 use Rattle.heap_model.specs.graph.Graph.{Graph}
 use Rattle.core_machine.specs.declared.place.Access.{Access}
@@ -17,14 +17,14 @@ use Rattle.core_machine.proofs.seat_lemmas.FieldPlaces.{field_cases}
 use Rattle.core_rule.specs.Counts.{Awaits}
 use Rattle.core_rule.specs.Objects.{node_at}
 use Rattle.core_rule.specs.Roots.{AtCall}
-use Rattle.core_rule.specs.Spines.{IsWordOf, WordStandsAhead}
 use Rattle.core_rule.specs.Ways.{Finds, Locates, AccessStands}
+use Rattle.core_rule.proofs.frames.SeatFrames.{AddressAt}
 use Rattle.core_rule.proofs.cycle.Unwatched.{IsUnwatched}
 use Rattle.core_rule.proofs.entries.AtRest.{seat_fits}
 use Rattle.core_rule.proofs.marking.CallRoots.{IsReachedNow, at_call, payload_comes}
 use Rattle.core_rule.proofs.steps.Assemble.{StepKeeps}
 use Rattle.core_rule.proofs.steps.access.WaySteps.{on_way, way_goes}
-use Rattle.core_rule.proofs.ways.OnwardWays.{finds_payload, payload_reached, none_old, word_ahead}
+use Rattle.core_rule.proofs.ways.OnwardWays.{finds_payload, names_cell, payload_reached, none_old, word_ahead}
 
 pub index_keeps : StepKeeps (places.Access Indexing) (λ heap number. index_move)
 index_keeps heap state book number rule here place machine =
@@ -37,9 +37,8 @@ index_keeps heap state book number rule here place machine =
     let index : ℕ = locates.index in
     let way = locates.way in
     let k : ℕ = field_of seat.command / 4 in
-    let ahead : WordStandsAhead book.owner book.spine_owner seat (places.Access Indexing) = rw place at names.ahead in
-    let its : IsWordOf (book.spines index) seat.address.half (seat.address.offset + k) k
-    = (stands.spines.back seat.address.half (seat.address.offset + k) index k (ahead index (ap book.owner way.here ∙ way.kept))).3 in
+    let address : AddressAt heap state.words book seat (places.Access Indexing) = rw place at names.address in
+    let its = names_cell heap state.words g book.made book.owner book.fragments rule.machine.limits stands.control_words stands.ids stands.objects book.spine_owner seat locates address in
     let found : ℕ = payload_in (at heap state.words (spine_place seat.address k)) in
     let to : Access = field_place_of (record seat { reached = found }) seat.command in
     let new : Seat = on_way heap state book number rule here Indexing place (λ answered. answered) (λ d r awaited. awaited) found seat.links seat.part seat.address to in
@@ -50,7 +49,7 @@ index_keeps heap state book number rule here place machine =
     way_goes heap state book number rule here Indexing place (λ answered. answered) (λ d r awaited. awaited) (spine_place seat.address k) found seat.links seat.part seat.address to
     (field_cases (λ to. Awaits g book.made book.owner book.fragments number new (places.Access to) []) seat seat.command refl (λ on. refl) (λ off. refl))
     (field_cases (λ to. AccessStands (node_at g book.made) book.made book.owner book.fragments new to) seat seat.command finds (λ on. finds) (λ off. (finds, unloaded)))
-    (field_cases (λ to. WordStandsAhead book.owner book.spine_owner new (places.Access to)) seat seat.command tt (λ on. tt) (λ off. tt))
+    (field_cases (λ to. AddressAt heap state.words book new (places.Access to)) seat seat.command tt (λ on. tt) (λ off. tt))
     (field_cases (λ to. IsUnwatched (has_barrier_of seat) to) seat seat.command tt (λ on. tt) (λ off. off))
     (λ marks roots.
     let comes : IsReachedNow heap state book found

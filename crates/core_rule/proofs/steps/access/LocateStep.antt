@@ -1,5 +1,5 @@
 -- Loading the place of an array's spine keeps the rule.
-use Rattle.std.proofs.Common.{◌≡◌, ℕ, ◌+◌, ◌/◌, refl, sym, ap, ◌∙◌, subst}
+use Rattle.std.proofs.Common.{◌≡◌, ℕ, inl, refl, sym, ap, ◌∙◌}
 use Rattle.heap_words.specs.Spot.{spot_in}
 use Rattle.heap_words.specs.declared.spot.Spot.{Spot}
 use Rattle.heap_model.specs.account.Cycles.{graph_of}
@@ -7,20 +7,19 @@ use Rattle.heap_model.specs.graph.Graph.{Graph}
 use Rattle.core_machine.specs.declared.table.address.Address.TheVariants.{Word}
 use Rattle.core_machine.specs.declared.place.Place.TheVariants as places
 use Rattle.core_machine.specs.declared.place.Access.TheVariants.{Locating, Indexing}
-use Rattle.core_machine.specs.seat.Commands.{field_of}
 use Rattle.core_machine.specs.table.Layout.{at}
 use Rattle.core_machine.specs.machine.Machine.{seat_at}
 use Rattle.core_machine.specs.seat.AccessMoves.{locate_move}
 use Rattle.core_machine.specs.seat.Seat.{Seat}
 use Rattle.core_rule.specs.Objects.{node_at}
-use Rattle.core_rule.specs.Owners.{Kept, Spined}
+use Rattle.core_rule.specs.Owners.{Kept}
 use Rattle.core_rule.specs.Ways.{Locates}
 use Rattle.core_rule.proofs.marking.CallRoots.{IsReachedNow, at_call}
 use Rattle.core_rule.proofs.objects.SpinePlaces.{spine_placed}
 use Rattle.core_rule.proofs.steps.Assemble.{StepKeeps}
 use Rattle.core_rule.proofs.steps.access.WaySteps.{way_goes}
 use Rattle.core_rule.proofs.ways.KeptWords.{spine_found}
-use Rattle.core_rule.proofs.ways.OnwardWays.{locates_at, word_ahead}
+use Rattle.core_rule.proofs.ways.OnwardWays.{locates_at}
 
 pub locate_keeps : StepKeeps (places.Access Locating) (λ heap number. locate_move)
 locate_keeps heap state book number rule here place machine =
@@ -30,17 +29,13 @@ locate_keeps heap state book number rule here place machine =
     let locates : Locates (node_at g book.made) book.made book.owner book.fragments seat = rw place at (rule.seats_stand number here).names.way in
     let index : ℕ = locates.index in
     let way = locates.way in
-    let k : ℕ = field_of seat.command / 4 in
     let found : Spot = spot_in (at heap state.words (Word seat.reached 2)) in
     let spine : found ≡ book.spines index
     = ap (λ f. spot_in (at heap state.words (Word f 2))) way.here
     ∙ spine_found heap state.words g book.made book.owner book.fragments rule.machine.limits stands.control_words stands.ids stands.objects index way.below way.kept locates.an_array
     (spine_placed rule index way.below way.kept locates.an_array) in
     let sentinel : book.owner seat.reached ≡ Kept index 0 = ap book.owner way.here ∙ way.kept in
-    let word : book.spine_owner found.half (found.offset + k) ≡ Spined index k
-    = subst (λ (s : Spot). book.spine_owner s.half (s.offset + k) ≡ Spined index k) (sym spine)
-    (stands.spines.kept index k way.below way.kept (word_ahead heap state.words g book.made book.owner book.fragments rule.machine.limits stands.control_words stands.ids stands.objects seat locates)) in
     way_goes heap state book number rule here Locating place (λ answered. answered) (λ d r awaited. awaited) (Word seat.reached 2) seat.reached seat.links seat.part found Indexing refl
     (locates_at (node_at g book.made) book.made book.owner book.fragments seat found Indexing _ locates)
-    (λ i is. let both : Kept index 0 ≡ Kept i 0 = sym sentinel ∙ is in let same : index ≡ i = cc in subst (λ n. book.spine_owner found.half (found.offset + k) ≡ Spined n k) same word)
+    (λ i is. let both : Kept index 0 ≡ Kept i 0 = sym sentinel ∙ is in let same : index ≡ i = cc in inl (spine ∙ ap book.spines same))
     tt (λ marks roots. at_call (IsReachedNow heap state book) seat Locating place roots) machine

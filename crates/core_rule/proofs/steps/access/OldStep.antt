@@ -50,12 +50,12 @@ old_keeps heap state book number rule here place machine =
     let by_head : (o : Option ℕ) → head_of found ≡ o → goal o = λ o. elim o as (λ x. head_of found ≡ x → goal x) [
       | None ↦ λ none. new_cases (λ next. IsMachine heap (loaded_state heap state number (Word seat.reached seat.part) (went seat seat.registers seat.reached seat.links seat.part seat.address found (places.Access next) seat.looks []))
           → Keeps heap state (loaded_state heap state number (Word seat.reached seat.part) (went seat seat.registers seat.reached seat.links seat.part seat.address found (places.Access next) seat.looks [])) book book.begun []) new_head
-          (λ no_new. on Swapping (λ s. refl) (λ s. tt) (at_next Swapping, unloaded Swapping none) (λ making x lead. absurd (cc (none, leads x lead)))
+          (λ no_new. on Swapping (λ s. refl) (λ words b s. tt) (at_next Swapping, unloaded Swapping none) (λ making x lead. absurd (cc (none, leads x lead)))
           (λ is_on. (none_holds (IsMarked book.colour) (head_of found) none, none_holds (IsMarked book.colour) new_head no_new)) reached)
-          (λ f some. on ShadingNew (λ s. refl) (λ s. tt) (at_next ShadingNew, unloaded ShadingNew none) (λ making x lead. absurd (cc (none, leads x lead))) (none_holds (IsMarked book.colour) (head_of found) none) reached)
+          (λ f some. on ShadingNew (λ s. refl) (λ words b s. tt) (at_next ShadingNew, unloaded ShadingNew none) (λ making x lead. absurd (cc (none, leads x lead))) (none_holds (IsMarked book.colour) (head_of found) none) reached)
       | Some f ↦ λ some.
           let head = loaded_kept heap state.words g book.made book.owner book.fragments rule.machine.limits old.control_words old.ids old.objects seat fits.0.2.arrived finds f some in
-          on ShadingOld (λ s. refl) (λ s. tt) (at_next ShadingOld, record { index = head.index; below = head.below; kept = head.kept; loads = some ∙ ap Some head.is })
+          on ShadingOld (λ s. refl) (λ words b s. tt) (at_next ShadingOld, record { index = head.index; below = head.below; kept = head.kept; loads = some ∙ ap Some head.is })
           (λ making x lead. inl (leads x lead)) tt
           (λ marks roots. (reached marks roots, some_holds (IsReachedNow heap state book) (head_of found) f some (field_comes heap state book number rule here marks (reached marks roots) fits.0.2.part_within plain f head some)))
     ] in

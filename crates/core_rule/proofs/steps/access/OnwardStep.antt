@@ -22,8 +22,8 @@ use Rattle.core_rule.specs.Roots.{IsInMarking, AtCall, OfRoots}
 use Rattle.core_rule.specs.Objects.{node_at}
 use Rattle.core_rule.specs.Registers.{IsAwaited}
 use Rattle.core_rule.specs.Rule.{Rule}
-use Rattle.core_rule.specs.Spines.{WordStandsAhead}
 use Rattle.core_rule.specs.Ways.{Finds}
+use Rattle.core_rule.proofs.frames.SeatFrames.{AddressAt}
 use Rattle.core_rule.proofs.steps.Assemble.{Keeps, StepKeeps, seat_fits}
 use Rattle.core_rule.proofs.marking.CallRoots.{IsReachedNow, at_call, link_comes}
 use Rattle.core_rule.proofs.steps.Loads.{loaded_state}
@@ -59,7 +59,7 @@ module _ (heap : Heap) (state : State) (book : Book) (number : ℕ) (rule : Rule
       way_goes heap state book number rule here from place unanswered unnamed (Word seat.reached 0) reached links part seat.address (way_place_of next)
       (way_cases (λ place. Awaits g book.made book.owner book.fragments number new (places.Access place) []) next refl refl (λ on. refl) (λ off. refl))
       (way_stands (node_at g book.made) book.made book.owner book.fragments new next unloaded finds)
-      (way_cases (λ place. WordStandsAhead book.owner book.spine_owner new (places.Access place)) next tt tt (λ on. tt) (λ off. tt))
+      (way_cases (λ place. AddressAt heap state.words book new (places.Access place)) next tt tt (λ on. tt) (λ off. tt))
       (subst (λ b. IsUnwatched b (way_place_of next)) same (way_unwatched next))
       (λ marks roots.
       let there = comes marks (reaches roots) in

@@ -10,7 +10,7 @@ use Rattle.heap_model.specs.declared.heap.Heap.{Heap}
 use Rattle.heap_model.specs.declared.id.Id.{Id}
 use Rattle.heap_model.specs.declared.reply.Reply.{Reply}
 use Rattle.heap_model.specs.declared.reply.Reply.TheVariants as replies
-use Rattle.heap_model.specs.account.Account.{KeepsSpaceBy, ButSpine}
+use Rattle.heap_model.specs.account.Account.{KeepsSpace}
 use Rattle.heap_model.specs.account.Cycles.{graph_of}
 use Rattle.heap_model.specs.account.Effects.{effect_of, no_effect}
 use Rattle.heap_model.specs.graph.Growth.{after_reply}
@@ -72,7 +72,7 @@ module _ (heap : Heap) (state : State) (book : Book) (number : ℕ) (rule : Rule
   met_keeps : (reply : Reply) → effect_of (Said number (seat_at state number).command reply) ≡ no_effect
       → after_reply (graph_of heap book.history) number (seat_at state number).command reply ≡ graph_of heap book.history
       → Accepts (graph_of heap book.history) (Said number (seat_at state number).command reply)
-      → KeepsSpaceBy ButSpine heap false book.history (Said number (seat_at state number).command reply)
+      → KeepsSpace heap false book.history (Said number (seat_at state number).command reply)
       → is_leave_of number (Said number (seat_at state number).command reply) ≡ false
       → IsMachine heap (loaded_state heap state number (Word (seat_at state number).reached 0)
       (went (seat_at state number) (seat_at state number).registers 0 0 0 no_spot 0 places.Idle (forgotten (seat_at state number).looks) (reply_entries number (seat_at state number) reply)))

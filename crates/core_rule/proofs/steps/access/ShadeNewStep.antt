@@ -51,7 +51,7 @@ shade_new_keeps heap state book number rule here place machine =
     = subst (λ x. IsBetween 2 5 p → IsBetween 2 5 seat.answered → WhileAccess (FieldStands heap state.words book.colour seat) x) place stands.cycle.flight.set in
     let was : IsBetween 1 5 p → IfSome (head_of seat.loaded) (IsMarked book.colour)
     = subst (λ x. IsBetween 1 5 p → WhileAccess (ShadedStands book.colour seat) x) place stands.cycle.flight.shaded in
-    shades_on heap state book number rule here ShadingNew place (λ answered. answered) (λ d r awaited. awaited) f head fits.1 Swapping (λ s. refl) (λ s. tt) (
+    shades_on heap state book number rule here ShadingNew place (λ answered. answered) (λ d r awaited. awaited) f head fits.1 Swapping (λ s. refl) (λ words b s. tt) (
       finds_at (node_at g book.made) book.made book.owner book.fragments seat seat.loaded Swapping (seat.mine ++ []) way.0,
       λ (some : IsSome (head_of seat.loaded)). loaded_at book.made book.owner book.fragments seat Swapping (seat.mine ++ []) (way.1 some),
     )

@@ -64,7 +64,7 @@ shade_old_keeps heap state book number rule here place machine =
     new_cases (λ next. IsMachine heap (record state { words = words_shaded heap state book number rule here f head.index head.kept head.is; seats = slice_set state.seats number (shading seat seat.shaded (places.Access next)) })
     → Keeps heap state (record state { words = words_shaded heap state book number rule here f head.index head.kept head.is; seats = slice_set state.seats number (shading seat seat.shaded (places.Access next)) }) book book.begun [])
     (register_head (new_register_of seat))
-    (λ no_new. on Swapping (λ s. refl) (λ s. tt) (at_next Swapping, kept_at Swapping) (λ making snapped. field making snapped)
+    (λ no_new. on Swapping (λ s. refl) (λ words b s. tt) (at_next Swapping, kept_at Swapping) (λ making snapped. field making snapped)
     (λ making is_on. (marked, none_holds (IsMarked coloured) (register_head (new_register_of seat)) no_new)) comes reached named)
-    (λ x some. on ShadingNew (λ s. refl) (λ s. tt) (at_next ShadingNew, kept_at ShadingNew) field (λ making. marked) comes reached named)
+    (λ x some. on ShadingNew (λ s. refl) (λ words b s. tt) (at_next ShadingNew, kept_at ShadingNew) field (λ making. marked) comes reached named)
     machine

@@ -21,8 +21,8 @@ use Rattle.core_rule.specs.Objects.{node_at}
 use Rattle.core_rule.specs.Registers.{IsAwaited}
 use Rattle.core_rule.specs.Roots.{IsInMarking, AtCall, OfRoots}
 use Rattle.core_rule.specs.Rule.{Rule}
-use Rattle.core_rule.specs.Spines.{WordStandsAhead}
 use Rattle.core_rule.specs.Ways.{AccessStands}
+use Rattle.core_rule.proofs.frames.SeatFrames.{AddressAt}
 use Rattle.core_rule.proofs.cycle.Unwatched.{IsUnwatched}
 use Rattle.core_rule.proofs.entries.InFlight.{began_on}
 use Rattle.core_rule.proofs.entries.SeatLists.{list_more}
@@ -49,18 +49,18 @@ module _ (heap : Heap) (state : State) (book : Book) (number : ℕ) (rule : Rule
   pub way_goes : (a : Address) (reached links part : ℕ) (address : Spot) (to : Access)
       → Awaits g book.made book.owner book.fragments number (on_way reached links part address to) (places.Access to) []
       → AccessStands (node_at g book.made) book.made book.owner book.fragments (on_way reached links part address to) to
-      → WordStandsAhead book.owner book.spine_owner (on_way reached links part address to) (places.Access to)
+      → AddressAt heap state.words book (on_way reached links part address to) (places.Access to)
       → IsUnwatched (has_barrier_of seat) to
       → (IsInMarking state.collector → OfRoots (IsReachedNow heap state book) seat → AtCall (IsReachedNow heap state book) (on_way reached links part address to) to)
       → IsMachine heap (loaded_state heap state number a (on_way reached links part address to))
       → Keeps heap state (loaded_state heap state number a (on_way reached links part address to)) book book.begun []
-  way_goes a reached links part address to names way ahead unwatched comes machine =
+  way_goes a reached links part address to names way right unwatched comes machine =
       let stands = rule.seats_stand number here in
       let new : Seat = on_way reached links part address to in
       load_goes heap state book number rule here a seat.registers reached links part address seat.loaded (places.Access to) seat.looks [] machine (rw place tt) tt
       (λ r unawaited. stands.names.registers r (λ awaited. unnamed (target_of seat.command) r (subst (λ p. IsAwaited p (target_of seat.command) r) place awaited)))
       (list_more g book.made book.owner book.fragments number seat book.history busy stands.told.list g book.history new [] [] [] refl refl (sym (append-nil (filter (is_of number) book.history))) names)
-      way ahead
+      way right
       (began_on book.history number (book.begun number) seat.place (places.Access to) busy stands.told.began)
       (went_cycle heap state book number rule here a seat.registers reached links part address seat.loaded (places.Access to) seat.looks [] machine unwatched)
       (λ marks roots. roots_on_way (IsReachedNow heap state book) seat new to refl refl (comes marks roots) roots)

@@ -20,11 +20,11 @@ use Rattle.core_rule.specs.Counts.{Awaits}
 use Rattle.core_rule.specs.Objects.{node_at}
 use Rattle.core_rule.specs.Registers.{HoldsValue}
 use Rattle.core_rule.specs.Rule.{Rule}
-use Rattle.core_rule.specs.Spines.{WordStandsAhead}
 use Rattle.core_rule.specs.Ways.{WayStands}
+use Rattle.core_rule.proofs.frames.SeatFrames.{AddressAt}
 use Rattle.core_rule.proofs.cycle.FreshCycle.{cycle_fresh}
 use Rattle.core_rule.proofs.entries.AtRest.{seat_fits, none_awaited}
-use Rattle.core_rule.proofs.entries.Begins.{begins, began_now}
+use Rattle.core_rule.proofs.entries.Begins.{begins, book_begun, began_now}
 use Rattle.core_rule.proofs.entries.OwnEntries.{counts_same}
 use Rattle.core_rule.proofs.entries.SeatLists.{all_told}
 use Rattle.core_rule.proofs.entries.Starting.{IsFresh}
@@ -74,7 +74,7 @@ begin_inner_keeps heap state book number inner rule here may machine =
         together = nothing_together heap next.cursor next.tried next.hand next.body rest.empty_hand rest.no_body;
         spine = spine_away heap state.words state.words book.spine_owner number old next (none_has_place old old.place before) (none_has_place next next.place (makes_none inner)) stands.own.spine;
       };
-      names = record { registers = λ r awake. holds r; way = way_stands inner; ahead = ahead inner };
+      names = record { registers = λ r awake. holds r; way = way_stands inner; address = address inner };
       told = record {
         list = record {
           awaited = [];
@@ -97,11 +97,11 @@ begin_inner_keeps heap state book number inner rule here may machine =
     way_stands (Behind other) = tt
     way_stands (Note reply) = tt
 
-    ahead : (its : Inner) → WordStandsAhead book.owner book.spine_owner (after_inner_begin (seat_at state number) inner) (inner_place its)
-    ahead Look = tt
-    ahead Answer = tt
-    ahead (Behind other) = tt
-    ahead (Note reply) = tt
+    address : (its : Inner) → AddressAt heap state.words (book_begun heap state.words book number) (after_inner_begin (seat_at state number) inner) (inner_place its)
+    address Look = tt
+    address Answer = tt
+    address (Behind other) = tt
+    address (Note reply) = tt
 
     none_awaits : (its : Inner) → Awaits (graph_of heap book.history) book.made book.owner book.fragments number (after_inner_begin (seat_at state number) inner) (inner_place its) []
     none_awaits Look = refl

@@ -1,27 +1,40 @@
 -- The begin of the next phase of a cycle keeps the rule.
-use Rattle.std.proofs.Common.{◌≡◌, ◌≢◌, ℕ, ◌+◌, ◌*◌, ◌%◌, refl, ap, ◌∙◌, subst, arith, inl, inr, false}
+use Rattle.std.proofs.Common.{◌≡◌, ◌≢◌, ℕ, ◌+◌, ◌*◌, ◌%◌, ◌<◌, List, length, refl, sym, ap, ◌∙◌, subst, arith, inl, inr, Bool, true, false}
 use Rattle.std.proofs.lemmas.Bool.{cases_lt}
 use Rattle.std.proofs.lemmas.Bool.Decides.{eqb_tells}
 use Rattle.heap_model.specs.declared.entry.Entry.TheVariants.{Advance}
 use Rattle.heap_model.specs.declared.heap.Heap.{Heap}
+use Rattle.heap_model.specs.account.Cycles.{graph_of}
 use Rattle.heap_model.specs.account.PhaseCounts.{phase}
+use Rattle.heap_model.specs.graph.Graph.{Graph, Node}
+use Rattle.core_machine.specs.collector.Collector.{turn_at}
 use Rattle.core_machine.specs.declared.collector.stage.Stage.TheVariants as stages
 use Rattle.core_machine.specs.collector.FitsTurns.{FitsStage, HasLooked}
-use Rattle.core_machine.specs.machine.Machine.{State}
-use Rattle.core_rule.specs.Book.{Book}
+use Rattle.core_machine.specs.machine.Machine.{State, seat_at}
+use Rattle.core_rule.specs.Book.{Book, fragment_at}
+use Rattle.core_rule.specs.Budgets.{nodes_in}
 use Rattle.core_rule.specs.Marking.{MarkingStands, AfterMarking}
-use Rattle.core_rule.specs.Sweep.{SweepStands, IsSettled}
-use Rattle.core_rule.specs.Owners.{Dead}
-use Rattle.core_rule.specs.Rule.{Rule}
+use Rattle.core_rule.specs.Sweep.{SweepStands, HasMarked, IsSettled}
+use Rattle.core_rule.specs.Objects.{IsKept, node_at}
+use Rattle.core_rule.specs.Owners.{Dead, SpineOwner}
+use Rattle.core_rule.specs.Replicas.{AddressStands}
+use Rattle.core_rule.specs.Rule.{Rule, HeapStands, SeatStands}
+use Rattle.core_rule.specs.Spines.{HasPlace, next_spine}
 use Rattle.core_rule.proofs.cycle.NextPhase.{coloured_next}
 use Rattle.core_rule.proofs.entries.Legality.{legal_more, keeps_begins}
-use Rattle.core_rule.proofs.steps.TurnSteps.{StageKeeps}
-use Rattle.core_rule.proofs.steps.collector.PhaseTurn.{BeginsNext, words_next, leads_next, all_answer, next_told, phase_turns}
+use Rattle.core_rule.proofs.entries.AtRest.{seat_fits}
+use Rattle.core_rule.proofs.marking.Marks.{all_answered}
+use Rattle.core_rule.proofs.spines.Leaving.{has_place_present}
+use Rattle.core_rule.proofs.spines.LeftHalf.{let_go, spines_let_go, hand_let_go, address_let_go}
+use Rattle.core_rule.proofs.spines.PhaseSpaces.{EndsPhase, lets_other}
+use Rattle.core_rule.proofs.steps.TurnSteps.{StageKeeps, TurnKeeps}
+use Rattle.core_rule.proofs.steps.collector.PhaseTurn.{BeginsNext, MayLetGo, words_next, later, graph, leads_next, all_answer, next_told, all_stay, phase_turns}
 
-advance_begins : (p : ℕ) → BeginsNext (Advance p)
-advance_begins p = record {
+pub advance_begins : (now : ℕ) → BeginsNext now (Advance (now + 1))
+advance_begins now = record {
   phases = refl;
-  uses = record { taken = refl; given = refl; freed = refl; words = refl; returned = refl };
+  uses = record { taken = refl; given = refl; freed = refl };
+  spines = record { begins = refl; anew = λ rests. let first : (now + 1) % 7 ≡ 1 = omega (arith, rests) in rw first refl; granted = refl; returned = refl };
   answers = refl;
   nobodys = λ r. refl;
   no_leave = λ r. refl;
@@ -62,14 +75,14 @@ module _ (heap : Heap) (state : State) (book : Book) (rule : Rule heap state boo
 
   after_then : IsSettled (p + 1) stages.Looking → AfterMarking book.owner book.colour
   after_then settled = elim settled [
-    | inl marked ↦ absurd (cc (marked.1))
+    | inl marked ↦ absurd marked.1
     | inr later ↦ elim later [
-      | inl copies ↦ rule.marks_stand.heap_marks.after (inl (omega (arith, copies), advancing))
+      | inl copies ↦ rule.marks_stand.heap_marks.after (inl (omega (arith, copies), subst HasMarked (sym advancing) tt))
       | inr sweeps ↦ rule.marks_stand.heap_marks.after (inr (inl (omega (arith, sweeps))))
     ]
   ]
 
-  marks_then : MarkingStands heap (words_next heap state book rule has_looked.all (Advance (p + 1)) (advance_begins (p + 1))) book.owner book.colour book.fragments (p + 1) stages.Looking
+  marks_then : MarkingStands heap (words_next heap state book rule has_looked.all (Advance (p + 1)) (advance_begins p)) book.owner book.colour book.fragments (p + 1) stages.Looking
   marks_then = record {
     grey = rule.marks_stand.heap_marks.grey;
     scan = tt;
@@ -80,16 +93,116 @@ module _ (heap : Heap) (state : State) (book : Book) (rule : Rule heap state boo
     after = after_then;
   }
 
+  -- nothing is copied or returned then
+  ends_phase : EndsPhase p state.collector.stage
+  ends_phase = rw advancing record { idle = tt; flipped = λ third. refl; waits = λ f third. third }
+
+  -- so the rule is kept, with these owners of spine words
+  keeps_with : (spine_owner : ℕ → ℕ → SpineOwner) → MayLetGo heap state book rule has_looked.all (Advance (p + 1)) (advance_begins p) spine_owner → TurnKeeps heap state book (turn_at heap state.collector stages.Advancing)
+  keeps_with spine_owner may machine =
+      let all = has_looked.all in
+      let begins = advance_begins p in
+      phase_turns heap state book rule all (Advance (p + 1)) begins spine_owner may
+      (legal_more heap false book.history (Advance (p + 1)) rule.heap_stands.legal tt
+      (keeps_begins heap false book.history (p + 1)
+      (next_told heap state book rule all (Advance (p + 1)) begins, (λ whole. omega (arith, whole, has_looked.goes_on)), all_answer heap state book rule all (Advance (p + 1)) begins)))
+      (coloured_next heap state.words (words_next heap state book rule all (Advance (p + 1)) begins) book.owner book.colour book.fragments (phase book.history) within
+      (leads_next heap state book rule all (Advance (p + 1)) begins) rule.heap_stands.cycle.coloured)
+      marks_then machine
+
+  module _ (swept : p % 7 ≡ 5) where
+    abbrev half : ℕ
+    half = (next_spine heap state.words).half
+
+    -- a seat that hasn't left has answered the sweep
+    answered_sweep : (r : ℕ) → r < heap.seats → (seat_at state r).left ≡ false → (seat_at state r).answered % 7 ≡ 5
+    answered_sweep r below present = ap (λ n. n % 7) (all_answered heap state book rule has_looked.all r below present) ∙ swept
+
+    placed_answered : (r : ℕ) → r < heap.seats → HasPlace (seat_at state r) (seat_at state r).place → (seat_at state r).answered % 7 ≡ 5
+    placed_answered r below has = answered_sweep r below (has_place_present heap (seat_at state r) (seat_fits rule r below) has)
+
+    -- so its spine stands in the half of the next one, and so do those of arrays
+    hand_here : (r : ℕ) → r < heap.seats → HasPlace (seat_at state r) (seat_at state r).place → (seat_at state r).spine.half ≡ half
+    hand_here r below has = elim (rule.space.halves.hands r below has) as (λ _. (seat_at state r).spine.half ≡ half) [
+      | inl here ↦ here
+      | inr early ↦ let fifth = placed_answered r below has in let third = early.behind in absurd (omega (arith, fifth, third))
+    ]
+
+    array_here : (i : ℕ) → i < length book.made → IsKept book.owner book.fragments i → (nodes_in heap book i).array ≡ true → (book.spines i).half ≡ half
+    array_here i below kept kind = elim (rule.space.halves.arrays i below kept kind) as (λ _. (book.spines i).half ≡ half) [
+      | inl here ↦ here
+      | inr waits ↦ let third = ends_phase.waits (fragment_at (book.fragments i) 0) waits in absurd (omega (arith, third, swept))
+    ]
+
+    abbrev begins : BeginsNext p (Advance (p + 1))
+    begins = advance_begins p
+
+    abbrev words : List ℕ
+    words = words_next heap state book rule has_looked.all (Advance (p + 1)) begins
+
+    abbrev told : Book
+    told = later heap state book rule has_looked.all (Advance (p + 1)) begins
+
+    abbrev nodes : ℕ → Node
+    nodes = nodes_in heap told
+
+    same_graph : graph_of heap told.history ≡ graph_of heap book.history
+    same_graph = graph heap state book rule has_looked.all (Advance (p + 1)) begins
+
+    abbrev lets : ℕ → ℕ → SpineOwner
+    lets = let_go half book.spine_owner
+
+    heap_lets : HeapStands heap words told → HeapStands heap words (record told { spine_owner = lets })
+    heap_lets stands = record {
+      control_words = stands.control_words;
+      owners = stands.owners;
+      ids = stands.ids;
+      objects = stands.objects;
+      spines = spines_let_go half book.spine_owner heap words heap.seats (length book.made) nodes book.owner book.fragments book.spines
+          (λ i below kept kind. array_here i below kept (ap (λ (g : Graph). (node_at g book.made i).array) (sym same_graph) ∙ kind)) stands.spines;
+      used = stands.used;
+      cycle = stands.cycle;
+      legal = stands.legal;
+    }
+
+    -- a call that has loaded the place of a spine is one of a seat that has answered the sweep
+    address_lets : (r : ℕ) → r < heap.seats → AddressStands heap words nodes book.owner book.fragments book.spines book.spine_owner (seat_at state r) (seat_at state r).place
+        → AddressStands heap words nodes book.owner book.fragments book.spines lets (seat_at state r) (seat_at state r).place
+    address_lets r below stands = by (seat_at state r).left refl
+      where
+        by : (left : Bool) → (seat_at state r).left ≡ left → AddressStands heap words nodes book.owner book.fragments book.spines lets (seat_at state r) (seat_at state r).place
+        by true gone = subst (AddressStands heap words nodes book.owner book.fragments book.spines lets (seat_at state r)) (sym ((seat_fits rule r below).gone gone).idle) tt
+        by false present = address_let_go half book.spine_owner heap words nodes book.owner book.fragments book.spines (seat_at state r) (seat_at state r).place
+            (λ late. let upto = late.upto in absurd (omega (arith, upto, answered_sweep r below present))) stands
+
+    seat_lets : (r : ℕ) → r < heap.seats → SeatStands heap words told r (seat_at state r) → SeatStands heap words (record told { spine_owner = lets }) r (seat_at state r)
+    seat_lets r below stands = record {
+      own = record {
+        holding = stands.own.holding;
+        stored = stands.own.stored;
+        together = stands.own.together;
+        spine = hand_let_go half book.spine_owner heap words r (seat_at state r) (hand_here r below) stands.own.spine;
+      };
+      names = record { registers = stands.names.registers; way = stands.names.way; address = address_lets r below stands.names.address };
+      told = stands.told;
+      cycle = stands.cycle;
+    }
+
+    -- the half that was left may be let go
+    may_let_go : MayLetGo heap state book rule has_looked.all (Advance (p + 1)) begins lets
+    may_let_go = record {
+      ends = ends_phase;
+      lets = lets_other half p book.spine_owner;
+      alive = all_freed;
+      answered = λ fifth. placed_answered;
+      heap_lets = heap_lets;
+      seat_lets = seat_lets;
+    }
+
 -- the begin of the next phase keeps the rule
 pub advance_keeps : StageKeeps stages.Advancing
-advance_keeps heap state book rule advancing machine =
-    let looked = has_looked heap state book rule advancing in
-    let next : ℕ = state.collector.phase + 1 in
-    let begins = advance_begins next in
-    phase_turns heap state book rule looked.all (Advance next) begins
-    (legal_more heap false book.history (Advance next) rule.heap_stands.legal tt
-    (keeps_begins heap false book.history next
-    (next_told heap state book rule looked.all (Advance next) begins, (λ whole. omega (arith, whole, looked.goes_on)), all_answer heap state book rule looked.all (Advance next) begins)))
-    (coloured_next heap state.words (words_next heap state book rule looked.all (Advance next) begins) book.owner book.colour book.fragments (phase book.history) (within heap state book rule advancing)
-    (leads_next heap state book rule looked.all (Advance next) begins) rule.heap_stands.cycle.coloured)
-    (marks_then heap state book rule advancing) machine
+advance_keeps heap state book rule advancing = elim (eqb_tells (state.collector.phase % 7) 5) as (λ _. TurnKeeps heap state book (turn_at heap state.collector stages.Advancing)) [
+  | inl swept ↦ keeps_with heap state book rule advancing _ (may_let_go heap state book rule advancing swept.1)
+  | inr other ↦ keeps_with heap state book rule advancing book.spine_owner
+      (all_stay heap state book rule (has_looked heap state book rule advancing).all _ (advance_begins state.collector.phase) (ends_phase heap state book rule advancing) other.1)
+]

@@ -21,6 +21,7 @@ use Rattle.core_rule.proofs.colours.OneBit.{bits_marked}
 use Rattle.core_rule.proofs.colours.BlackenColours.{with_scan, scan_away, scan_keeps, scan_was, scan_grey, marks_blacken, coloured_blacken}
 use Rattle.core_rule.proofs.colours.LeadsFrames.{control_leads}
 use Rattle.core_rule.proofs.frames.Recoloured.{Recolours}
+use Rattle.core_rule.specs.Sweep.{HasMarked}
 use Rattle.core_rule.proofs.marking.Marks.{marks_at, none_dead}
 use Rattle.core_rule.proofs.marking.Paths.{path_stays}
 use Rattle.core_rule.proofs.steps.collector.ColourTurn.{colour_turns}
@@ -75,11 +76,11 @@ module _ (heap : Heap) (state : State) (book : Book) (rule : Rule heap state boo
       ]
 
   marks : MarkingStands heap words book.owner coloured book.fragments state.collector.phase (stages.Passing (f / 16) true)
-  marks = marks_at heap words book.owner coloured book.fragments state.collector.phase (stages.Passing (f / 16) true) fits.marks.for_marking (λ e. cc)
-      (λ x grey. rule.marks_stand.heap_marks.grey x (scan_grey book.colour f x grey)) tt tt tt tt (none_dead heap state book rule fits.marks.for_marking (λ ended. absurd (cc (blackening, ended))))
+  marks = marks_at heap words book.owner coloured book.fragments state.collector.phase (stages.Passing (f / 16) true) fits.marks.for_marking tt
+      (λ x grey. rule.marks_stand.heap_marks.grey x (scan_grey book.colour f x grey)) tt tt tt tt (none_dead heap state book rule fits.marks.for_marking (subst HasMarked blackening))
 
 pub blacken_keeps : (scan : Scan) → StageKeeps (stages.Blackening scan)
 blacken_keeps scan heap state book rule blackening machine =
     colour_turns heap state book rule (stages.Blackening scan) (stages.Passing (scan.fragment / 16) true) blackening (scan.fragment / 16) _ (below heap state book rule scan blackening)
-    (with_scan book.colour scan.fragment) (new heap state book rule scan blackening) machine (marks heap state book rule scan blackening) (λ e. cc) (comes heap state book rule scan blackening)
+    (with_scan book.colour scan.fragment) (new heap state book rule scan blackening) machine (marks heap state book rule scan blackening) tt tt (comes heap state book rule scan blackening)
     (λ x i k owned before marked. inl (scan_was book.colour scan.fragment (seen heap state book rule scan blackening).grey x marked))

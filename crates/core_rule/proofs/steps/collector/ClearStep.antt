@@ -18,8 +18,11 @@ use Rattle.core_rule.proofs.footprint.BookGoing.{colours_go}
 use Rattle.core_rule.proofs.frames.Clearing.{words_cleared, book_cleared, leaves_spines, heap_cleared, seat_cleared}
 use Rattle.core_rule.proofs.marking.Marks.{settled_phase}
 use Rattle.core_rule.proofs.marking.SweepMarks.{after_cleared_either}
+use Rattle.core_rule.proofs.spines.BudgetFrames.{grants_same}
+use Rattle.core_rule.proofs.spines.HalvesFrames.{IsPlain}
+use Rattle.core_rule.proofs.spines.StagesOn.{plain_goes_on}
 use Rattle.core_rule.proofs.steps.collector.ColourTurn.{at_stage, agrees_at}
-use Rattle.core_rule.proofs.steps.TurnSteps.{StageKeeps, quiet, turn_steps, turn_budgets}
+use Rattle.core_rule.proofs.steps.TurnSteps.{StageKeeps, quiet, turn_steps, turn_space}
 use Rattle.core_rule.proofs.words.SweepWords.{cleared_further, cleared_grey, cleared_in, cleared_was}
 
 module _ (heap : Heap) (state : State) (book : Book) (rule : Rule heap state book) (group kept : ℕ) (clearing : state.collector.stage ≡ stages.Clearing group kept) where
@@ -68,8 +71,10 @@ pub clear_keeps : (group kept : ℕ) → StageKeeps (stages.Clearing group kept)
 clear_keeps group kept heap state book rule clearing machine =
     let fits = fits heap state book rule group kept clearing in
     let last = last heap state book rule group kept clearing in
+    let words : List ℕ = words_cleared heap state book rule group fits.group_within in
+    let now : Book = book_cleared heap state book rule group fits.group_within in
     let stage : Stage = after_cleared heap group (kept + taken_count_of (at heap state.words (Control group))) in
-    turn_steps heap state book (words_cleared heap state book rule group fits.group_within) (quiet (at_stage state.collector stage)) (book_cleared heap state book rule group fits.group_within) [] rule machine
+    turn_steps heap state book words (quiet (at_stage state.collector stage)) now [] rule machine
     (sym (append-nil book.history))
     (heap_cleared heap state book rule group fits.group_within last)
     (seat_cleared heap state book rule group fits.group_within last fits.all)
@@ -78,6 +83,7 @@ clear_keeps group kept heap state book rule clearing machine =
       heap_marks = marks heap state book rule group kept clearing (kept + taken_count_of (at heap state.words (Control group)));
       roots = λ r below is. absurd (omega (arith, is.phase, fits.for_clearing));
     }
-    (turn_budgets heap state book rule (words_cleared heap state book rule group fits.group_within) (quiet (at_stage state.collector stage)) (book_cleared heap state book rule group fits.group_within)
-    (leaves_spines heap state book rule group fits.group_within) record { told = refl; returned = refl; kept = refl; gone = refl })
+    (turn_space heap state book rule words (quiet (at_stage state.collector stage)) now (leaves_spines heap state book rule group fits.group_within) (grants_same heap book (cleared_in group book.colour) book.begun)
+    (plain_goes_on heap state.words words now state.collector (quiet (at_stage state.collector stage)) refl (subst IsPlain (sym clearing) tt)
+    (after_cleared_either IsPlain heap group (kept + taken_count_of (at heap state.words (Control group))) tt (λ all. tt)) (leaves_spines heap state book rule group fits.group_within).spines rule.space.halves.copy))
     (colours_go heap state book (cleared_in group book.colour) (λ f i k owned below marked. inl (cleared_was group book.colour f marked)))

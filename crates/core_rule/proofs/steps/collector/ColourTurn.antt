@@ -1,10 +1,9 @@
 -- A turn of the collector that colours a fragment keeps the rule.
-use Rattle.std.proofs.Common.{◌≡◌, ◌≢◌, ℕ, ◌<◌, List, [], refl, sym, ◌∙◌}
+use Rattle.std.proofs.Common.{◌≡◌, ℕ, ◌<◌, List, [], refl, sym, subst}
 use Rattle.std.proofs.lemmas.List.{append-nil}
 use Rattle.heap_model.specs.declared.heap.Heap.{Heap}
 use Rattle.core_machine.specs.collector.Collector.{Collector}
 use Rattle.core_machine.specs.declared.collector.stage.Stage.{Stage}
-use Rattle.core_machine.specs.declared.collector.stage.Stage.TheVariants as stages
 use Rattle.core_machine.specs.declared.table.address.Address.{Address}
 use Rattle.core_machine.specs.declared.table.address.Address.TheVariants.{Control}
 use Rattle.core_machine.specs.machine.Machine.{State, seat_at}
@@ -16,11 +15,16 @@ use Rattle.core_rule.specs.Roots.{RootsAreReached}
 use Rattle.core_rule.specs.Paths.{IsReached}
 use Rattle.core_rule.specs.Phases.{CollectorAgrees}
 use Rattle.core_rule.specs.Rule.{Rule}
+use Rattle.core_rule.specs.Sweep.{HasMarked}
 use Rattle.core_rule.proofs.footprint.BookGoing.{ColoursGoOn, colours_go}
 use Rattle.core_rule.proofs.frames.Recoloured.{Recolours, leaves_spines, heap_recoloured, seat_recoloured}
+use Rattle.core_rule.proofs.marking.MarkingStages.{OfMarking, marking_goes, marking_plain}
 use Rattle.core_rule.proofs.marking.Marks.{roots_more}
+use Rattle.core_rule.proofs.spines.BudgetFrames.{grants_same}
+use Rattle.core_rule.proofs.spines.HalvesFrames.{StageGoesOn, IsPlain}
+use Rattle.core_rule.proofs.spines.StagesOn.{plain_goes_on}
 use Rattle.core_rule.proofs.steps.Assemble.{Keeps}
-use Rattle.core_rule.proofs.steps.TurnSteps.{after_turn, quiet, turn_steps, turn_budgets, load_turns}
+use Rattle.core_rule.proofs.steps.TurnSteps.{after_turn, quiet, turn_steps, turn_space, load_turns}
 
 -- the collector at another stage
 abbrev pub at_stage : Collector → Stage → Collector
@@ -34,37 +38,47 @@ agrees_at heap state book rule stage =
 
 module _ (heap : Heap) (state : State) (book : Book) (rule : Rule heap state book) (from stage : Stage) (was : state.collector.stage ≡ from) where
   -- until marking has ended a stage leads on to another one, and each root that was reached is
-  pub roots_at : (words : List ℕ) (coloured : ℕ → Colour) → from ≢ stages.Advancing
+  pub roots_at : (words : List ℕ) (coloured : ℕ → Colour) → ¬ HasMarked from
       → ((f : ℕ) → IsReached heap state.words book.owner book.colour f → IsReached heap words book.owner coloured f)
       → (r : ℕ) → r < heap.seats → RootsAreReached heap words book.owner coloured (quiet (at_stage state.collector stage)) (seat_at state r)
   roots_at words coloured goes reached r below marks answered =
       roots_more (IsReached heap state.words book.owner book.colour) (IsReached heap words book.owner coloured) reached (seat_at state r)
-      (rule.marks_stand.roots r below record { phase = marks.phase; goes_on = λ ended. goes (sym was ∙ ended) } answered)
+      (rule.marks_stand.roots r below record { phase = marks.phase; goes_on = λ ended. goes (subst HasMarked was ended) } answered)
 
   -- a turn that colours
   pub colour_turns : (g n : ℕ) (below : g < heap.groups) (coloured : ℕ → Colour) → Recolours heap (put heap state.words (Control g) n) book coloured
       → IsMachine heap (after_turn state (put heap state.words (Control g) n) (quiet (at_stage state.collector stage)))
       → MarkingStands heap (put heap state.words (Control g) n) book.owner coloured book.fragments state.collector.phase stage
-      → from ≢ stages.Advancing
+      → OfMarking from → OfMarking stage
       → ((f : ℕ) → IsReached heap state.words book.owner book.colour f → IsReached heap (put heap state.words (Control g) n) book.owner coloured f)
       → ColoursGoOn heap state book book.owner coloured
       → Keeps heap state (after_turn state (put heap state.words (Control g) n) (quiet (at_stage state.collector stage))) book book.begun []
-  colour_turns g n below coloured new machine marks goes reached named =
+  colour_turns g n below coloured new machine marks before after reached named =
       turn_steps heap state book (put heap state.words (Control g) n) (quiet (at_stage state.collector stage)) (record book { colour = coloured }) [] rule machine (sym (append-nil book.history))
       (heap_recoloured heap state book rule g n below coloured new) (λ r less stands. seat_recoloured heap state book rule g n below coloured new r less stands)
       (agrees_at heap state book rule stage)
-      record { heap_marks = marks; roots = roots_at (put heap state.words (Control g) n) coloured goes reached }
-      (turn_budgets heap state book rule (put heap state.words (Control g) n) (quiet (at_stage state.collector stage)) (record book { colour = coloured })
-      (leaves_spines heap state book rule g n below coloured new) record { told = refl; returned = refl; kept = refl; gone = refl })
+      record { heap_marks = marks; roots = roots_at (put heap state.words (Control g) n) coloured (marking_goes from before) reached }
+      (turn_space heap state book rule (put heap state.words (Control g) n) (quiet (at_stage state.collector stage)) (record book { colour = coloured })
+      (leaves_spines heap state book rule g n below coloured new) (grants_same heap book coloured book.begun)
+      (plain_goes_on heap state.words (put heap state.words (Control g) n) (record book { colour = coloured }) state.collector (quiet (at_stage state.collector stage)) refl
+      (subst IsPlain (sym was) (marking_plain from before)) (marking_plain stage after) (leaves_spines heap state book rule g n below coloured new).spines rule.space.halves.copy))
       (colours_go heap state book coloured named)
 
   -- a turn that loads
   pub load_turns_on : (a : Address) → IsMachine heap (after_turn state (put heap state.words a (at heap state.words a)) (quiet (at_stage state.collector stage)))
-      → MarkingStands heap state.words book.owner book.colour book.fragments state.collector.phase stage → from ≢ stages.Advancing
+      → MarkingStands heap state.words book.owner book.colour book.fragments state.collector.phase stage → ¬ HasMarked from → StageGoesOn heap state.words book state.collector (at_stage state.collector stage)
       → Keeps heap state (after_turn state (put heap state.words a (at heap state.words a)) (quiet (at_stage state.collector stage))) book book.begun []
-  load_turns_on a machine marks goes =
+  load_turns_on a machine marks goes on =
       load_turns heap state book a (at_stage state.collector stage) rule machine record { log = rule.collector_stands.log; phase_told = rule.collector_stands.phase_told; looked = rule.collector_stands.looked }
       record {
         heap_marks = marks;
-        roots = λ r below is_marking answered. rule.marks_stand.roots r below record { phase = is_marking.phase; goes_on = λ ended. goes (sym was ∙ ended) } answered;
-      }
+        roots = λ r below is_marking answered. rule.marks_stand.roots r below record { phase = is_marking.phase; goes_on = λ ended. goes (subst HasMarked was ended) } answered;
+      } on
+
+  -- one that loads and leads from a stage of marking to another
+  pub marking_loads : (a : Address) → IsMachine heap (after_turn state (put heap state.words a (at heap state.words a)) (quiet (at_stage state.collector stage)))
+      → MarkingStands heap state.words book.owner book.colour book.fragments state.collector.phase stage → OfMarking from → OfMarking stage
+      → Keeps heap state (after_turn state (put heap state.words a (at heap state.words a)) (quiet (at_stage state.collector stage))) book book.begun []
+  marking_loads a machine marks before after = load_turns_on a machine marks (marking_goes from before)
+      (plain_goes_on heap state.words state.words book state.collector (at_stage state.collector stage) refl (subst IsPlain (sym was) (marking_plain from before)) (marking_plain stage after)
+      (λ half offset. refl) rule.space.halves.copy)

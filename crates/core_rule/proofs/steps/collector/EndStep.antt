@@ -4,7 +4,7 @@ use Rattle.std.proofs.lemmas.Bool.{cases_lt}
 use Rattle.heap_model.specs.declared.entry.Entry.{Entry}
 use Rattle.heap_model.specs.declared.entry.Entry.TheVariants.{Ends}
 use Rattle.heap_model.specs.declared.heap.Heap.{Heap}
-use Rattle.heap_model.specs.account.Cycles.{EndsCycleBy, ButSpine}
+use Rattle.heap_model.specs.account.Cycles.{EndsCycle}
 use Rattle.heap_model.specs.account.PhaseCounts.{phase}
 use Rattle.core_machine.specs.declared.collector.stage.Stage.TheVariants as stages
 use Rattle.core_machine.specs.collector.Collector.{turn_at}
@@ -17,13 +17,15 @@ use Rattle.core_rule.specs.Rule.{Rule}
 use Rattle.core_rule.specs.Sweep.{SweepStands, IsSettled}
 use Rattle.core_rule.proofs.cycle.NextPhase.{coloured_rest}
 use Rattle.core_rule.proofs.entries.Legality.{legal_more, keeps_ends}
+use Rattle.core_rule.proofs.spines.PhaseSpaces.{EndsPhase}
 use Rattle.core_rule.proofs.steps.TurnSteps.{TurnKeeps}
-use Rattle.core_rule.proofs.steps.collector.PhaseTurn.{BeginsNext, words_next, phase_turns}
+use Rattle.core_rule.proofs.steps.collector.PhaseTurn.{BeginsNext, words_next, all_stay, phase_turns}
 
-end_begins : (cycle kept : ℕ) → BeginsNext (Ends cycle kept)
-end_begins cycle kept = record {
+end_begins : (now cycle kept : ℕ) → now % 7 ≡ 6 → BeginsNext now (Ends cycle kept)
+end_begins now cycle kept last = record {
   phases = refl;
-  uses = record { taken = refl; given = refl; freed = refl; words = refl; returned = refl };
+  uses = record { taken = refl; given = refl; freed = refl };
+  spines = record { begins = refl; anew = λ rests. absurd (omega (arith, rests, last)); granted = refl; returned = refl };
   answers = refl;
   nobodys = λ r. refl;
   no_leave = λ r. refl;
@@ -44,6 +46,10 @@ module _ (kept : ℕ) (heap : Heap) (state : State) (book : Book) (rule : Rule h
   -- it is the last phase of a cycle
   last : phase book.history % 7 ≡ 6
   last = ap (λ n. n % 7) (sym rule.collector_stands.phase_told) ∙ has_cleared.for_clearing
+
+  -- nothing is copied or returned then
+  ends_phase : EndsPhase p state.collector.stage
+  ends_phase = rw ending record { idle = tt; flipped = λ third. absurd (omega (arith, third, has_cleared.for_clearing)); waits = λ f waits. absurd waits }
 
   -- every group is cleared
   all_white : (f : ℕ) → book.colour f ≡ White
@@ -72,7 +78,7 @@ module _ (kept : ℕ) (heap : Heap) (state : State) (book : Book) (rule : Rule h
     ]
   ]
 
-  marks_then : MarkingStands heap (words_next heap state book rule has_cleared.all entry (end_begins (p / 7) kept)) book.owner book.colour book.fragments (p + 1) stages.Looking
+  marks_then : MarkingStands heap (words_next heap state book rule has_cleared.all entry (end_begins p (p / 7) kept has_cleared.for_clearing)) book.owner book.colour book.fragments (p + 1) stages.Looking
   marks_then = record {
     grey = rule.marks_stand.heap_marks.grey;
     scan = tt;
@@ -85,12 +91,13 @@ module _ (kept : ℕ) (heap : Heap) (state : State) (book : Book) (rule : Rule h
 
 -- the end of a cycle keeps the rule
 pub end_keeps : (kept : ℕ) (heap : Heap) (state : State) (book : Book) → Rule heap state book → state.collector.stage ≡ stages.Ending kept
-    → EndsCycleBy ButSpine heap book.history (Ends (state.collector.phase / 7) kept) → TurnKeeps heap state book (turn_at heap state.collector (stages.Ending kept))
+    → EndsCycle heap book.history (Ends (state.collector.phase / 7) kept) → TurnKeeps heap state book (turn_at heap state.collector (stages.Ending kept))
 end_keeps kept heap state book rule ending ends machine =
     let all = (has_cleared kept heap state book rule ending).all in
     let cycle : ℕ = state.collector.phase / 7 in
-    let begins = end_begins cycle kept in
-    phase_turns heap state book rule all (Ends cycle kept) begins
+    let last_phase = (has_cleared kept heap state book rule ending).for_clearing in
+    let begins = end_begins state.collector.phase cycle kept last_phase in
+    phase_turns heap state book rule all (Ends cycle kept) begins book.spine_owner (all_stay heap state book rule all (Ends cycle kept) begins (ends_phase kept heap state book rule ending) (λ swept. omega (arith, swept, last_phase)))
     (legal_more heap false book.history (Ends cycle kept) rule.heap_stands.legal tt (keeps_ends heap false book.history cycle kept ends))
     (coloured_rest heap state.words (words_next heap state book rule all (Ends cycle kept) begins) book.owner book.colour book.fragments (phase book.history)
     (last kept heap state book rule ending) (all_white kept heap state book rule ending) rule.heap_stands.cycle.coloured)

@@ -14,9 +14,10 @@ use Rattle.core_rule.specs.Book.{Book}
 use Rattle.core_rule.specs.Colours.{WordPointsTo, IsBetween}
 use Rattle.core_rule.specs.Marking.{IsSeen, IsSpineOf, IsFewWords, MarkingStands}
 use Rattle.core_rule.specs.Rule.{Rule}
+use Rattle.core_rule.specs.Sweep.{HasMarked}
 use Rattle.core_rule.proofs.marking.Marks.{marks_at, none_dead}
 use Rattle.core_rule.proofs.marking.Scans.{may_mark, spine_points}
-use Rattle.core_rule.proofs.steps.collector.ColourTurn.{load_turns_on}
+use Rattle.core_rule.proofs.steps.collector.ColourTurn.{marking_loads}
 use Rattle.core_rule.proofs.steps.TurnSteps.{StageKeeps}
 
 module _ (heap : Heap) (state : State) (book : Book) (rule : Rule heap state book) (s : SpineScan) (indexing : state.collector.stage ≡ stages.Indexing s) where
@@ -43,15 +44,15 @@ module _ (heap : Heap) (state : State) (book : Book) (rule : Rule heap state boo
   points = spine_points heap state.words s seen.1 fits.fragment_within fits.index_within
 
   marks : MarkingStands heap state.words book.owner book.colour book.fragments state.collector.phase (stages.Spreading (spine_step s) target)
-  marks = marks_at heap state.words book.owner book.colour book.fragments state.collector.phase (stages.Spreading (spine_step s) target) fits.marks.for_marking (λ e. cc)
+  marks = marks_at heap state.words book.owner book.colour book.fragments state.collector.phase (stages.Spreading (spine_step s) target) fits.marks.for_marking tt
       rule.marks_stand.heap_marks.grey (
         seen.0,
         record { as_many = seen.1.as_many; there = seen.1.there },
         points,
         may_mark heap state book rule f (rule.marks_stand.heap_marks.grey f seen.0.grey) cycle seen.0.grey (4 + s.index) target points,
       )
-      few tt tt (none_dead heap state book rule fits.marks.for_marking (λ ended. absurd (cc (indexing, ended))))
+      few tt tt (none_dead heap state book rule fits.marks.for_marking (subst HasMarked indexing))
 
 pub index_keeps : (s : SpineScan) → StageKeeps (stages.Indexing s)
 index_keeps s heap state book rule indexing machine =
-    load_turns_on heap state book rule (stages.Indexing s) _ indexing (Spine s.spine.half (s.spine.offset + s.index)) machine (marks heap state book rule s indexing) (λ e. cc)
+    marking_loads heap state book rule (stages.Indexing s) _ indexing (Spine s.spine.half (s.spine.offset + s.index)) machine (marks heap state book rule s indexing) tt tt

@@ -14,9 +14,10 @@ use Rattle.core_machine.specs.table.Layout.{at}
 use Rattle.core_rule.specs.Book.{Book}
 use Rattle.core_rule.specs.Marking.{IsSeen, IsFewWords, MarkingStands}
 use Rattle.core_rule.specs.Rule.{Rule}
+use Rattle.core_rule.specs.Sweep.{HasMarked}
 use Rattle.core_rule.proofs.marking.Marks.{marks_at, none_dead}
 use Rattle.core_rule.proofs.marking.Scans.{spine_stands, spine_passes, spine_sweeps, spine_on_marks}
-use Rattle.core_rule.proofs.steps.collector.ColourTurn.{load_turns_on}
+use Rattle.core_rule.proofs.steps.collector.ColourTurn.{marking_loads}
 use Rattle.core_rule.proofs.steps.TurnSteps.{StageKeeps}
 use Rattle.core_rule.proofs.turns.FewWords.{few_spine}
 
@@ -42,8 +43,8 @@ module _ (heap : Heap) (state : State) (book : Book) (rule : Rule heap state boo
       rule.marks_stand.heap_marks.grey
       (spine_stands heap state.words book.owner book.colour book.fragments begun record { as_many = seen.1; there = refl } seen.0)
       (few_spine begun few (omega arith) (omega (arith, fits.first_step))) (spine_passes book.colour begun) (spine_sweeps heap book.owner book.colour state.collector.phase begun)
-      (none_dead heap state book rule fits.marks.for_marking (λ ended. absurd (cc (locating, ended))))
+      (none_dead heap state book rule fits.marks.for_marking (subst HasMarked locating))
 
 pub locate_keeps : (scan : Scan) (count : ℕ) → StageKeeps (stages.Locating scan count)
 locate_keeps scan count heap state book rule locating machine =
-    load_turns_on heap state book rule (stages.Locating scan count) _ locating (Word scan.fragment 2) machine (marks heap state book rule scan count locating) (λ e. cc)
+    marking_loads heap state book rule (stages.Locating scan count) _ locating (Word scan.fragment 2) machine (marks heap state book rule scan count locating) tt (spine_on_marks (begun heap state book rule scan count locating))

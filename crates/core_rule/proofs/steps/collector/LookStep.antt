@@ -7,6 +7,7 @@ use Rattle.heap_model.specs.declared.entry.Entry.{Entry}
 use Rattle.heap_model.specs.declared.heap.Heap.{Heap}
 use Rattle.heap_model.specs.account.PhaseCounts.{phase, last_answer, has_left}
 use Rattle.core_machine.specs.declared.table.address.Address.TheVariants.{Answer}
+use Rattle.core_machine.specs.declared.collector.stage.Copying.TheVariants.{Visiting}
 use Rattle.core_machine.specs.declared.collector.stage.Stage.{Stage}
 use Rattle.core_machine.specs.declared.collector.stage.Stage.TheVariants as stages
 use Rattle.core_machine.specs.collector.Collector.{Collector, has_answered_of, after_last_look, after_counted_look, after_look}
@@ -15,10 +16,13 @@ use Rattle.core_machine.specs.table.Layout.{at}
 use Rattle.core_machine.specs.machine.Machine.{State, seat_at}
 use Rattle.core_rule.specs.Book.{Book}
 use Rattle.core_rule.specs.Marking.{ScanStands, IsFewWords, PassStands}
-use Rattle.core_rule.specs.Sweep.{SweepStands}
+use Rattle.core_rule.specs.Halves.{AwaitsCopy}
+use Rattle.core_rule.specs.Sweep.{SweepStands, HasMarked}
 use Rattle.core_rule.specs.Rule.{Rule, MarksStand}
 use Rattle.core_rule.specs.Phases.{CollectorAgrees}
 use Rattle.core_rule.proofs.marking.Marks.{settled_moves}
+use Rattle.core_rule.proofs.spines.HalvesFrames.{StageGoesOn}
+use Rattle.core_rule.proofs.spines.StagesOn.{IsIdle, idle_goes_on}
 use Rattle.core_rule.proofs.steps.Assemble.{few_answers}
 use Rattle.core_rule.proofs.steps.TurnSteps.{StageKeeps, after_turn, load_turns}
 
@@ -64,62 +68,80 @@ module _ (heap : Heap) (collector : Collector) (history : List Entry) (stands : 
       by true seen = on_seen (seen refl)
       by false seen = stands
 
--- the work of a phase but marking, and but the sweep
+-- the work of a phase but marking, but copying, and but the sweep
 abbrev last_work : ℕ → Stage
 last_work phase = if phase % 7 == 6 then stages.Clearing 0 0 else stages.Advancing
 
 abbrev later_work : ℕ → Stage
 later_work phase = if phase % 7 == 5 then stages.Sweeping 0 else last_work phase
 
-module _ (heap : Heap) (state : State) (book : Book) (rule : Rule heap state book) (looking : state.collector.stage ≡ stages.Looking) where
-  abbrev MarksNow : Collector → Type 0
-  MarksNow collector = MarksStand heap (after_turn state state.words collector) book.owner book.colour book.fragments
+abbrev next_work : ℕ → Stage
+next_work phase = if phase % 7 == 4 then stages.Copying (Visiting 0) else later_work phase
 
-  -- of marking nothing changes, wherever it goes on
-  marks_stage : (stage : Stage) (looked : ℕ) → (state.collector.phase % 7 ≡ 3 → stage ≢ stages.Advancing) → ScanStands heap state.words book.owner book.colour book.fragments stage
-      → IsFewWords stage → PassStands book.colour stage → SweepStands heap book.owner book.colour state.collector.phase stage → MarksNow (record state.collector { stage = stage; looked = looked })
-  marks_stage stage looked goes scan few pass sweep = record {
-    heap_marks = record {
-      grey = rule.marks_stand.heap_marks.grey;
-      scan = scan;
-      few = few;
-      pass = pass;
-      sweep_stands = sweep;
-      alive = λ going. rule.marks_stand.heap_marks.alive
-          (λ settled. going (settled_moves state.collector.phase state.collector.stage stage (λ third ended. absurd (cc (looking, ended))) settled));
-      after = λ settled. rule.marks_stand.heap_marks.after (settled_moves state.collector.phase stage state.collector.stage goes settled);
+module _ (heap : Heap) (state : State) (book : Book) (rule : Rule heap state book) (looking : state.collector.stage ≡ stages.Looking) where
+  -- marking and the spine space stand where the collector goes to
+  record StandsAt (collector : Collector) : Type 0 where
+    marks : MarksStand heap (after_turn state state.words collector) book.owner book.colour book.fragments
+    spines : StageGoesOn heap state.words book state.collector collector
+
+  -- of marking and of the spine space nothing changes, wherever it goes on
+  stands_stage : (stage : Stage) (looked : ℕ) → (state.collector.phase % 7 ≡ 3 → ¬ HasMarked stage) → (state.collector.phase % 7 ≡ 4 → (f : ℕ) → AwaitsCopy state.collector.phase stage f) → IsIdle stage
+      → ScanStands heap state.words book.owner book.colour book.fragments stage → IsFewWords stage → PassStands book.colour stage → SweepStands heap book.owner book.colour state.collector.phase stage
+      → StandsAt (record state.collector { stage = stage; looked = looked })
+  stands_stage stage looked goes awaits idle scan few pass sweep = record {
+    marks = record {
+      heap_marks = record {
+        grey = rule.marks_stand.heap_marks.grey;
+        scan = scan;
+        few = few;
+        pass = pass;
+        sweep_stands = sweep;
+        alive = λ going. rule.marks_stand.heap_marks.alive
+            (λ settled. going (settled_moves state.collector.phase state.collector.stage stage (λ third. subst HasMarked looking) settled));
+        after = λ settled. rule.marks_stand.heap_marks.after (settled_moves state.collector.phase stage state.collector.stage goes settled);
+      };
+      roots = λ r below marks answered. rule.marks_stand.roots r below record { phase = marks.phase; goes_on = subst HasMarked looking } answered;
     };
-    roots = λ r below marks answered. rule.marks_stand.roots r below record { phase = marks.phase; goes_on = λ ended. absurd (cc (looking, ended)) } answered;
+    spines = idle_goes_on heap state.words state.words book state.collector (record state.collector { stage = stage; looked = looked }) refl
+        record { from_before = λ third advances. absurd (cc (looking, advances)); to_before = λ third advances. goes third (subst HasMarked (sym advances) tt) }
+        (subst IsIdle (sym looking) tt) idle (λ f waits. awaits (subst (λ stage. AwaitsCopy state.collector.phase stage f) looking waits) f) (λ half offset. refl) rule.space.halves.copy;
   }
 
-  marks_looking : (looked : ℕ) → MarksNow (record state.collector { looked = looked })
-  marks_looking looked = subst (λ stage. MarksNow (record state.collector { stage = stage; looked = looked })) (sym looking) (marks_stage stages.Looking looked (λ third e. cc) tt tt tt tt)
+  stands_looking : (looked : ℕ) → StandsAt (record state.collector { looked = looked })
+  stands_looking looked = subst (λ stage. StandsAt (record state.collector { stage = stage; looked = looked })) (sym looking)
+      (stands_stage stages.Looking looked (λ third e. e) (λ fourth f. fourth) tt tt tt tt tt)
+
+  abbrev at_work : Stage → Collector
+  at_work stage = record state.collector { looked = heap.seats; stage = stage }
 
   -- it begins the phase's work, or goes on to the next phase
-  marks_last : MarksNow (after_last_look heap state.collector)
-  marks_last = elim (eqb_tells (state.collector.phase % 7) 3) as (λ _. MarksNow (after_last_look heap state.collector)) [
-    | inl third ↦ rw third.0 (marks_stage (stages.Passing 0 false) heap.seats (λ is e. cc) tt tt (λ f grey. (f, grey, omega arith)) tt)
-    | inr other ↦ rw other.0 (elim (eqb_tells (state.collector.phase % 7) 5) as (λ _. MarksNow (record state.collector { looked = heap.seats; stage = later_work state.collector.phase })) [
-      | inl sweeps ↦ rw sweeps.0 (marks_stage (stages.Sweeping 0) heap.seats (λ is e. cc) tt tt tt (λ f i k none. absurd (omega (arith, none))))
-      | inr neither ↦ rw neither.0 (elim (eqb_tells (state.collector.phase % 7) 6) as (λ _. MarksNow (record state.collector { looked = heap.seats; stage = last_work state.collector.phase })) [
-        | inl clears ↦ rw clears.0 (marks_stage (stages.Clearing 0 0) heap.seats (λ is e. cc) tt tt tt (λ f none. absurd (omega (arith, none))))
-        | inr none ↦ rw none.0 (marks_stage stages.Advancing heap.seats (λ third. absurd (other.1 third)) tt tt tt (λ swept. absurd (neither.1 swept)))
+  stands_last : StandsAt (after_last_look heap state.collector)
+  stands_last = elim (eqb_tells (state.collector.phase % 7) 3) as (λ _. StandsAt (after_last_look heap state.collector)) [
+    | inl third ↦ rw third.0 (stands_stage (stages.Passing 0 false) heap.seats (λ is e. e) (λ fourth. absurd (omega (arith, fourth, third.1))) tt tt tt (λ f grey. (f, grey, omega arith)) tt)
+    | inr other ↦ rw other.0 (elim (eqb_tells (state.collector.phase % 7) 4) as (λ _. StandsAt (at_work (next_work state.collector.phase))) [
+      | inl copies ↦ rw copies.0 (stands_stage (stages.Copying (Visiting 0)) heap.seats (λ is e. e) (λ fourth f. omega arith) tt tt tt tt tt)
+      | inr before ↦ rw before.0 (elim (eqb_tells (state.collector.phase % 7) 5) as (λ _. StandsAt (at_work (later_work state.collector.phase))) [
+        | inl sweeps ↦ rw sweeps.0 (stands_stage (stages.Sweeping 0) heap.seats (λ is e. e) (λ fourth. absurd (before.1 fourth)) tt tt tt tt (λ f i k none. absurd (omega (arith, none))))
+        | inr neither ↦ rw neither.0 (elim (eqb_tells (state.collector.phase % 7) 6) as (λ _. StandsAt (at_work (last_work state.collector.phase))) [
+          | inl clears ↦ rw clears.0 (stands_stage (stages.Clearing 0 0) heap.seats (λ is e. e) (λ fourth. absurd (before.1 fourth)) tt tt tt tt (λ f none. absurd (omega (arith, none))))
+          | inr none ↦ rw none.0 (stands_stage stages.Advancing heap.seats (λ third. absurd (other.1 third)) (λ fourth. absurd (before.1 fourth)) tt tt tt tt (λ swept. absurd (neither.1 swept)))
+        ])
       ])
     ])
   ]
 
-  marks_counted : MarksNow (after_counted_look heap state.collector)
-  marks_counted = elim (leb_tells (suc (state.collector.looked + 1)) heap.seats) as (λ _. MarksNow (after_counted_look heap state.collector)) [
-    | inl more ↦ rw more.0 (marks_looking (state.collector.looked + 1))
-    | inr done ↦ rw done.0 marks_last
+  stands_counted : StandsAt (after_counted_look heap state.collector)
+  stands_counted = elim (leb_tells (suc (state.collector.looked + 1)) heap.seats) as (λ _. StandsAt (after_counted_look heap state.collector)) [
+    | inl more ↦ rw more.0 (stands_looking (state.collector.looked + 1))
+    | inr done ↦ rw done.0 stands_last
   ]
 
-  look_marks : (found : ℕ) → MarksNow (after_look heap state.collector found)
-  look_marks found = by (has_answered_of state.collector.phase found)
+  look_stands : (found : ℕ) → StandsAt (after_look heap state.collector found)
+  look_stands found = by (has_answered_of state.collector.phase found)
     where
-      by : (b : Bool) → MarksNow (if b then after_counted_look heap state.collector else state.collector)
-      by true = marks_counted
-      by false = marks_looking state.collector.looked
+      by : (b : Bool) → StandsAt (if b then after_counted_look heap state.collector else state.collector)
+      by true = stands_counted
+      by false = stands_looking state.collector.looked
 
 -- a look at a seat's answer keeps the rule
 pub look_keeps : StageKeeps stages.Looking
@@ -135,5 +157,6 @@ look_keeps heap state book rule looking machine =
     = λ seen present. word_tells (phase book.history) (last_answer number book.history) (few_answers heap state.words book number (seat_at state number) stands present) early
     (subst (λ w. has_answered_of (phase book.history) w ≡ true) (told.word ∙ rw (sym told.leaves ∙ present) (sym told.told))
     (subst (λ p. has_answered_of p found ≡ true) rule.collector_stands.phase_told seen)) in
+    let after = look_stands heap state book rule looking found in
     load_turns heap state book (Answer number) (after_look heap collector found) rule machine (look_seen heap collector book.history rule.collector_stands found tells)
-    (look_marks heap state book rule looking found)
+    after.marks after.spines

@@ -15,6 +15,7 @@ use Rattle.core_rule.specs.Sources.{HasNoSpine}
 use Rattle.core_rule.proofs.colours.LeadsFrames.{SameSources, still_no_spine}
 use Rattle.core_rule.proofs.colours.ShadeColours.{with_mark, mark_keeps, mark_marks}
 use Rattle.core_rule.proofs.footprint.BookGoing.{by_scan, mark_goes}
+use Rattle.core_rule.specs.Sweep.{HasMarked}
 use Rattle.core_rule.proofs.marking.Marks.{marks_at, none_dead}
 use Rattle.core_rule.proofs.marking.Paths.{grey_on}
 use Rattle.core_rule.proofs.marking.Scans.{scan_stands, scan_passes, scan_sweeps, scan_on_marks, seen_next}
@@ -68,11 +69,11 @@ module _ (heap : Heap) (state : State) (book : Book) (rule : Rule heap state boo
       (grey_part heap state.words words book.owner book.colour book.fragments m may.part same rule.marks_stand.heap_marks.grey)
       (scan_stands heap words book.owner coloured book.fragments (scan_step scan) next (still_no_spine heap state.words words f (same f) scanned.4) seen)
       (few_at (scan_step scan) next few_steps) (scan_passes coloured (scan_step scan) next)
-      (scan_sweeps heap book.owner coloured state.collector.phase (scan_step scan) next) (none_dead heap state book rule fits.marks.for_marking (λ ended. absurd (cc (shading, ended))))
+      (scan_sweeps heap book.owner coloured state.collector.phase (scan_step scan) next) (none_dead heap state book rule fits.marks.for_marking (subst HasMarked shading))
 
 pub mark_shade_keeps : (scan : Scan) (m next : ℕ) → StageKeeps (stages.Shading scan m next)
 mark_shade_keeps scan m next heap state book rule shading machine =
     let fits = fits heap state book rule scan m next shading in
     colour_turns heap state book rule (stages.Shading scan m next) (scan_at (scan_step scan) next) shading (m / 16) _ (omega (arith, fits.target_within))
     (with_mark book.colour m) (target_recolours heap state book rule fits.marks.for_marking m fits.target_within (may heap state book rule scan m next shading)) machine
-    (marks heap state book rule scan m next shading) (λ e. cc) (comes_shaded heap state book rule m fits.target_within) (mark_goes heap state book m (by_scan scan next shading)).marked
+    (marks heap state book rule scan m next shading) tt (scan_on_marks (scan_step scan) next) (comes_shaded heap state book rule m fits.target_within) (mark_goes heap state book m (by_scan scan next shading)).marked

@@ -1,5 +1,5 @@
 -- A load of a group's control word keeps the rule: a grey fragment of it is scanned, or the next group's turn comes, or another pass, or marking ends.
-use Rattle.std.proofs.Common.{◌≡◌, ◌≢◌, ℕ, suc, ◌+◌, ◌*◌, ◌≤◌, Bool, true, false, [], Option, Some, None, inl, inr, refl, subst, arith, length}
+use Rattle.std.proofs.Common.{◌≡◌, ◌≢◌, ℕ, suc, ◌+◌, ◌*◌, ◌≤◌, Bool, true, false, [], Option, Some, None, inl, inr, refl, sym, subst, arith, length}
 use Rattle.std.proofs.lemmas.Bool.Decides.{leb_tells}
 use Rattle.heap_model.specs.declared.heap.Heap.{Heap}
 use Rattle.core_machine.specs.collector.Collector.{Collector}
@@ -13,14 +13,18 @@ use Rattle.core_machine.specs.machine.Value.{IsMachine}
 use Rattle.core_machine.specs.table.Layout.{at, put}
 use Rattle.core_rule.specs.Book.{Book, Grey}
 use Rattle.core_rule.specs.Marking.{ScanStands, IsFewWords, PassStands, MarkingStands}
-use Rattle.core_rule.specs.Sweep.{SweepStands}
+use Rattle.core_rule.specs.Sweep.{SweepStands, HasMarked}
 use Rattle.core_rule.specs.Phases.{CollectorAgrees}
 use Rattle.core_rule.specs.Rule.{Rule}
 use Rattle.core_rule.proofs.footprint.OwnersGo.{settled_go}
+use Rattle.core_rule.proofs.marking.MarkingStages.{OfMarking, marking_plain}
 use Rattle.core_rule.proofs.marking.Marks.{marks_at, none_dead}
 use Rattle.core_rule.proofs.marking.GreyPlaces.{lowest_is_grey, pass_further, nothing_grey, pass_anew, scan_anew}
 use Rattle.core_rule.proofs.marking.SettledBook.{heap_settles, seat_settles, marking_settles}
-use Rattle.core_rule.proofs.spines.DyingWords.{settled_book, budgets_settle}
+use Rattle.core_rule.proofs.spines.DyingWords.{settled_book}
+use Rattle.core_rule.proofs.spines.HalvesFrames.{IsPlain}
+use Rattle.core_rule.proofs.spines.Settling.{space_settles}
+use Rattle.core_rule.proofs.spines.StagesOn.{plain_goes_on}
 use Rattle.core_rule.proofs.steps.Assemble.{Keeps}
 use Rattle.core_rule.proofs.steps.TurnSteps.{StageKeeps, after_turn, quiet, load_turns, load_turns_with}
 
@@ -28,8 +32,8 @@ module _ (heap : Heap) (state : State) (book : Book) (rule : Rule heap state boo
   passes : IsPassing heap state.collector.phase state.collector.looked group
   passes = subst (FitsStage heap state.collector.phase state.collector.looked) passing rule.machine.collector_fit.at_stage
 
-  goes_on : state.collector.stage ≢ stages.Advancing
-  goes_on marked = absurd (cc (passing, marked))
+  goes_on : ¬ HasMarked state.collector.stage
+  goes_on = subst HasMarked passing
 
   marks : MarkingStands heap state.words book.owner book.colour book.fragments state.collector.phase (stages.Passing group found)
   marks = subst (MarkingStands heap state.words book.owner book.colour book.fragments state.collector.phase) passing rule.marks_stand.heap_marks
@@ -49,40 +53,40 @@ module _ (heap : Heap) (state : State) (book : Book) (rule : Rule heap state boo
   collector_at stage = record { log = rule.collector_stands.log; phase_told = rule.collector_stands.phase_told; looked = rule.collector_stands.looked }
 
   -- marking goes on, where a scan and a pass stand at the stage
-  goes_further : (stage : Stage) → stage ≢ stages.Advancing → ScanStands heap state.words book.owner book.colour book.fragments stage → IsFewWords stage → PassStands book.colour stage
+  goes_further : (stage : Stage) → OfMarking stage → ScanStands heap state.words book.owner book.colour book.fragments stage → IsFewWords stage → PassStands book.colour stage
       → SweepStands heap book.owner book.colour state.collector.phase stage → KeepsAt stage
   goes_further stage on scan few pass sweep machine = load_turns heap state book (Control group) (goes_to stage) rule machine (collector_at stage) record {
     heap_marks = marks_at heap state.words book.owner book.colour book.fragments state.collector.phase stage passes.marks.for_marking on marks.grey scan few pass sweep
         (none_dead heap state book rule passes.marks.for_marking goes_on);
     roots = λ r below is answered. rule.marks_stand.roots r below (record { phase = is.phase; goes_on = goes_on }) answered;
-  }
+  } (plain_goes_on heap state.words state.words book state.collector (goes_to stage) refl (subst IsPlain (sym passing) tt) (marking_plain stage on) (λ half offset. refl) rule.space.halves.copy)
 
   -- it ends where nothing is grey
-  ends : ((f : ℕ) → book.colour f ≢ Grey) → KeepsAt stages.Advancing
-  ends none machine = load_turns_with heap state book (Control group) (goes_to stages.Advancing) (settled_book heap book) rule machine refl
-      (heap_settles heap state book rule passes.marks goes_on none) (seat_settles heap state book rule passes.marks goes_on none) (collector_at stages.Advancing)
-      record { heap_marks = marking_settles heap state book rule passes.marks goes_on none; roots = λ r below is. absurd (is.goes_on refl) }
-      (budgets_settle heap state book (goes_to stages.Advancing) rule.budgets)
+  ends : ((f : ℕ) → book.colour f ≢ Grey) → KeepsAt stages.Flipping
+  ends none machine = load_turns_with heap state book (Control group) (goes_to stages.Flipping) (settled_book book) rule machine refl
+      (heap_settles heap state book rule passes.marks goes_on none) (seat_settles heap state book rule passes.marks goes_on none) (collector_at stages.Flipping)
+      record { heap_marks = marking_settles heap state book rule passes.marks goes_on none; roots = λ r below is. absurd (is.goes_on tt) }
+      (space_settles heap state book rule group found passing passes.marks.for_marking)
       record { made = λ i below. refl; owners = settled_go (length book.made) book.owner book.colour; marked = λ f i k owned below marked. inl marked }
 
   module _ (none : lowest_grey_of word ≡ None) where
     -- the last group was seen
     behind_all : heap.groups ≤ group + 1 → (some : Bool) → found ≡ some → KeepsAt (after_last_group some)
-    behind_all last true is = goes_further (stages.Passing 0 false) (λ e. cc) tt tt (pass_anew book.colour) tt
+    behind_all last true is = goes_further (stages.Passing 0 false) tt tt tt (pass_anew book.colour) tt
     behind_all last false is =
         ends (nothing_grey heap state.words book.colour group rule.machine.table passes.group_within rule.heap_stands.cycle.marks none last
         (subst (λ b. PassStands book.colour (stages.Passing group b)) is marks.pass))
 
     after_none : KeepsAt (after_group heap group found)
     after_none = elim (leb_tells (suc (group + 1)) heap.groups) as (λ _. KeepsAt (after_group heap group found)) [
-      | inl more ↦ rw more.0 (goes_further (stages.Passing (group + 1) found) (λ e. cc) tt tt
+      | inl more ↦ rw more.0 (goes_further (stages.Passing (group + 1) found) tt tt tt
           (pass_further heap state.words book.colour group rule.machine.table passes.group_within rule.heap_stands.cycle.marks none found marks.pass) tt)
       | inr all ↦ rw all.0 (behind_all (omega (arith, all.1)) found refl)
     ]
 
   passes_on : (place : Option ℕ) → lowest_grey_of word ≡ place → KeepsAt (after_pass heap group found place)
   passes_on None is = after_none is
-  passes_on (Some place) is = goes_further (stages.Scanning (record { fragment = 16 * group + place; part = 0; steps = 0 })) (λ e. cc) (
+  passes_on (Some place) is = goes_further (stages.Scanning (record { fragment = 16 * group + place; part = 0; steps = 0 })) tt (
     scan_anew heap state.words book.colour (16 * group + place) (lowest_is_grey heap state.words book.colour group rule.machine.table passes.group_within rule.heap_stands.cycle.marks place is),
     λ later. absurd (omega (arith, later)),
   ) tt tt tt

@@ -1,9 +1,9 @@
 -- A turn that begins the next phase, once all have answered, keeps the rule.
-use Rattle.std.proofs.Common.{◌≡◌, ℕ, ◌+◌, ◌<◌, Bool, true, false, List, [], ◌∷◌, ◌++◌, refl, sym, ap, ◌∙◌, subst, arith, inl, inr}
+use Rattle.std.proofs.Common.{◌≡◌, ◌≢◌, ℕ, ◌+◌, ◌%◌, ◌<◌, Bool, true, false, List, [], ◌∷◌, ◌++◌, length, refl, sym, ap, ◌∙◌, subst, arith, inl, inr}
 use Rattle.std.proofs.lemmas.List.Elements.{filter-append}
 use Rattle.heap_model.specs.declared.entry.Entry.{Entry}
 use Rattle.heap_model.specs.declared.heap.Heap.{Heap}
-use Rattle.heap_model.specs.account.Account.{IsLegalBy, ButSpine}
+use Rattle.heap_model.specs.account.Account.{IsLegal}
 use Rattle.heap_model.specs.account.Cycles.{graph_of}
 use Rattle.heap_model.specs.account.Effects.{effect_of, is_of}
 use Rattle.heap_model.specs.graph.Growth.{after_entry}
@@ -22,7 +22,9 @@ use Rattle.core_rule.specs.Book.{Book}
 use Rattle.core_rule.specs.Colours.{Coloured, WordPointsTo}
 use Rattle.core_rule.specs.Counts.{is_collectors}
 use Rattle.core_rule.specs.Cycle.{HeapInCycle}
+use Rattle.core_rule.specs.Owners.{Dead, SpineOwner}
 use Rattle.core_rule.specs.Rule.{Rule, HeapStands, SeatStands}
+use Rattle.core_rule.specs.Spines.{HasPlace, next_spine}
 use Rattle.core_rule.specs.Marking.{MarkingStands}
 use Rattle.core_rule.specs.Roots.{OfRoots}
 use Rattle.core_rule.specs.Paths.{IsReached}
@@ -30,10 +32,10 @@ use Rattle.core_rule.proofs.marking.GoneRoots.{gone_roots}
 use Rattle.core_rule.proofs.entries.AtRest.{seat_fits}
 use Rattle.core_rule.proofs.words.Addresses.{at-put_apart}
 use Rattle.core_rule.proofs.steps.Assemble.{Keeps}
-use Rattle.core_rule.proofs.steps.TurnSteps.{after_turn, turn_steps, turn_budgets}
+use Rattle.core_rule.proofs.steps.TurnSteps.{after_turn, turn_steps}
 use Rattle.core_rule.proofs.cycle.CycleFrames.{cycle_told}
-use Rattle.core_rule.proofs.footprint.BookGoing.{book_stays}
-use Rattle.core_rule.proofs.frames.EntryFrames.{UsesNothing, fragments_phase, heap_past, seat_past, grants_past}
+use Rattle.core_rule.proofs.footprint.BookGoing.{owners_stay}
+use Rattle.core_rule.proofs.frames.EntryFrames.{UsesNothing, fragments_phase, heap_past, seat_past}
 use Rattle.core_rule.proofs.colours.LeadsFrames.{leads_ahead}
 use Rattle.core_rule.proofs.colours.MarkWords.{marks_same}
 use Rattle.core_rule.proofs.cycle.NextPhase.{cycle_next}
@@ -41,25 +43,27 @@ use Rattle.core_rule.proofs.entries.PhaseEntries.{phase_rises, answered_stays, l
 use Rattle.core_rule.proofs.graph.SameNodes.{SameNodes, nodes_same}
 use Rattle.core_rule.proofs.frames.SeatFrames.{with_entry}
 use Rattle.core_rule.proofs.spines.OtherWords.{spines_left_phase}
+use Rattle.core_rule.proofs.spines.PhaseSpaces.{EndsPhase, BeginsAt, LetsGo, lets_none, space_next}
 
--- the entry begins a phase, is the collector's, and changes nothing else
-pub record BeginsNext (entry : Entry) : Type 0 where
+-- the entry begins the phase that comes after this one, is the collector's, and changes nothing else
+pub record BeginsNext (now : ℕ) (entry : Entry) : Type 0 where
   pub phases : (effect_of entry).phases ≡ 1
   pub uses : UsesNothing entry
+  pub spines : BeginsAt now entry
   pub answers : (effect_of entry).answers ≡ 0
   pub nobodys : (r : ℕ) → is_of r entry ≡ false
   pub no_leave : (r : ℕ) → is_leave_of r entry ≡ false
   pub collectors : is_collectors entry ≡ true
   pub graph_stays : (g : Graph) → after_entry g entry ≡ g
 
-module _ (heap : Heap) (state : State) (book : Book) (rule : Rule heap state book) (all : state.collector.looked ≡ heap.seats) (entry : Entry) (begins : BeginsNext entry) where
+module _ (heap : Heap) (state : State) (book : Book) (rule : Rule heap state book) (all : state.collector.looked ≡ heap.seats) (entry : Entry) (begins : BeginsNext state.collector.phase entry) where
   abbrev pub next : ℕ
   next = state.collector.phase + 1
 
   abbrev pub words_next : List ℕ
   words_next = put heap state.words Phase next
 
-  abbrev later : Book
+  abbrev pub later : Book
   later = with_entry book entry
 
   -- all have answered
@@ -72,7 +76,7 @@ module _ (heap : Heap) (state : State) (book : Book) (rule : Rule heap state boo
   grown : phase later.history ≡ phase book.history + 1
   grown = phase_rises book.history entry begins.phases
 
-  graph : graph_of heap later.history ≡ graph_of heap book.history
+  pub graph : graph_of heap later.history ≡ graph_of heap book.history
   graph = graph_after-more (opening heap) book.history entry ∙ begins.graph_stays (graph_of heap book.history)
 
   nodes : SameNodes (graph_of heap book.history) (graph_of heap later.history)
@@ -81,7 +85,7 @@ module _ (heap : Heap) (state : State) (book : Book) (rule : Rule heap state boo
   pub leads_next : (f source g : ℕ) → WordPointsTo heap words_next f source g → WordPointsTo heap state.words f source g
   leads_next f source g leads = leads_ahead heap state.words Phase next (omega arith) f source g leads
 
-  heap_on : IsLegalBy ButSpine heap false later.history → Coloured heap words_next book.owner book.colour book.fragments (phase book.history + 1) → HeapStands heap words_next later
+  heap_on : IsLegal heap false later.history → Coloured heap words_next book.owner book.colour book.fragments (phase book.history + 1) → HeapStands heap words_next later
   heap_on legal coloured =
       let cycle = rule.heap_stands.cycle in
       heap_past heap state.words words_next (fragments_phase heap state.words next) book entry nodes begins.uses legal
@@ -116,19 +120,42 @@ module _ (heap : Heap) (state : State) (book : Book) (rule : Rule heap state boo
   abbrev pub begun_collector : Collector
   begun_collector = record (after_advance state.collector) { log = state.collector.log ++ entry ∷ [] }
 
+  -- the book with these owners of spine words
+  abbrev pub let_later : (ℕ → ℕ → SpineOwner) → Book
+  let_later spine_owner = record later { spine_owner = spine_owner }
+
+  -- the phase may end with these owners of spine words: what each party has of them stands
+  pub record MayLetGo (spine_owner : ℕ → ℕ → SpineOwner) : Type 0 where
+    pub ends : EndsPhase state.collector.phase state.collector.stage
+    pub lets : LetsGo (next_spine heap state.words).half state.collector.phase book.spine_owner spine_owner
+    pub alive : state.collector.phase % 7 ≡ 5 → (f i k : ℕ) → book.owner f ≢ Dead i k
+    pub answered : state.collector.phase % 7 ≡ 5 → (r : ℕ) → r < heap.seats → HasPlace (seat_at state r) (seat_at state r).place → (seat_at state r).answered % 7 ≡ 5
+    pub heap_lets : HeapStands heap words_next later → HeapStands heap words_next (let_later spine_owner)
+    pub seat_lets : (r : ℕ) → r < heap.seats → SeatStands heap words_next later r (seat_at state r) → SeatStands heap words_next (let_later spine_owner) r (seat_at state r)
+
+  -- so it is where each word stays whose it was, in any phase but that of the sweep
+  pub all_stay : EndsPhase state.collector.phase state.collector.stage → state.collector.phase % 7 ≢ 5 → MayLetGo book.spine_owner
+  all_stay ends other = record {
+    ends = ends;
+    lets = lets_none (next_spine heap state.words).half state.collector.phase book.spine_owner other;
+    alive = λ swept. absurd (other swept);
+    answered = λ swept. absurd (other swept);
+    heap_lets = λ stands. stands;
+    seat_lets = λ r below stands. stands;
+  }
+
   -- so the rule is kept, where the entry is legal, the colours are right then, and of marking stands what stands while the collector looks
-  pub phase_turns : IsLegalBy ButSpine heap false later.history → Coloured heap words_next book.owner book.colour book.fragments (phase book.history + 1)
+  pub phase_turns : (spine_owner : ℕ → ℕ → SpineOwner) → MayLetGo spine_owner → IsLegal heap false later.history → Coloured heap words_next book.owner book.colour book.fragments (phase book.history + 1)
       → MarkingStands heap words_next book.owner book.colour book.fragments next stages.Looking
       → IsMachine heap (after_turn state words_next begun_collector) → Keeps heap state (after_turn state words_next begun_collector) book book.begun (entry ∷ [])
-  phase_turns legal coloured marks machine =
-      turn_steps heap state book words_next begun_collector later (entry ∷ []) rule machine refl (heap_on legal coloured)
-      (λ r below stands. seat_on r below)
+  phase_turns spine_owner may legal coloured marks machine =
+      turn_steps heap state book words_next begun_collector (let_later spine_owner) (entry ∷ []) rule machine refl (may.heap_lets (heap_on legal coloured))
+      (λ r below stands. may.seat_lets r below (seat_on r below))
       record {
         log = rw (filter-append is_collectors book.history (entry ∷ []), rule.collector_stands.log, begins.collectors) refl;
         phase_told = next_told ∙ sym grown;
         looked = λ number none below present. absurd (omega (arith, none));
       }
       record { heap_marks = marks; roots = λ r below marking answered. no_roots r below answered }
-      (turn_budgets heap state book rule words_next begun_collector later (spines_left_phase heap state.words next)
-      (grants_past heap state.words words_next (fragments_phase heap state.words next) book entry nodes begins.uses))
-      (book_stays heap state book later.history book.begun)
+      (space_next heap state book rule may.ends entry begins.spines graph words_next (spines_left_phase heap state.words next) begun_collector.log spine_owner may.lets may.alive may.answered)
+      record { made = λ i below. refl; owners = owners_stay (length book.made) book.owner; marked = λ f i k owned below marked. inl marked }

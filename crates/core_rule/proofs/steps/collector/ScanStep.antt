@@ -17,13 +17,14 @@ use Rattle.core_machine.specs.table.Layout.{at}
 use Rattle.core_rule.specs.Book.{Book}
 use Rattle.core_rule.specs.Colours.{WordPointsTo, IsBetween}
 use Rattle.core_rule.specs.Marking.{IsSeen, IsPart, ScanStands, IsFewWords, PassStands, MarkingStands}
-use Rattle.core_rule.specs.Sweep.{SweepStands}
+use Rattle.core_rule.specs.Sweep.{SweepStands, HasMarked}
 use Rattle.core_rule.specs.Rule.{Rule}
 use Rattle.core_rule.specs.Sources.{HasNoSpine}
 use Rattle.core_rule.proofs.colours.SourceCases.{word_leads, lead_of_word}
+use Rattle.core_rule.proofs.marking.MarkingStages.{OfMarking}
 use Rattle.core_rule.proofs.marking.Marks.{marks_at, none_dead}
 use Rattle.core_rule.proofs.marking.Scans.{scan_stands, scan_passes, scan_sweeps, scan_on_marks, may_mark, comes_after, seen_next, array_first, array_few, sentinel_seen}
-use Rattle.core_rule.proofs.steps.collector.ColourTurn.{load_turns_on}
+use Rattle.core_rule.proofs.steps.collector.ColourTurn.{marking_loads}
 use Rattle.core_rule.proofs.steps.TurnSteps.{StageKeeps}
 use Rattle.core_rule.proofs.turns.FewWords.{few_at}
 
@@ -55,11 +56,15 @@ module _ (heap : Heap) (state : State) (book : Book) (rule : Rule heap state boo
   cycle : IsBetween 1 5 (phase book.history)
   cycle = let third = fits.marks.for_marking in let same = rule.collector_stands.phase_told in record { from = omega (arith, third, same); upto = omega (arith, third, same) }
 
+  -- what is true of marking at a stage of it
+  abbrev MarksNow : Stage → Type 0
+  MarksNow stage = MarkingStands heap state.words book.owner book.colour book.fragments state.collector.phase stage × OfMarking stage
+
   -- the pass and what was born stand, wherever the scan goes on
-  marks_after : (stage : Stage) → stage ≢ stages.Advancing → ScanStands heap state.words book.owner book.colour book.fragments stage → IsFewWords stage → PassStands book.colour stage
-      → SweepStands heap book.owner book.colour state.collector.phase stage → MarkingStands heap state.words book.owner book.colour book.fragments state.collector.phase stage
-  marks_after stage goes scans few passes sweeps = marks_at heap state.words book.owner book.colour book.fragments state.collector.phase stage fits.marks.for_marking goes
-      rule.marks_stand.heap_marks.grey scans few passes sweeps (none_dead heap state book rule fits.marks.for_marking (λ ended. absurd (cc (scanning, ended))))
+  marks_after : (stage : Stage) → OfMarking stage → ScanStands heap state.words book.owner book.colour book.fragments stage → IsFewWords stage → PassStands book.colour stage
+      → SweepStands heap book.owner book.colour state.collector.phase stage → MarksNow stage
+  marks_after stage goes scans few passes sweeps = (marks_at heap state.words book.owner book.colour book.fragments state.collector.phase stage fits.marks.for_marking goes
+      rule.marks_stand.heap_marks.grey scans few passes sweeps (none_dead heap state book rule fits.marks.for_marking (subst HasMarked scanning)), goes)
 
   lead : (g : ℕ) → WordPointsTo heap state.words f scan.part g → pointer_in scan.part word ≡ Some g
   lead g leads = lead_of_word heap state.words f scan.part g fits.part_within leads
@@ -68,14 +73,13 @@ module _ (heap : Heap) (state : State) (book : Book) (rule : Rule heap state boo
   few_steps = omega (arith, fits.few_steps, fits.part_within)
 
   -- what the word of a fragment without a spine leads to, if it leads anywhere, is marked next
-  loaded : HasNoSpine heap state.words f → (found : Option ℕ) → pointer_in scan.part word ≡ found
-      → MarkingStands heap state.words book.owner book.colour book.fragments state.collector.phase (after_scan_load scan next found)
+  loaded : HasNoSpine heap state.words f → (found : Option ℕ) → pointer_in scan.part word ≡ found → MarksNow (after_scan_load scan next found)
   loaded none None is = marks_after (after_scan_load scan next None) (scan_on_marks (scan_step scan) next)
       (scan_stands heap state.words book.owner book.colour book.fragments (scan_step scan) next none
       (seen_next heap state book rule f part_of state.words book.colour scan.part next (λ p g leads. leads) seen (λ g leads. absurd (cc (is, lead g leads))) (comes_after heap state book rule f part_of scan.part)))
       (few_at (scan_step scan) next (omega (arith, few_steps)))
       (scan_passes book.colour (scan_step scan) next) (scan_sweeps heap book.owner book.colour state.collector.phase (scan_step scan) next)
-  loaded none (Some m) is = marks_after (stages.Shading (scan_step scan) m next) (λ e. cc) (
+  loaded none (Some m) is = marks_after (stages.Shading (scan_step scan) m next) tt (
     seen,
     (λ g leads. inl (sym is ∙ lead g leads)),
     may_mark heap state book rule f part_of cycle seen.grey scan.part m (word_leads heap state.words f scan.part m fits.fragment_within fits.part_within is),
@@ -85,16 +89,15 @@ module _ (heap : Heap) (state : State) (book : Book) (rule : Rule heap state boo
       tt tt tt
 
   -- of a fragment whose first word is an array's meta the place of its spine is loaded next
-  located : (cells : ℕ) → array_length_of (at heap state.words (Word f 0)) ≡ Some cells
-      → MarkingStands heap state.words book.owner book.colour book.fragments state.collector.phase (stages.Locating (scan_step scan) (array_words cells))
+  located : (cells : ℕ) → array_length_of (at heap state.words (Word f 0)) ≡ Some cells → MarksNow (stages.Locating (scan_step scan) (array_words cells))
   located cells told =
       let first = array_first heap state book rule f part_of cells told in
-      marks_after (stages.Locating (scan_step scan) (array_words cells)) (λ e. cc)
+      marks_after (stages.Locating (scan_step scan) (array_words cells)) tt
       (sentinel_seen heap state book rule f part_of seen.grey first.0 first.1, ap (λ length. option_map_or array_words length 0) (sym told))
       (omega (arith, array_few heap state book rule f part_of first.1, first.2)) tt tt
 
   abbrev MarksAt : Option ℕ → Type 0
-  MarksAt length = MarkingStands heap state.words book.owner book.colour book.fragments state.collector.phase (after_first_load scan length next (pointer_in scan.part word))
+  MarksAt length = MarksNow (after_first_load scan length next (pointer_in scan.part word))
 
   -- so it is where the word is the fragment's first one
   at_first : (length : Option ℕ) → array_length_of (at heap state.words (Word f 0)) ≡ length → MarksAt length
@@ -114,4 +117,5 @@ module _ (heap : Heap) (state : State) (book : Book) (rule : Rule heap state boo
 
 pub scan_keeps : (scan : Scan) → StageKeeps (stages.Scanning scan)
 scan_keeps scan heap state book rule scanning machine =
-    load_turns_on heap state book rule (stages.Scanning scan) _ scanning (Word scan.fragment scan.part) machine (goes_on heap state book rule scan scanning) (λ e. cc)
+    let on = goes_on heap state book rule scan scanning in
+    marking_loads heap state book rule (stages.Scanning scan) _ scanning (Word scan.fragment scan.part) machine on.0 tt on.1

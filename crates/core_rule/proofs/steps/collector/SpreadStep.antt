@@ -13,6 +13,7 @@ use Rattle.core_rule.specs.Rule.{Rule}
 use Rattle.core_rule.proofs.colours.LeadsFrames.{SameSources, same_leads}
 use Rattle.core_rule.proofs.colours.ShadeColours.{with_mark, mark_marks}
 use Rattle.core_rule.proofs.footprint.BookGoing.{by_spine, mark_goes}
+use Rattle.core_rule.specs.Sweep.{HasMarked}
 use Rattle.core_rule.proofs.marking.Marks.{marks_at, none_dead}
 use Rattle.core_rule.proofs.marking.Scans.{spine_stands, spine_passes, spine_sweeps, spine_on_marks, seen_spread}
 use Rattle.core_rule.proofs.marking.SeatShades.{words_marked, sources_marked, comes_shaded}
@@ -65,11 +66,11 @@ module _ (heap : Heap) (state : State) (book : Book) (rule : Rule heap state boo
       (grey_part heap state.words words book.owner book.colour book.fragments m may.part same rule.marks_stand.heap_marks.grey)
       (spine_stands heap words book.owner coloured book.fragments next record { as_many = is_spine.as_many; there = is_spine.there } seen)
       (few_spine next few (omega (arith, fits.index_within)) (omega (arith, fits.steps_made))) (spine_passes coloured next)
-      (spine_sweeps heap book.owner coloured state.collector.phase next) (none_dead heap state book rule fits.marks.for_marking (λ ended. absurd (cc (spreading, ended))))
+      (spine_sweeps heap book.owner coloured state.collector.phase next) (none_dead heap state book rule fits.marks.for_marking (subst HasMarked spreading))
 
 pub spread_keeps : (s : SpineScan) (m : ℕ) → StageKeeps (stages.Spreading s m)
 spread_keeps s m heap state book rule spreading machine =
     let fits = fits heap state book rule s m spreading in
     colour_turns heap state book rule (stages.Spreading s m) (after_spread s) spreading (m / 16) _ (omega (arith, fits.target_within))
     (with_mark book.colour m) (target_recolours heap state book rule fits.marks.for_marking m fits.target_within (may heap state book rule s m spreading)) machine
-    (marks heap state book rule s m spreading) (λ e. cc) (comes_shaded heap state book rule m fits.target_within) (mark_goes heap state book m (by_spine s spreading)).marked
+    (marks heap state book rule s m spreading) tt (spine_on_marks (next heap state book rule s m spreading)) (comes_shaded heap state book rule m fits.target_within) (mark_goes heap state book m (by_spine s spreading)).marked

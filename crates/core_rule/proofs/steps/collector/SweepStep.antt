@@ -1,21 +1,53 @@
--- The loads of the sweep keep the rule: a group's control word tells which of its fragments are dead, and the first word of a dead one tells nothing.
-use Rattle.std.proofs.Common.{◌≡◌, ℕ, ◌+◌, ◌*◌, inr, subst}
+-- The loads of the sweep keep the rule: a group's control word tells which of its fragments are dead, and the first word of a dead one how many spine words its array has.
+use Rattle.std.specs.Prelude.{if◌then◌else◌}
+use Rattle.std.proofs.Common.{◌≡◌, ℕ, suc, ◌+◌, ◌*◌, ◌%◌, ◌==◌, Option, Some, None, inl, inr, refl, sym, ap, ◌∙◌, subst, arith}
+use Rattle.std.proofs.lemmas.Bool.Decides.{eqb_tells}
 use Rattle.heap_model.specs.declared.heap.Heap.{Heap}
 use Rattle.core_machine.specs.collector.FitsTurns.{IsSweeping, IsExamining}
-use Rattle.core_machine.specs.collector.Sweeping.{dead_bits_of, next_place_of, after_examined}
+use Rattle.core_machine.specs.collector.Sweeping.{dead_bits_of, next_place_of, after_swept, after_examined}
+use Rattle.core_machine.specs.declared.collector.stage.Stage.{Stage}
 use Rattle.core_machine.specs.declared.collector.stage.Stage.TheVariants as stages
 use Rattle.core_machine.specs.declared.table.address.Address.TheVariants.{Control, Word}
 use Rattle.core_machine.specs.machine.Machine.{State}
+use Rattle.core_machine.specs.machine.Sums.{sum_upto}
+use Rattle.core_machine.specs.table.Decode.{spine_words_in}
 use Rattle.core_machine.proofs.table_lemmas.DeadBits.{dead_few}
+use Rattle.core_machine.proofs.table_lemmas.Free.{sum_upto-none}
 use Rattle.core_machine.specs.table.Layout.{at}
 use Rattle.core_rule.specs.Book.{Book}
+use Rattle.core_rule.specs.Budgets.{SweepCounts, dead_weight, words_of, nodes_in}
+use Rattle.core_rule.specs.Halves.{AwaitsCopy}
 use Rattle.core_rule.specs.Marking.{AfterMarking}
 use Rattle.core_rule.specs.Sweep.{AreFreed, AreDead, SweepStands}
 use Rattle.core_rule.specs.Rule.{Rule}
 use Rattle.core_rule.proofs.marking.DeadPlaces.{are_dead}
-use Rattle.core_rule.proofs.marking.SweepMarks.{examined_further}
-use Rattle.core_rule.proofs.steps.collector.ColourTurn.{load_turns_on}
+use Rattle.core_rule.proofs.marking.SweepMarks.{after_swept_either, examined_further}
+use Rattle.core_rule.proofs.lists.SumLemmas.{sum-suc}
+use Rattle.core_rule.proofs.owners.OwnerLemmas.{is_dead}
+use Rattle.core_rule.proofs.spines.HalvesFrames.{StageGoesOn}
+use Rattle.core_rule.proofs.spines.StagesOn.{IsQuiet, quiet_goes_on}
+use Rattle.core_rule.proofs.spines.SweepSums.{at_place, counts_on}
+use Rattle.core_rule.proofs.steps.collector.ColourTurn.{at_stage, load_turns_on}
 use Rattle.core_rule.proofs.steps.TurnSteps.{StageKeeps}
+
+module _ (heap : Heap) (state : State) (book : Book) (rule : Rule heap state book) (sweeps : state.collector.phase % 7 ≡ 5) (group dead : ℕ) where
+  -- nothing is copied or returned where the sweep goes on in its group
+  still_quiet : (counted : ℕ) (next : Option ℕ) → IsQuiet (after_examined heap group dead counted next)
+  still_quiet counted (Some place) = tt
+  still_quiet counted None = elim (eqb_tells dead 0) as (λ _. IsQuiet (if dead == 0 then after_swept heap group else stages.Freeing group dead counted)) [
+    | inl none ↦ rw none.0 (after_swept_either IsQuiet heap group tt (λ last. tt))
+    | inr some ↦ rw some.0 tt
+  ]
+
+  -- so the spine space stands, where it has counted right
+  spines_on : (from : Stage) → state.collector.stage ≡ from → IsQuiet from → ((f : ℕ) → ¬ AwaitsCopy state.collector.phase from f) → (counted : ℕ) (next : Option ℕ)
+      → SweepCounts (words_of (nodes_in heap book)) book.owner (after_examined heap group dead counted next)
+      → StageGoesOn heap state.words book state.collector (at_stage state.collector (after_examined heap group dead counted next))
+  spines_on from was before waits counted next counts =
+      quiet_goes_on heap state.words state.words book state.collector (at_stage state.collector (after_examined heap group dead counted next)) refl
+      record { from_before = λ third. absurd (omega (arith, third, sweeps)); to_before = λ third. absurd (omega (arith, third, sweeps)) }
+      (subst IsQuiet (sym was) before) (still_quiet counted next) (λ f waiting. absurd (waits f (subst (λ stage. AwaitsCopy state.collector.phase stage f) was waiting))) counts
+      (λ half offset. refl) rule.space.halves.copy
 
 module _ (heap : Heap) (state : State) (book : Book) (rule : Rule heap state book) (group : ℕ) (sweeping : state.collector.stage ≡ stages.Sweeping group) where
   sweeps : IsSweeping heap state.collector.phase state.collector.looked group
@@ -33,23 +65,57 @@ module _ (heap : Heap) (state : State) (book : Book) (rule : Rule heap state boo
 pub sweep_keeps : (group : ℕ) → StageKeeps (stages.Sweeping group)
 sweep_keeps group heap state book rule sweeping machine =
     let bits : ℕ = dead_bits_of (at heap state.words (Control group)) in
-    load_turns_on heap state book rule (stages.Sweeping group) (after_examined heap group bits (next_place_of bits 0)) sweeping (Control group) machine
-    (examined_further heap state.words book.owner book.colour book.fragments state.collector.phase (sweeps heap state book rule group sweeping).for_sweep (after heap state book rule group sweeping)
-    group bits (dead_few (at heap state.words (Control group))) (freed heap state book rule group sweeping) (told heap state book rule group sweeping) (next_place_of bits 0))
-    (λ e. cc)
+    let for_sweep = (sweeps heap state book rule group sweeping).for_sweep in
+    let told = told heap state book rule group sweeping in
+    load_turns_on heap state book rule (stages.Sweeping group) (after_examined heap group bits 0 (next_place_of bits 0)) sweeping (Control group) machine
+    (examined_further heap state.words book.owner book.colour book.fragments state.collector.phase for_sweep (after heap state book rule group sweeping)
+    group bits (dead_few (at heap state.words (Control group))) (freed heap state book rule group sweeping) told 0 (next_place_of bits 0))
+    (λ e. e)
+    (spines_on heap state book rule for_sweep group bits (stages.Sweeping group) sweeping tt (λ f waits. waits) 0 (next_place_of bits 0)
+    (counts_on heap (words_of (nodes_in heap book)) book.owner group bits told 0 0 (sym (sum_upto-none _)) (omega arith) (next_place_of bits 0) refl))
 
-module _ (heap : Heap) (state : State) (book : Book) (rule : Rule heap state book) (group dead place : ℕ) (examining : state.collector.stage ≡ stages.Examining group dead place) where
-  examines : IsExamining heap state.collector.phase state.collector.looked group dead place
+module _ (heap : Heap) (state : State) (book : Book) (rule : Rule heap state book) (group dead place counted : ℕ) (examining : state.collector.stage ≡ stages.Examining group dead place counted) where
+  examines : IsExamining heap state.collector.phase state.collector.looked group dead place counted
   examines = rw examining at rule.machine.collector_fit.at_stage
 
   seen : AreFreed book.owner group × AreDead book.owner group dead
   seen = subst (SweepStands heap book.owner book.colour state.collector.phase) examining rule.marks_stand.heap_marks.sweep_stands
 
-pub examine_keeps : (group dead place : ℕ) → StageKeeps (stages.Examining group dead place)
-examine_keeps group dead place heap state book rule examining machine =
-    let fits = examines heap state book rule group dead place examining in
-    let told = seen heap state book rule group dead place examining in
-    load_turns_on heap state book rule (stages.Examining group dead place) (after_examined heap group dead (next_place_of dead (place + 1))) examining (Word (16 * group + place) 0) machine
+  abbrev words : ℕ → ℕ
+  words = words_of (nodes_in heap book)
+
+  abbrev f : ℕ
+  f = 16 * group + place
+
+  abbrev word : ℕ
+  word = at heap state.words (Word f 0)
+
+  -- it has counted the words before its place
+  counts : counted ≡ sum_upto place (at_place heap words book.owner group dead seen.1)
+  counts = subst (SweepCounts words book.owner) examining rule.space.budgets.counts
+
+  -- the word that it finds tells the words of the array that begins there, if one does
+  tells : spine_words_in word ≡ dead_weight words (book.owner f)
+  tells =
+      let is = is_dead (book.owner f) (sym (seen.1 place examines.place_within) ∙ examines.is_dead) in
+      (rule.heap_stands.spines.tells f is.0 is.1 is.2).1.told ∙ ap (dead_weight words) (sym is.2)
+
+  counts_more : counted + spine_words_in word ≡ sum_upto (place + 1) (at_place heap words book.owner group dead seen.1)
+  counts_more =
+      let weight : ℕ → ℕ = at_place heap words book.owner group dead seen.1 in
+      let behind : suc place ≡ place + 1 = omega arith in
+      let more : sum_upto (place + 1) weight ≡ sum_upto place weight + weight place = subst (λ n. sum_upto n weight ≡ sum_upto place weight + weight place) behind (sum-suc place weight) in
+      omega (arith, more, counts, tells)
+
+pub examine_keeps : (group dead place counted : ℕ) → StageKeeps (stages.Examining group dead place counted)
+examine_keeps group dead place counted heap state book rule examining machine =
+    let fits = examines heap state book rule group dead place counted examining in
+    let told = seen heap state book rule group dead place counted examining in
+    let more : ℕ = counted + spine_words_in (at heap state.words (Word (16 * group + place) 0)) in
+    let next : Option ℕ = next_place_of dead (place + 1) in
+    load_turns_on heap state book rule (stages.Examining group dead place counted) (after_examined heap group dead more next) examining (Word (16 * group + place) 0) machine
     (examined_further heap state.words book.owner book.colour book.fragments state.collector.phase fits.sweeps.for_sweep
-    (rule.marks_stand.heap_marks.after (inr (inr fits.sweeps.for_sweep))) group dead fits.dead_within told.0 told.1 (next_place_of dead (place + 1)))
-    (λ e. cc)
+    (rule.marks_stand.heap_marks.after (inr (inr fits.sweeps.for_sweep))) group dead fits.dead_within told.0 told.1 more next)
+    (λ e. e)
+    (spines_on heap state book rule fits.sweeps.for_sweep group dead (stages.Examining group dead place counted) examining tt (λ f waits. waits) more next
+    (counts_on heap (words_of (nodes_in heap book)) book.owner group dead told.1 more (place + 1) (counts_more heap state book rule group dead place counted examining) (omega (arith, fits.place_within)) next refl))

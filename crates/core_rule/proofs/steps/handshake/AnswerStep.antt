@@ -8,17 +8,16 @@ use Rattle.heap_model.specs.declared.heap.Heap.{Heap}
 use Rattle.heap_model.specs.declared.reply.Reply.TheVariants as replies
 use Rattle.heap_model.specs.account.Cycles.{graph_of}
 use Rattle.heap_model.specs.account.Effects.{is_of}
-use Rattle.heap_model.specs.graph.Objects.{graph_seat}
+use Rattle.heap_model.specs.graph.Objects.{graph_seat, register_value}
 use Rattle.heap_model.specs.account.PhaseCounts.{phase, last_answer, has_left}
 use Rattle.heap_model.specs.graph.Graph.{Graph}
 use Rattle.core_machine.specs.declared.table.address.Address.TheVariants.{Answer}
 use Rattle.core_machine.specs.declared.place.Place.TheVariants as places
 use Rattle.core_machine.specs.declared.place.Polling.TheVariants.{Answering}
-use Rattle.core_machine.specs.seat.HandshakeMoves.{answer_move}
+use Rattle.core_machine.specs.seat.HandshakeMoves.{answer_move, phase_told}
 use Rattle.core_machine.specs.seat.Commands.{target_of}
 use Rattle.core_machine.specs.seat.Fits.{IsAtRest, SeatIsAnswering as IsAnswering}
-use Rattle.core_machine.specs.seat.HandshakeMoves.{phase_told}
-use Rattle.core_machine.specs.seat.Handshake.{polling_over}
+use Rattle.core_machine.specs.seat.Handshake.{polling_over, roots}
 use Rattle.core_machine.specs.declared.seat.looks.Looks.{Looks}
 use Rattle.core_machine.specs.seat.Looks.{forgotten}
 use Rattle.core_machine.specs.Move.{plain_move}
@@ -28,7 +27,6 @@ use Rattle.heap_model.specs.declared.command.Command.{Command}
 use Rattle.core_machine.specs.table.Layout.{put}
 use Rattle.core_machine.specs.machine.Machine.{State, seat_at}
 use Rattle.core_machine.specs.Moves.{Move}
-use Rattle.core_machine.specs.seat.Handshake.{roots}
 use Rattle.core_machine.specs.seat.Seat.{Seat, call_over, with_entries}
 use Rattle.core_machine.proofs.table_lemmas.Addresses.{at-put_same}
 use Rattle.core_rule.specs.Book.{Book}
@@ -37,7 +35,7 @@ use Rattle.core_rule.specs.Cycle.{SeatInCycle}
 use Rattle.core_rule.specs.Phases.{Asks, answer_word}
 use Rattle.core_rule.specs.Rule.{Rule, HeapStands, OwnStands, SeatStands}
 use Rattle.core_rule.specs.Registers.{HoldsValue}
-use Rattle.heap_model.specs.graph.Objects.{register_value}
+use Rattle.core_rule.proofs.entries.ToldSpines.{seats_tell, told_spines}
 use Rattle.core_rule.proofs.colours.LeadsFrames.{same_ahead}
 use Rattle.core_rule.proofs.spines.OtherWords.{spines_left_answer}
 use Rattle.core_rule.proofs.lists.Options.{if_some}
@@ -49,7 +47,7 @@ use Rattle.core_rule.proofs.marking.Marks.{MarksGoOn, Leaves, leaves_words, heap
 use Rattle.core_rule.proofs.entries.AnswerEntries.{graph_answer, graph_reply, phase_answer, accepts_reply, has_answered, keeps_answer, keeps_reply}
 use Rattle.core_rule.proofs.cycle.AnswerWords.{fragments_answer, heap_cycle_answer, leaves_answer}
 use Rattle.core_rule.proofs.footprint.BookGoing.{book_stays}
-use Rattle.core_rule.proofs.steps.Assemble.{seat_steps, step_budgets, MoveKeeps, StepKeeps}
+use Rattle.core_rule.proofs.steps.Assemble.{seat_steps, step_space, MoveKeeps, StepKeeps}
 use Rattle.core_rule.proofs.entries.PhasesTold.{answers_by}
 use Rattle.core_rule.proofs.entries.AtRest.{seat_fits, in_flight, none_awaited, spent_own, few_own}
 use Rattle.core_rule.proofs.cycle.CycleFrames.{cycle_stays}
@@ -139,7 +137,7 @@ module _ (heap : Heap) (state : State) (book : Book) (number : ℕ) (rule : Rule
   nodes = nodes_same g (graph_of heap middle.history) graph
 
   uses : UsesNothing first
-  uses = record { taken = refl; given = refl; freed = refl; words = refl; returned = refl }
+  uses = record { taken = refl; given = refl; freed = refl }
 
   heap_middle : HeapStands heap words middle
   heap_middle =
@@ -153,7 +151,7 @@ module _ (heap : Heap) (state : State) (book : Book) (number : ℕ) (rule : Rule
   makes = rw place tt
 
   grants_middle : SameGrants heap book middle
-  grants_middle = grants_past heap state.words words same book first nodes uses
+  grants_middle = grants_past heap state.words words same book first nodes (told_spines book.history first (seats_tell first refl refl))
 
   own_cycle : (looks : Looks) (added : List Entry)
       → SeatInCycle heap words (phase middle.history) (last_answer number middle.history) (has_left number middle.history) book.owner book.colour number (ended looks added)
@@ -218,7 +216,7 @@ module _ (heap : Heap) (state : State) (book : Book) (number : ℕ) (rule : Rule
       seat_steps heap state book number words now middle (first ∷ []) rule here machine refl refl heap_middle
       record {
         own = own_part seat.looks (first ∷ []);
-        names = record { registers = rw graph (λ i awake. holds i); way = tt; ahead = tt };
+        names = record { registers = rw graph (λ i awake. holds i); way = tt; address = tt };
         told = record {
           list = record { awaited = []; own = append-nil now.mine ∙ mine_middle; awaits = refl };
           counts = counts_own g (graph_of heap middle.history) book.history number seat now stands.told.counts first own
@@ -231,7 +229,7 @@ module _ (heap : Heap) (state : State) (book : Book) (number : ℕ) (rule : Rule
         cycle = own_cycle seat.looks (first ∷ []);
       }
       other_middle (marks_on middle.history seat.looks (first ∷ []))
-      (step_budgets heap state book number rule here words now middle (spines_left_answer heap state.words p number small) (none_weights seat now makes tt) grants_middle)
+      (step_space heap state book number rule here words now middle (spines_left_answer heap state.words p number small) (none_weights seat now makes tt) grants_middle (λ f dark. dark))
       (book_stays heap state book middle.history book.begun)
 
   -- and that of a poll with its reply
@@ -262,7 +260,7 @@ module _ (heap : Heap) (state : State) (book : Book) (number : ℕ) (rule : Rule
       (rw graph stands.told.counts.numbered) (rw graph stands.told.counts.stamped) (rw graph stands.told.counts.leaves) (omega arith) in
       record {
         own = own_part (forgotten seat.looks) (first ∷ second ∷ []);
-        names = record { registers = rw (graph_then ∙ graph) (λ i awake. holds i); way = tt; ahead = tt };
+        names = record { registers = rw (graph_then ∙ graph) (λ i awake. holds i); way = tt; address = tt };
         told = record {
           list = record {
             awaited = [];
@@ -288,8 +286,8 @@ module _ (heap : Heap) (state : State) (book : Book) (number : ℕ) (rule : Rule
   poll_kept : MoveKeeps heap state book number (answering number seat commands.Poll)
   poll_kept machine = seat_steps heap state book number words now later (first ∷ second ∷ []) rule here machine (append_assoc book.history (first ∷ []) (second ∷ [])) refl heap_later own_stands other_stands
       (marks_on later.history (forgotten seat.looks) (first ∷ second ∷ []))
-      (step_budgets heap state book number rule here words now later (spines_left_answer heap state.words p number small) (none_weights seat now makes tt)
-      (grants_on heap book middle later grants_middle (grants_told heap words middle second refl nodes_then)))
+      (step_space heap state book number rule here words now later (spines_left_answer heap state.words p number small) (none_weights seat now makes tt)
+      (grants_on heap book middle later grants_middle (grants_told heap words middle second refl nodes_then refl)) (λ f dark. dark))
       (book_stays heap state book later.history book.begun)
 
   -- so each answer keeps the rule

@@ -24,7 +24,7 @@ use Rattle.core_rule.specs.Gathers.{IsAnswered}
 use Rattle.core_rule.proofs.footprint.BookGoing.{owners_go}
 use Rattle.core_rule.proofs.footprint.OwnersGo.{give_goes}
 use Rattle.core_rule.proofs.frames.SeatFrames.{registers_owners}
-use Rattle.core_rule.proofs.steps.Assemble.{seat_steps, step_budgets, StepKeeps}
+use Rattle.core_rule.proofs.steps.Assemble.{seat_steps, step_space, StepKeeps}
 use Rattle.core_rule.proofs.entries.AtRest.{seat_fits, in_flight, own_reserve, none_awaited}
 use Rattle.core_rule.proofs.hand.EmptyHand.{nothing_together, gathers_none}
 use Rattle.core_rule.proofs.frames.GivingBack.{words_given, book_given, graph_given, kept_given, leaves_spines, grants_given, heap_given, cycle_given, other_given, marks_given}
@@ -73,7 +73,7 @@ empty_keeps heap state book number rule here place machine =
         registers = rw graph (λ r fresh. registers_owners book.owner later.owner kept book.made book.fragments g number seat.registers seat.place (target_of seat.command) stands.names.registers r
             (none_awaited seat.place (places.Leaving Emptying) (target_of seat.command) r place (λ none. none)));
         way = tt;
-        ahead = tt;
+        address = tt;
       };
       told = record {
         list = whole_list (graph_of heap later.history) later.history book.made later.owner book.fragments number now refl (own_grows number book.history seat.mine entry (eq-eqb number number refl) told);
@@ -87,6 +87,6 @@ empty_keeps heap state book number rule here place machine =
     }
     (other_given heap state book number rule here seat.cursor fs below held once)
     (marks_given heap state book number rule here seat.cursor fs below held once now refl refl tt)
-    (step_budgets heap state book number rule here words now later (leaves_spines heap state book number rule here seat.cursor fs below held once) (none_weights seat now makes tt)
-    (grants_given heap state book number rule here seat.cursor fs below held once))
+    (step_space heap state book number rule here words now later (leaves_spines heap state book number rule here seat.cursor fs below held once) (none_weights seat now makes tt)
+    (grants_given heap state book number rule here seat.cursor fs below held once) (λ f dark. dark))
     (owners_go heap state book later.history book.begun later.owner (give_goes (length book.made) book.owner fs number held))

@@ -29,10 +29,11 @@ use Rattle.core_rule.specs.Cycle.{SeatInCycle}
 use Rattle.core_rule.specs.Phases.{Asks, PollingStands}
 use Rattle.core_rule.specs.Paths.{IsReached}
 use Rattle.core_rule.specs.Rule.{Rule, SeatStands}
+use Rattle.core_rule.proofs.spines.BudgetFrames.{grants_same}
 use Rattle.core_rule.proofs.colours.SpineStays.{same_sources}
 use Rattle.core_rule.proofs.marking.Marks.{roots_off_way, leaves_words, marks_off_way}
 use Rattle.core_rule.proofs.footprint.BookGoing.{book_stays}
-use Rattle.core_rule.proofs.steps.Assemble.{Keeps, seat_steps, step_budgets, StepKeeps}
+use Rattle.core_rule.proofs.steps.Assemble.{Keeps, seat_steps, step_space, StepKeeps}
 use Rattle.core_rule.proofs.cycle.Roots.{roots_marked}
 use Rattle.core_rule.proofs.entries.AtRest.{seat_fits, in_flight, none_awaited}
 use Rattle.core_rule.proofs.entries.InFlight.{began_on}
@@ -159,7 +160,7 @@ module _ (heap : Heap) (state : State) (book : Book) (number : ℕ) (rule : Rule
           together = stands.own.together;
           spine = spine_away heap state.words state.words book.spine_owner number seat next (none_has_place seat seat.place (rw place tt)) (λ has. has) stands.own.spine;
         };
-        names = record { registers = λ i awake. holds i; way = tt; ahead = tt };
+        names = record { registers = λ i awake. holds i; way = tt; address = tt };
         told = record {
           list = record { awaited = []; own = append-nil next.mine ∙ append-nil seat.mine ∙ mine_told; awaits = refl };
           counts = counts_same g book.history number seat next refl refl refl refl stands.told.counts;
@@ -171,8 +172,8 @@ module _ (heap : Heap) (state : State) (book : Book) (number : ℕ) (rule : Rule
       }
       (λ r below apart other. other)
       (marks_off_way heap state book rule number here state.words book next (leaves_words heap state book rule state.words (same_sources heap state.words)) refl refl tt)
-      (step_budgets heap state book number rule here state.words next book (spines_left_none heap state.words) (none_weights seat next (rw place tt) tt)
-      record { told = refl; returned = refl; kept = refl; gone = refl })
+      (step_space heap state book number rule here state.words next book (spines_left_none heap state.words) (none_weights seat next (rw place tt) tt)
+      (grants_same heap book book.colour book.begun) (λ f dark. dark))
       (book_stays heap state book book.history book.begun)) machine
 
   poll_kept : PollKeeps heap state book number seat.command (found == seat.answered)

@@ -1,5 +1,5 @@
 -- The begin of a call that makes a record keeps the rule.
-use Rattle.std.proofs.Common.{slice_set, ℕ, ◌<◌, [], length, drop, refl, sym, ◌≡◌, subst, ◌∙◌}
+use Rattle.std.proofs.Common.{slice_set, ℕ, ◌<◌, [], length, drop, refl, ◌≡◌, subst, ◌∙◌}
 use Rattle.heap_model.specs.declared.command.Command.{Command}
 use Rattle.heap_model.specs.declared.command.Command.TheVariants as commands
 use Rattle.heap_model.specs.declared.heap.Heap.{Heap}
@@ -23,11 +23,11 @@ use Rattle.core_rule.proofs.entries.AtRest.{seat_fits, none_awaited}
 use Rattle.core_rule.proofs.entries.Begins.{begins, began_now}
 use Rattle.core_rule.proofs.hand.ClaimOrder.{together_goes_on}
 use Rattle.core_rule.proofs.hand.EmptyHand.{nothing_together, none_stored, gathers_none}
-use Rattle.core_rule.proofs.hand.GoesOn.{holding_goes_on, length_goes_on, gathers_goes_on, same_goes_on, IsUnplaced, unplaced_goes_on}
+use Rattle.core_rule.proofs.hand.GoesOn.{holding_goes_on, length_goes_on, gathers_goes_on, same_goes_on, IsUnplaced, unplaced_goes_on, unplaced_weights}
 use Rattle.core_rule.proofs.cycle.MakingCycle.{cycle_goes_on}
 use Rattle.core_rule.proofs.entries.OwnEntries.{counts_same}
 use Rattle.core_rule.proofs.entries.SeatLists.{list_of_making, idle_list}
-use Rattle.core_rule.proofs.spines.NoneMade.{MakesNone, none_has_place, none_granted, none_unplaced, none_refused}
+use Rattle.core_rule.proofs.spines.NoneMade.{MakesNone, none_has_place, none_granted, none_placed, none_refused}
 use Rattle.core_rule.proofs.spines.SpineFrames.{spine_away}
 
 -- a record has no spine words
@@ -60,7 +60,7 @@ begin_keeps heap state book number command rule here may a_record machine =
       names = record {
         registers = rw same.registers (λ r fresh. stands.names.registers r (none_awaited (seat_at state number).place places.Idle (target_of (seat_at state number).command) r may.idle (λ none. none)));
         way = rw stays.placed tt;
-        ahead = rw stays.placed tt;
+        address = rw stays.placed tt;
       };
       told = record {
         list = list_of_making (graph_of heap book.history) book.history book.made book.owner book.fragments number next stays.making stays.placed
@@ -75,9 +75,6 @@ begin_keeps heap state book number command rule here may a_record machine =
           record { answered = same.answered; left = same.left; asked = same.asked } (rw stays.placed tt) refl (λ f borne. borne) stands.cycle;
     }
     same.answered
-    record {
-      granted = unplaced.granted ∙ sym (none_granted (seat_at state number) (seat_at state number).place before);
-      unplaced = unplaced.unplaced ∙ sym (none_unplaced (seat_at state number) (seat_at state number).place before);
-      refused = unplaced.refused ∙ sym (none_refused (seat_at state number) (seat_at state number).place before);
-    }
+    (unplaced_weights 0 (seat_at state number) next (none_granted (seat_at state number) (seat_at state number).place before) (λ half. none_placed half (seat_at state number) (seat_at state number).place before)
+    (none_refused (seat_at state number) (seat_at state number).place before) unplaced)
     (λ marks. roots_off_way (IsReached heap state.words book.owner book.colour) (seat_at state number) next same.registers (rw stays.placed tt))

@@ -24,13 +24,14 @@ use Rattle.core_rule.specs.Objects.{node_at}
 use Rattle.core_rule.specs.Owners.{Owner, Borne, born_bit, owner_after, IsBoards}
 use Rattle.core_rule.specs.Rule.{Rule}
 use Rattle.core_rule.proofs.cycle.FieldFrames.{watched_born}
-use Rattle.core_rule.proofs.frames.SeatFrames.{same_party, told_nothing, kept_owners, seat_left, registers_owners}
+use Rattle.core_rule.proofs.frames.SeatFrames.{same_party, told_nothing, kept_owners, address_left, seat_left, registers_owners}
 use Rattle.core_rule.proofs.marking.MakingMarks.{leaves_borne, dark_now, pale_now}
 use Rattle.core_rule.proofs.marking.Marks.{marks_off_way}
-use Rattle.core_rule.proofs.spines.BudgetFrames.{kept_owned}
+use Rattle.core_rule.proofs.spines.BudgetFrames.{grants_on, grants_same, same_told}
+use Rattle.core_rule.proofs.spines.SameBooks.{grants_owned, dead_handed}
 use Rattle.core_rule.proofs.spines.OtherWords.{spines_left_control}
-use Rattle.core_rule.proofs.spines.SpineFrames.{spines_stay, same_shapes, spine_goes_on, spines_left, spine_stored}
-use Rattle.core_rule.proofs.steps.Assemble.{in_flight, seat_steps, step_budgets, MoveKeeps, seat_fits}
+use Rattle.core_rule.proofs.spines.SpineFrames.{spines_stay, same_shapes, spine_goes_on, spines_left, spine_stored, places_same}
+use Rattle.core_rule.proofs.steps.Assemble.{in_flight, seat_steps, step_space, MoveKeeps, seat_fits}
 use Rattle.core_rule.proofs.colours.Births.{birth_colour, births_are, are_births}
 use Rattle.core_rule.proofs.colours.BirthColours.{painted_cases}
 use Rattle.core_rule.proofs.cycle.BirthCycle.{words_born, colours_born, group_born, some_born, marks_born, heap_born, run_born, rest_born}
@@ -118,7 +119,7 @@ part_keeps heap state book number rule here place machine =
       names = record {
         registers = registers_owners book.owner owner kept book.made book.fragments (graph_of heap book.history) number seat.registers seat.place (target_of seat.command) stands.names.registers;
         way = rw place tt;
-        ahead = rw place tt;
+        address = rw place tt;
       };
       told = record {
         list = list_of_making (graph_of heap book.history) book.history book.made owner book.fragments number born Bearing place
@@ -139,6 +140,9 @@ part_keeps heap state book number rule here place machine =
       party = same_party (graph_of heap book.history) (graph_of heap book.history) r refl;
       told = told_nothing r book.history;
       kept = kept_owners (graph_of heap book.history) book.made book.owner owner book.fragments kept;
+      address = address_left heap state.words words book (record book { owner = owner; colour = colour }) (seat_at state r)
+          (kept_owners (graph_of heap book.history) book.made book.owner owner book.fragments kept)
+          (places_same heap state.words words (length book.made) book.spines book.spine_owner leaves.spines) other.names.way other.names.address;
       hand = hand_born book.owner r number part apart held;
       stored = stored_control heap state.words r (seat_at state r) g word below other.own.stored;
       spines = spines_left r book.spine_owner;
@@ -151,8 +155,11 @@ part_keeps heap state book number rule here place machine =
     (leaves_borne heap state book rule g word below (Borne number) part (λ f there. ap born_bit (held f there)) (λ i k e. cc) black
     (dark_now heap state book rule number here (in_flight rule number here (λ idle. absurd (cc (place, idle)))))
     (pale_now heap state book rule number here (in_flight rule number here (λ idle. absurd (cc (place, idle)))))) refl refl (rw place tt))
-    (step_budgets heap state book number rule here words born (record book { owner = owner; colour = colour }) leaves record { granted = refl; unplaced = refl; refused = refl }
-    record { told = refl; returned = refl; kept = kept_owned (length book.made) nodes book.owner owner book.fragments kept; gone = refl })
+    (step_space heap state book number rule here words born (record book { owner = owner; colour = colour }) leaves
+    record { granted = refl; placed = λ half. refl; refused = refl; range = record { had = λ has. has; spine = λ has. refl; answered = λ has. refl } }
+    (grants_on heap book (record book { owner = owner }) (record book { owner = owner; colour = colour })
+    (grants_owned heap book book.history owner (same_told book.history) kept (dead_handed (Borne number) book.owner part (λ i k e. cc) (λ f i k there is. absurd (cc (held f there, is)))) (same_shapes nodes))
+    (grants_same heap (record book { owner = owner }) colour book.begun)) marks)
     record {
       made = λ i less. refl;
       owners = birth_goes (length book.made) book.owner part number held;

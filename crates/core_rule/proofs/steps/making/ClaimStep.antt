@@ -20,7 +20,7 @@ use Rattle.core_machine.specs.machine.Machine.{seat_at}
 use Rattle.core_machine.specs.seat.Making.{next_group_of}
 use Rattle.core_machine.specs.Moves.{claim_move, takes_some, seat_after}
 use Rattle.core_machine.specs.table.Operation.{all_taken}
-use Rattle.core_machine.specs.seat.Seat.{Seat}
+use Rattle.core_machine.specs.seat.Seat.{Seat, spine_need}
 use Rattle.core_machine.proofs.table_lemmas.Owned.{clear_in-group}
 use Rattle.core_machine.proofs.seat_lemmas.Fitting.{next_within}
 use Rattle.core_rule.specs.ControlWords.{Bits}
@@ -33,13 +33,13 @@ use Rattle.core_rule.specs.Together.{AreTogether}
 use Rattle.core_rule.proofs.cycle.FieldFrames.{watched_born}
 use Rattle.core_rule.proofs.footprint.BookGoing.{owners_go}
 use Rattle.core_rule.proofs.footprint.OwnersGo.{claim_goes}
-use Rattle.core_rule.proofs.frames.SeatFrames.{same_party, kept_owners, seat_left, registers_owners}
+use Rattle.core_rule.proofs.frames.SeatFrames.{KeptStays, same_party, kept_owners, address_left, seat_left, registers_owners}
 use Rattle.core_rule.proofs.marking.MakingMarks.{leaves_handed}
 use Rattle.core_rule.proofs.marking.Marks.{marks_off_way}
-use Rattle.core_rule.proofs.spines.BudgetFrames.{kept_owned}
+use Rattle.core_rule.proofs.spines.SameBooks.{grants_owned, dead_handed}
 use Rattle.core_rule.proofs.spines.OtherWords.{spines_left_control}
-use Rattle.core_rule.proofs.spines.SpineFrames.{spines_stay, same_shapes, spine_away, spines_left, spine_stored}
-use Rattle.core_rule.proofs.steps.Assemble.{present_at, seat_steps, step_budgets, StepKeeps, seat_fits}
+use Rattle.core_rule.proofs.spines.SpineFrames.{spines_stay, same_shapes, spine_away, spines_left, spine_stored, places_same}
+use Rattle.core_rule.proofs.steps.Assemble.{present_at, seat_steps, step_space, StepKeeps, seat_fits}
 use Rattle.core_rule.proofs.colours.BirthColours.{marks_claim}
 use Rattle.core_rule.proofs.hand.Bodies.{whole_empty}
 use Rattle.core_rule.proofs.hand.ClaimOrder.{together_goes_on, together_claims}
@@ -49,7 +49,7 @@ use Rattle.core_rule.proofs.words.ControlLemmas.{found_taken}
 use Rattle.core_rule.proofs.words.ControlSteps.{claim_bits, clear_is_free}
 use Rattle.core_rule.proofs.counts.CountMoves.{claim_frees}
 use Rattle.core_rule.proofs.hand.EmptyHand.{none_stored}
-use Rattle.core_rule.proofs.hand.GoesOn.{holding_goes_on, length_goes_on, gathers_goes_on, same_goes_on, unplaced_goes_on}
+use Rattle.core_rule.proofs.hand.GoesOn.{holding_goes_on, length_goes_on, gathers_goes_on, same_goes_on, unplaced_goes_on, unplaced_weights}
 use Rattle.core_rule.proofs.hand.HandMoves.{holding_claims, hand_claimed}
 use Rattle.core_rule.proofs.entries.InFlight.{awaits_none, is_busy}
 use Rattle.core_rule.proofs.cycle.MakingCycle.{answer_after_control, cycle_control, cycle_goes_on, heap_hands, borne_before}
@@ -123,6 +123,7 @@ claim_keeps heap state book number rule here place machine =
     let list = making_list g_of book.history book.made book.owner book.fragments number seat Gathering place stands.told.list in
     let tells = told heap state book number fs rule here (is_busy Gathering seat.place place) present gathers.none_given once inside free
     (none_free heap state.words book.owner g rule.machine.table below heap_stands.control_words number book.history heap_stands.used) in
+    let kept_on : KeptStays g_of (graph_of heap history) book.made book.made book.owner owner book.fragments book.fragments = rw tells.graph (kept_owners g_of book.made book.owner owner book.fragments kept) in
     seat_steps heap state book number words next (record book { history = history; owner = owner }) added
     rule here machine refl tells.log
     record {
@@ -153,7 +154,7 @@ claim_keeps heap state book number rule here place machine =
       names = record {
         registers = rw (tells.graph, same.registers) (λ r fresh. registers_owners book.owner owner kept book.made book.fragments g_of number seat.registers seat.place (target_of seat.command) stands.names.registers r (awaits_none Gathering seat.place (target_of seat.command) r place));
         way = rw stays.placed tt;
-        ahead = rw stays.placed tt;
+        address = rw stays.placed tt;
       };
       told = record {
         list = list_of_making (graph_of heap history) history book.made owner book.fragments number next stays.making stays.placed (ap (λ m. m ++ added) same.mine ∙ tells.own seat.mine list);
@@ -174,11 +175,13 @@ claim_keeps heap state book number rule here place machine =
       calls = refl;
       party = same_party g_of (graph_of heap history) r (ap (λ (x : Graph). graph_seat x r) tells.graph);
       told = tells.others r apart;
-      kept = rw tells.graph (kept_owners g_of book.made book.owner owner book.fragments kept);
+      kept = kept_on;
       hand = hand_claimed book.owner r number fs apart free;
       stored = stored_control heap state.words r (seat_at state r) g word below other.own.stored;
       spines = spines_left r book.spine_owner;
       spine_stored = spine_stored heap state.words words (seat_at state r) leaves other.own.spine.stored;
+      address = address_left heap state.words words book (record book { history = history; owner = owner }) (seat_at state r) kept_on
+          (places_same heap state.words words (length book.made) book.spines book.spine_owner leaves.spines) other.names.way other.names.address;
       gathers = tells.other_gathers r under apart;
       cycle = tells.cycles words owner book.colour r (seat_at state r)
           (cycle_control heap state.words book.owner owner book.colour book.colour (phase book.history) (last_answer r book.history) (has_left r book.history) r (seat_at state r) g word below
@@ -186,11 +189,8 @@ claim_keeps heap state book number rule here place machine =
     } other)
     (marks_off_way heap state book rule number here words (record book { history = history; owner = owner }) next
     (leaves_handed heap state book rule g word below (Taken number) fs (λ f there. ap born_bit (free f there)) (λ i k e. cc) refl) same.answered same.registers (rw stays.placed tt))
-    (step_budgets heap state book number rule here words next (record book { history = history; owner = owner }) leaves
-    record {
-      granted = unplaced.granted ∙ sym (rw place refl);
-      unplaced = unplaced.unplaced ∙ sym (rw place refl);
-      refused = unplaced.refused ∙ sym (rw place refl);
-    }
-    record { told = tells.granted; returned = tells.returned; kept = rw tells.graph (kept_owned (length book.made) nodes book.owner owner book.fragments kept); gone = refl })
+    (step_space heap state book number rule here words next (record book { history = history; owner = owner }) leaves
+    (unplaced_weights (spine_need mid) seat next (rw place refl) (λ half. rw place refl) (rw place refl)
+    record { granted = unplaced.granted; placed = unplaced.placed; refused = unplaced.refused; no_place = unplaced.no_place; none_used = unplaced.none_used })
+    (grants_owned heap book history owner tells.spines kept (dead_handed (Taken number) book.owner fs (λ i k e. cc) (λ f i k there is. absurd (cc (free f there, is)))) (rw tells.graph (same_shapes nodes))) (λ f dark. dark))
     (owners_go heap state book history book.begun owner (claim_goes (length book.made) book.owner fs number free))

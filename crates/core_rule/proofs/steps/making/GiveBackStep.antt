@@ -1,5 +1,5 @@
 -- A give back keeps the rule.
-use Rattle.std.proofs.Common.{◌≡◌, ℕ, ◌+◌, ◌<◌, List, [], ◌∷◌, length, refl, sym, ◌∙◌, arith}
+use Rattle.std.proofs.Common.{◌≡◌, ℕ, ◌+◌, ◌<◌, List, [], ◌∷◌, length, refl, arith}
 use Rattle.std.proofs.lemmas.Bool.{eq-eqb}
 use Rattle.heap_model.specs.declared.entry.Entry.{Entry}
 use Rattle.heap_model.specs.declared.entry.Entry.TheVariants as entries
@@ -15,18 +15,18 @@ use Rattle.core_machine.specs.table.Layout.{at}
 use Rattle.core_machine.specs.machine.Machine.{seat_at}
 use Rattle.core_machine.specs.seat.Making.{first_group_of, refusal_place}
 use Rattle.core_machine.specs.Moves.{give_back_move, seat_after}
-use Rattle.core_machine.specs.seat.Seat.{Seat}
+use Rattle.core_machine.specs.seat.Seat.{Seat, spine_need}
 use Rattle.core_rule.specs.Book.{Book}
 use Rattle.core_rule.specs.Holding.{fragments_in_hand}
 use Rattle.core_rule.proofs.footprint.BookGoing.{owners_go}
 use Rattle.core_rule.proofs.footprint.OwnersGo.{give_goes}
 use Rattle.core_rule.proofs.frames.SeatFrames.{registers_owners}
 use Rattle.core_rule.proofs.spines.SpineFrames.{spine_away}
-use Rattle.core_rule.proofs.steps.Assemble.{present_at, seat_steps, step_budgets, StepKeeps, seat_fits}
+use Rattle.core_rule.proofs.steps.Assemble.{present_at, seat_steps, step_space, StepKeeps, seat_fits}
 use Rattle.core_rule.proofs.hand.Bodies.{whole_empty}
 use Rattle.core_rule.proofs.hand.ClaimOrder.{together_gives}
 use Rattle.core_rule.proofs.words.ControlSteps.{give_back_bits}
-use Rattle.core_rule.proofs.hand.GoesOn.{unplaced_refusing}
+use Rattle.core_rule.proofs.hand.GoesOn.{unplaced_refusing, unplaced_weights}
 use Rattle.core_rule.proofs.gather.GatherSteps.{own_gives}
 use Rattle.core_rule.proofs.frames.GivingBack.{words_given, book_given, graph_given, kept_given, heap_given, cycle_given, other_given, marks_given, leaves_spines, grants_given}
 use Rattle.core_rule.proofs.hand.HandMoves.{hand_held, hand_once, part_held, part_once, held_within, holding_gives}
@@ -80,7 +80,7 @@ give_back_keeps heap state book number rule here place machine =
         registers = rw graph (λ r fresh. registers_owners book.owner later.owner kept book.made book.fragments before number seat.registers seat.place (target_of seat.command) stands.names.registers r
             (awaits_none Returning seat.place (target_of seat.command) r place));
         way = tt;
-        ahead = tt;
+        address = tt;
       };
       told = record {
         list = whole_list (graph_of heap later.history) later.history book.made later.owner book.fragments number now refl (own_grows number book.history seat.mine entry (eq-eqb number number refl) list);
@@ -96,11 +96,7 @@ give_back_keeps heap state book number rule here place machine =
     }
     (other_given heap state book number rule here g part below held once)
     (marks_given heap state book number rule here g part below held once now refl refl tt)
-    (step_budgets heap state book number rule here (words_given heap state book number rule here g part below held once) now later
+    (step_space heap state book number rule here (words_given heap state book number rule here g part below held once) now later
     (leaves_spines heap state book number rule here g part below held once)
-    record {
-      granted = unplaced.granted ∙ sym (rw place refl);
-      unplaced = unplaced.unplaced ∙ sym (rw place refl);
-      refused = unplaced.refused ∙ sym (rw place refl);
-    } (grants_given heap state book number rule here g part below held once))
+    (unplaced_weights (spine_need seat) seat now (rw place refl) (λ half. rw place refl) (rw place refl) unplaced) (grants_given heap state book number rule here g part below held once) (λ f dark. dark))
     (owners_go heap state book later.history book.begun later.owner (give_goes (length book.made) book.owner part number held))

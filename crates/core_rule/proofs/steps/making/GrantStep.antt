@@ -4,6 +4,7 @@ use Rattle.std.proofs.Common.{◌≡◌, ℕ, ◌+◌, ◌%◌, ◌^◌, ◌<◌
 use Rattle.std.proofs.lemmas.Bool.Decides.{leb_tells}
 use Rattle.std.proofs.lemmas.List.{append-nil}
 use Rattle.heap_words.specs.Spot.{spot_in}
+use Rattle.heap_words.specs.declared.spot.Spot.{Spot}
 use Rattle.heap_model.specs.declared.heap.Heap.{Heap}
 use Rattle.heap_model.specs.account.Cycles.{graph_of}
 use Rattle.heap_model.specs.account.PhaseCounts.{phase, last_answer, has_left}
@@ -27,6 +28,9 @@ use Rattle.core_rule.specs.Holding.{Holding, fragments_in_hand}
 use Rattle.core_rule.specs.Rule.{Rule, SeatStands}
 use Rattle.core_rule.specs.Spines.{HasPlace, next_spine}
 use Rattle.core_rule.specs.Together.{AreTogether}
+use Rattle.core_rule.proofs.spines.NoPlaces.{away_range}
+use Rattle.core_rule.proofs.spines.HalvesFrames.{halves_stay}
+use Rattle.core_rule.proofs.spines.BudgetFrames.{grants_same}
 use Rattle.core_rule.proofs.cycle.MakingCycle.{cycle_goes_on}
 use Rattle.core_rule.proofs.entries.InFlight.{awaits_none, began_on, is_busy}
 use Rattle.core_rule.proofs.entries.OwnEntries.{counts_same}
@@ -66,16 +70,16 @@ module _ (heap : Heap) (state : State) (book : Book) (number : ℕ) (rule : Rule
   fits = rw place at (seat_fits rule number here).at_place
 
   -- nothing is granted to the seat yet
-  nothing : HasWeights seat 0 0 0
-  nothing = record { given_is = rw place refl; unplaced_is = rw place refl; refused_is = rw place refl }
+  nothing : HasWeights (next_spine heap state.words).half seat 0 0 0
+  nothing = record { given_is = rw place refl; placed_is = rw place refl; refused_is = rw place refl }
 
   -- what it asks for is added to the budget
   grown : at heap words Budget ≡ found + needs
   grown = at-put_same heap state.words Budget _ rule.machine.table tt
-      ∙ budget_grows found needs (budget_small heap state book rule.machine rule.budgets) (need_few seat.command fits.1.in_range)
+      ∙ budget_grows found needs (budget_small heap state book rule.machine rule.space.budgets) (need_few seat.command fits.1.in_range)
 
-  same_place : (next_spine heap words).offset ≡ (next_spine heap state.words).offset
-  same_place = ap (λ w. (spot_in w).offset) (budget_places heap state book rule ((found + needs) % 2 ^ 64)).spot
+  same_place : next_spine heap words ≡ next_spine heap state.words
+  same_place = ap spot_in (budget_places heap state book rule ((found + needs) % 2 ^ 64)).spot
 
   -- the seat goes on with what it has, where its budget stands
   goes : (next : Seat) → StaysMaking seat next → Holding book.owner number next.reserve next.hand next.body → AreTogether heap next.cursor next.tried next.hand next.body
@@ -101,7 +105,7 @@ module _ (heap : Heap) (state : State) (book : Book) (number : ℕ) (rule : Rule
         names = record {
           registers = rw same.registers (λ r fresh. stands.names.registers r (awaits_none Granting seat.place (target_of seat.command) r place));
           way = rw stays.placed tt;
-          ahead = rw stays.placed tt;
+          address = rw stays.placed tt;
         };
         told = record {
           list = list_of_making g book.history book.made book.owner book.fragments number new stays.making stays.placed
@@ -116,7 +120,12 @@ module _ (heap : Heap) (state : State) (book : Book) (number : ℕ) (rule : Rule
       }
       (λ r below apart other. seat_budget heap state book rule ((found + needs) % 2 ^ 64) r below)
       (marks_off_way heap state book rule number here words book new (leaves_words heap state book rule words (budget_sources heap state book rule ((found + needs) % 2 ^ 64))) same.answered same.registers (rw stays.placed tt))
-      budgets (book_stays heap state book book.history book.begun)
+      record {
+        budgets = budgets;
+        halves = halves_stay heap state book number words new book here rule.machine.seated (budget_places heap state book rule ((found + needs) % 2 ^ 64)) (away_range seat new no_place)
+            (grants_same heap book book.colour book.begun) (λ f dark. dark) rule.space.halves;
+      }
+      (book_stays heap state book book.history book.begun)
 
   -- they were too many
   refused : heap.spine < found + needs → IsMachine heap (record state { words = words; seats = slice_set state.seats number (with_entries (record seat { used = found; place = places.Making Withdrawing }) []) })
@@ -129,9 +138,9 @@ module _ (heap : Heap) (state : State) (book : Book) (number : ℕ) (rule : Rule
         making = Withdrawing;
         placed = refl;
       }
-      stands.own.holding stands.own.together refl stands.told.gathers (λ has. has) (finds_budget heap state book rule.machine rule.budgets number here nothing)
-      (budgets_change heap state book number here rule.machine.seated words (with_entries next []) 0 0 0 nothing 0 0 needs record { given_is = refl; unplaced_is = refl; refused_is = refl }
-      book record { told = refl; returned = refl; kept = refl; gone = refl } (omega (arith, same_place)) (omega (arith, grown)) (omega (arith, rule.budgets.low)) rule.budgets)
+      stands.own.holding stands.own.together refl stands.told.gathers (λ has. has) (finds_budget heap state book rule.machine rule.space.budgets number here nothing)
+      (budgets_change heap state book number here rule.machine.seated words (with_entries next []) 0 0 0 nothing 0 0 needs record { given_is = refl; placed_is = refl; refused_is = refl }
+      book (grants_same heap book book.colour book.begun) (ap (λ (s : Spot). s.half) same_place) (ap (λ (s : Spot). s.offset + 0) same_place) (omega (arith, grown)) (omega (arith, rule.space.budgets.low)) rule.space.budgets)
 
   -- they were granted, and the seat gathers
   granted : found + needs ≤ heap.spine → IsMachine heap (record state { words = words; seats = slice_set state.seats number (with_entries (gather_next heap seat) []) })
@@ -145,10 +154,10 @@ module _ (heap : Heap) (state : State) (book : Book) (number : ℕ) (rule : Rule
       (length_goes_on heap seat fits.0.no_body)
       (gathers_goes_on heap book.owner number (drop (book.begun number) book.history) seat fits.0.none_given stands.told.gathers)
       unplaced.no_place (unplaced.none_used heap book.history number)
-      (budgets_change heap state book number here rule.machine.seated words (with_entries next []) 0 0 0 nothing needs needs 0
-      record { given_is = unplaced.granted; unplaced_is = unplaced.unplaced; refused_is = unplaced.refused }
-      book record { told = refl; returned = refl; kept = refl; gone = refl } (omega (arith, same_place)) (omega (arith, grown))
-      (omega (arith, few, rule.budgets.word)) rule.budgets)
+      (budgets_change heap state book number here rule.machine.seated words (with_entries next []) 0 0 0 nothing needs 0 0
+      record { given_is = unplaced.granted; placed_is = unplaced.placed (next_spine heap state.words).half; refused_is = unplaced.refused }
+      book (grants_same heap book book.colour book.begun) (ap (λ (s : Spot). s.half) same_place) (ap (λ (s : Spot). s.offset + 0) same_place) (omega (arith, grown))
+      (omega (arith, few, rule.space.budgets.word)) rule.space.budgets)
 
   abbrev Answered : Bool → Type 0
   Answered many = IsMachine heap (record state { words = words; seats = slice_set state.seats number (with_entries (if many then record seat { used = found; place = places.Making Withdrawing } else gather_next heap seat) []) })

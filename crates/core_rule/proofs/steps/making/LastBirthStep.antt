@@ -1,6 +1,5 @@
 -- The last birth of an object keeps the rule.
-use Rattle.std.proofs.Common.{eq-eqb, ◌≡◌, ℕ, ◌+◌, ◌*◌, ◌<◌, ◌≤◌, Bool, false, List, [], ◌∷◌, length, drop, bit_or, refl, sym, ap, ◌∙◌, subst, arith, true, length-append}
-use Rattle.std.proofs.lemmas.List.{length-replicate}
+use Rattle.std.proofs.Common.{eq-eqb, ◌≡◌, ℕ, ◌*◌, ◌<◌, ◌≤◌, Bool, List, [], ◌∷◌, length, drop, bit_or, refl, sym, ap, subst, arith, true}
 use Rattle.heap_model.specs.declared.entry.Entry.{Entry}
 use Rattle.heap_model.specs.declared.heap.Heap.{Heap}
 use Rattle.heap_model.specs.declared.id.Id.{Id}
@@ -8,35 +7,37 @@ use Rattle.heap_model.specs.declared.id.Id.TheVariants.{Made}
 use Rattle.heap_model.specs.graph.Changes.{add}
 use Rattle.heap_model.specs.account.Cycles.{graph_of}
 use Rattle.heap_model.specs.account.PhaseCounts.{phase, last_answer, has_left}
-use Rattle.heap_model.specs.graph.Graph.{Graph, Node, fresh, unset}
-use Rattle.heap_model.specs.graph.Sizes.{spine_words_of}
-use Rattle.heap_model.specs.Needs.{array_words}
-use Rattle.heap_model.proofs.Histories.{total-more}
+use Rattle.heap_model.specs.graph.Graph.{Graph, fresh}
 use Rattle.core_machine.specs.declared.table.address.Address.TheVariants.{Control}
 use Rattle.core_machine.specs.declared.place.Making.TheVariants.{Bearing}
 use Rattle.core_machine.specs.declared.place.Place.TheVariants as places
 use Rattle.core_machine.specs.seat.Commands.{target_of, MakesObject}
 use Rattle.core_machine.specs.seat.Fits.{HasBody, IsListed, IsSilent}
-use Rattle.core_machine.specs.table.Fragments.{part_in, mask_of, tally}
+use Rattle.core_machine.specs.table.Fragments.{part_in, mask_of}
 use Rattle.core_machine.specs.table.Layout.{at}
 use Rattle.core_machine.specs.machine.Machine.{State, seat_at}
-use Rattle.core_machine.specs.seat.Making.{last_group_of, next_object_id, next_name, newborn_word_of, after_last_birth}
+use Rattle.core_machine.specs.seat.Making.{last_group_of, next_object_id, after_last_birth}
 use Rattle.core_machine.specs.Moves.{Move, plain_move, bears_black_of, last_birth_move, made_entry, seat_after, is_last_birth}
 use Rattle.core_machine.specs.declared.step.Step.TheVariants as steps
 use Rattle.core_machine.specs.declared.step.MakingStep.TheVariants.{LastBirth}
 use Rattle.core_machine.specs.table.Operation.{birth_bits_of}
 use Rattle.core_machine.specs.seat.Seat.{Seat, spine_need}
 use Rattle.core_rule.specs.Book.{Book}
-use Rattle.core_rule.specs.Objects.{AreMade, node_at}
-use Rattle.core_rule.specs.Budgets.{kept_words}
+use Rattle.core_rule.specs.Objects.{AreMade}
+use Rattle.core_rule.specs.Budgets.{nodes_in}
 use Rattle.core_rule.specs.Rule.{Rule}
 use Rattle.core_rule.specs.Spines.{HasPlace}
+use Rattle.core_rule.proofs.objects.ObjectsGrowth.{spine_old, NewBody, objects_grown}
+use Rattle.core_rule.proofs.spines.SpineBirths.{born_gone, spine_born, spines_born, born_leaves}
+use Rattle.core_rule.proofs.spines.SpineFrames.{PlacesStay, spine_stored}
+use Rattle.core_rule.proofs.frames.SeatFrames.{KeptStays, address_left, same_party, told_other, seat_left}
+use Rattle.core_rule.proofs.steps.making.LastBirthSpace.{graph_now, one_object, each_once, unkept_parts, new_body, longer, shapes_now, as_many, space_born}
 use Rattle.core_rule.proofs.cycle.FieldFrames.{watched_born}
 use Rattle.core_rule.proofs.marking.LastBirthMarks.{book_born, marks_made}
 use Rattle.core_rule.proofs.steps.Assemble.{present_at, seat_steps, MoveKeeps, seat_fits}
 use Rattle.core_rule.proofs.colours.Births.{birth_colour, AreBorne, births_are, are_births}
-use Rattle.core_rule.proofs.cycle.BirthCycle.{words_born, group_born, some_born, marks_born, heap_born, run_born, words_listed}
-use Rattle.core_rule.proofs.hand.Bodies.{body_once, body_own}
+use Rattle.core_rule.proofs.cycle.BirthCycle.{words_born, group_born, some_born, marks_born, heap_born, run_born}
+use Rattle.core_rule.proofs.hand.Bodies.{body_own}
 use Rattle.core_rule.proofs.counts.CountMoves.{used_same}
 use Rattle.core_rule.proofs.cycle.CycleHistory.{heap_cycle_more, cycle_own, cycle_other}
 use Rattle.core_rule.proofs.hand.EmptyHand.{nothing_together}
@@ -48,40 +49,27 @@ use Rattle.core_rule.proofs.entries.InFlight.{awaits_none, began_idle}
 use Rattle.core_rule.proofs.footprint.BirthsGo.{painted_goes}
 use Rattle.core_rule.proofs.footprint.OwnersGo.{parts_go}
 use Rattle.core_rule.proofs.graph.Numbering.{id_at-append}
-use Rattle.core_rule.proofs.graph.SameNodes.{SameShape, shape_same}
 use Rattle.core_rule.proofs.hand.HandMoves.{part_held}
-use Rattle.core_rule.proofs.hand.MakingSeats.{made_sized, made_whole, newborn_fresh, listed_within}
+use Rattle.core_rule.proofs.hand.MakingSeats.{listed_within}
 use Rattle.core_rule.proofs.owners.Keeping.{kept_was, kept_part, dead_unkept}
 use Rattle.core_rule.proofs.owners.KeptOwners.{kept_free, kept_taken, kept_holding, kept_others, kept_bits}
-use Rattle.core_rule.proofs.objects.LastBirth.{one_more, all_stored, registers_own}
+use Rattle.core_rule.proofs.objects.LastBirth.{registers_own}
 use Rattle.core_rule.proofs.colours.LastColours.{kept_bears, kept_own, kept_borne, kept_first}
-use Rattle.core_rule.proofs.entries.MadeEntry.{graph_grown, used_made, counts_made, made_legal}
+use Rattle.core_rule.proofs.entries.MadeEntry.{used_made, counts_made, made_legal}
 use Rattle.core_rule.proofs.cycle.MakingCycle.{answer_after_control, cycle_control}
 use Rattle.core_rule.proofs.objects.NamesGrowth.{names_grown, object_grows, old_apart}
 use Rattle.core_rule.proofs.objects.ObjectFrames.{objects_control}
-use Rattle.core_rule.proofs.objects.ObjectsGrowth.{NewBody, objects_grown, node_old, node_new, fresh_words}
 use Rattle.core_rule.proofs.entries.Others.{gathers_stay, of_other}
 use Rattle.core_rule.proofs.entries.OwnEntries.{own_grows}
 use Rattle.core_rule.proofs.owners.OwnerFrames.{owners_kept}
-use Rattle.core_rule.proofs.owners.OwnerLemmas.{own_keeps_none, own_not_boards}
+use Rattle.core_rule.proofs.owners.OwnerLemmas.{own_not_boards}
 use Rattle.core_rule.proofs.entries.PhaseEntries.{no_leave_told}
-use Rattle.core_rule.proofs.entries.MakingCommands.{makes_array, size_made, words_made, ranges_made}
-use Rattle.core_rule.proofs.frames.SeatFrames.{same_party, told_other, seat_left}
+use Rattle.core_rule.proofs.entries.MakingCommands.{makes_array, size_made, ranges_made}
 use Rattle.core_rule.proofs.entries.SeatLists.{making_list, whole_list}
-use Rattle.core_rule.proofs.spines.BudgetFrames.{none_returned_by}
-use Rattle.core_rule.proofs.spines.BudgetSteps.{budgets_born}
 use Rattle.core_rule.proofs.spines.OtherWords.{spines_left_control}
-use Rattle.core_rule.proofs.spines.SpineBirths.{spine_born, spines_born, born_leaves}
-use Rattle.core_rule.proofs.spines.SpineBirths as spine_births
-use Rattle.core_rule.proofs.spines.SpineFrames.{spine_stored}
 use Rattle.core_rule.proofs.hand.StoredFrames.{stored_control}
 use Rattle.core_rule.proofs.cycle.Unwatched.{cycle_apart}
 use Rattle.core_rule.proofs.spines.DeadWords.{dead_after_control}
-
--- an object of so many cells has as many spine words
-fresh_has_words : (array : Bool) (cells : ℕ) → spine_words_of (fresh array cells) ≡ fresh_words array cells
-fresh_has_words true cells = ap array_words (length-replicate cells unset)
-fresh_has_words false cells = refl
 
 -- the step that bears this part of the hand, by which the object is made
 abbrev last_birth_of : ℕ → Seat → List ℕ → Move
@@ -118,33 +106,25 @@ part_keeps heap state book number rule here place last machine =
     let ranges = ranges_made seat.command has.makes.an_object has.makes.in_range in
     let g : Graph = graph_of heap book.history in
     let grown : Graph = add g number d (fresh array cells) in
-    let graph : graph_of heap now.history ≡ grown = graph_grown heap book.history number seat has.makes.an_object in
+    let graph : graph_of heap now.history ≡ grown = graph_now heap state book number rule here place in
     let ids : AreMade g book.made = rule.heap_stands.ids in
-    let more : OneMore g grown id (fresh array cells) = one_more g number d (fresh array cells) seat.made present stands.told.counts.numbered in
-    let once = body_once book.owner number seat.reserve seat.hand body stands.own.holding some in
-    let unkept = λ (f i k : ℕ) (there : 1 ≤ tally f body). own_keeps_none number i k (book.owner f) (body_own book.owner number seat.reserve seat.hand body stands.own.holding f there) in
-    let stored = all_stored heap state.words body (newborn_word_of number seat) seat.stored at_place.3 stands.own.stored in
-    let words_needed = words_made seat.command has.makes.an_object in
-    let new : NewBody heap state.words book.owner id array cells body seat.spine = record {
-      sized = made_sized seat has;
-      whole = made_whole seat has;
-      once = once;
-      unkept = unkept;
-      newborn = λ k part less within. stored k part less within ∙ newborn_fresh seat.command has.makes.an_object (next_name number seat) seat.spine body k part;
-      listed = λ j within. words_listed heap state book number rule here place j (subst (λ n. j < n) (sym words_needed) within);
-    } in
+    let more : OneMore g grown id (fresh array cells) = one_object heap state book number rule here place in
+    let once = each_once heap state book number rule here place in
+    let unkept = unkept_parts heap state book number rule here place in
     let count : ℕ = length book.made in
-    let longer : length now.made ≡ count + 1 = length-append book.made (id ∷ []) in
-    let nodes : ℕ → Node = node_at g book.made in
-    let now_nodes : ℕ → Node = node_at grown now.made in
-    let fresh_node = node_new heap state.words g grown book.made id book.owner book.fragments book.spines array cells body seat.spine ids more new rule.heap_stands.objects in
-    let shapes : (i : ℕ) → i < count → SameShape (now_nodes i) (nodes i)
-    = λ i less. shape_same (now_nodes i) (nodes i)
-    (node_old heap state.words g grown book.made id book.owner book.fragments book.spines array cells body seat.spine ids more new rule.heap_stands.objects i less) in
-    let as_many : spine_words_of (now_nodes count) ≡ spine_need seat = ap spine_words_of fresh_node ∙ fresh_has_words array cells ∙ sym words_needed in
+    let new : NewBody heap state.words book.owner id array cells body seat.spine = new_body heap state book number rule here place in
     let has_place : 0 < spine_need seat → HasPlace seat seat.place
     = λ some_words. subst (HasPlace seat) (sym place) (listed_within seat.command seat.spine seat.listed 0 has.makes.an_object at_place.4 some_words).0 in
     let leaves = spines_left_control heap state.words word group below in
+    let kept_on : KeptStays g (graph_of heap now.history) book.made now.made book.owner now.owner book.fragments now.fragments = rw graph record {
+      names = names_grown book.made id book.owner book.fragments body unkept;
+      objects = object_grows g grown book.made id book.owner book.fragments (fresh array cells) body unkept ids more;
+    } in
+    let places : PlacesStay heap state.words words count book.spines now.spines book.spine_owner now.spine_owner = record {
+      stay = λ i less. spine_old book.spines count seat.spine i (λ e. omega (arith, e, less));
+      gone = λ half offset is. born_gone number count (book.spine_owner half offset) is;
+      as_were = λ half offset is. leaves.spines half offset;
+    } in
     let after : Seat = seat_after (last_birth_of number seat part) found in
     let black : Bool = bears_black_of seat in
     let births : AreBorne book.owner book.colour number black = births_are book.owner book.colour number seat stands.cycle.births in
@@ -158,8 +138,9 @@ part_keeps heap state book number rule here place last machine =
       ids = rw graph (ids_grown g grown book.made id (fresh array cells) ids more (omega (arith, here, rule.machine.limits.seats_fit), omega (arith, has.makes.numbered)));
       objects = rw graph (objects_control heap state.words grown now.made now.owner now.fragments now.spines group word below
           (objects_grown heap state.words g grown book.made id book.owner book.fragments book.spines array cells body seat.spine ids more new rule.heap_stands.objects));
-      spines = rw (graph, longer) (spines_born count nodes now_nodes book.owner book.fragments body some unkept shapes heap state.words words heap.seats book.spines book.spine_owner number seat
-          leaves stands.own.spine as_many has_place (kept_part count body book.owner once 0 some)
+      spines = rw (longer heap state book number rule here place) (spines_born count (nodes_in heap book) (nodes_in heap now) book.owner book.fragments body some unkept
+          (shapes_now heap state book number rule here place) heap state.words words heap.seats book.spines book.spine_owner number seat
+          leaves stands.own.spine (as_many heap state book number rule here place) has_place (kept_part count body book.owner once 0 some)
           (dead_after_control heap state.words book.owner now.owner group word below (dead_unkept count body book.owner)) rule.heap_stands.spines);
       used = used_made heap now.owner book.history number seat (used_same heap book.owner now.owner book.history
           (kept_taken book.owner number seat.reserve seat.hand body stands.own.holding some (length book.made)) rule.heap_stands.used);
@@ -183,7 +164,7 @@ part_keeps heap state book number rule here place last machine =
             (omega (arith, registers_length heap book.history number present, ranges.1)) (ap (Made number) stands.told.counts.numbered)
             (λ i. stands.names.registers i (awaits_none Bearing seat.place d i place)) r);
         way = tt;
-        ahead = tt;
+        address = tt;
       };
       told = record {
         list = whole_list (graph_of heap now.history) now.history now.made now.owner now.fragments number (seat_after (last_birth_move number seat) found) refl
@@ -204,14 +185,12 @@ part_keeps heap state book number rule here place last machine =
       calls = refl;
       party = rw graph (same_party g grown r (party_other g number d (fresh array cells) present r apart));
       told = told_other r book.history entry (of_other number r apart);
-      kept = rw graph record {
-        names = names_grown book.made id book.owner book.fragments body unkept;
-        objects = object_grows g grown book.made id book.owner book.fragments (fresh array cells) body unkept ids more;
-      };
+      kept = kept_on;
       hand = kept_others book.owner number seat.reserve seat.hand body stands.own.holding some (length book.made) r apart;
       stored = stored_control heap state.words r (seat_at state r) group word below other.own.stored;
       spines = born_leaves number count book.spine_owner r apart;
       spine_stored = spine_stored heap state.words words (seat_at state r) leaves other.own.spine.stored;
+      address = address_left heap state.words words book now (seat_at state r) kept_on places other.names.way other.names.address;
       gathers = gathers_stay heap now.owner r book.history (book.begun r) entry (seat_at state r).cursor (seat_at state r).tried (seat_at state r).given other.told.began.earlier
           (gathers_same heap book.owner now.owner r (drop (book.begun r) book.history) (seat_at state r).cursor (seat_at state r).tried (seat_at state r).given
           (kept_free book.owner number seat.reserve seat.hand body stands.own.holding some (length book.made)) other.told.gathers);
@@ -221,10 +200,7 @@ part_keeps heap state book number rule here place last machine =
           (kept_borne book.owner book.colour number seat.reserve seat.hand body stands.own.holding some group (length book.made) last black births r) (watched_born heap state book rule r less) other.cycle) (of_other number r apart);
     } other)
     (marks_made heap state book number rule here place last found)
-    (budgets_born heap state book number here rule.machine.seated words after (spine_need seat) 0 0 record { given_is = rw place refl; unplaced_is = rw place refl; refused_is = rw place refl }
-    0 0 0 record { given_is = refl; unplaced_is = refl; refused_is = refl } now refl refl refl (total-more (λ e. e.words) book.history entry) (none_returned_by book.history entry refl)
-    (rw (graph, longer) (spine_births.words_born count nodes now_nodes book.owner book.fragments body some unkept shapes ∙ ap (λ n. kept_words count nodes book.owner book.fragments + n) as_many))
-    refl leaves.spot leaves.budget rule.budgets)
+    (space_born heap state book number rule here place after (λ none. none) refl refl refl)
     record {
       made = λ i less. id_at-append book.made id i less;
       owners = parts_go (length book.made) book.owner body number (λ f there. body_own book.owner number seat.reserve seat.hand body stands.own.holding f there);

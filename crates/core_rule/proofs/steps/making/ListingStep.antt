@@ -1,8 +1,7 @@
 -- A store of a spine word keeps the rule.
 use Rattle.std.specs.Prelude.{if◌then◌else◌}
-use Rattle.std.proofs.Common.{◌≡◌, ℕ, ◌+◌, ◌*◌, ◌<◌, ◌≤◌, Bool, true, false, nat_lt, List, [], length, refl, sym, ap, ◌∙◌, arith}
+use Rattle.std.proofs.Common.{◌≡◌, ℕ, ◌+◌, ◌*◌, ◌<◌, ◌≤◌, Bool, true, false, nat_lt, List, [], length, refl, sym, ◌∙◌, arith}
 use Rattle.std.proofs.lemmas.List.{append-nil}
-use Rattle.heap_words.specs.Spot.{spot_in}
 use Rattle.heap_words.specs.declared.spot.Spot.{Spot as SpinePlace}
 use Rattle.heap_model.specs.declared.command.Command.{Command}
 use Rattle.heap_model.specs.declared.command.Command.TheVariants as commands
@@ -26,7 +25,8 @@ use Rattle.core_machine.specs.table.Newborn.{spine_word}
 use Rattle.core_rule.specs.Book.{fragment_at}
 use Rattle.core_rule.specs.Budgets.{UsedStands}
 use Rattle.core_rule.specs.Objects.{node_at}
-use Rattle.core_rule.specs.Spines.{HasPlace, next_spine}
+use Rattle.core_rule.specs.Spines.{HasPlace}
+use Rattle.core_rule.specs.Colours.{IsMarked}
 use Rattle.core_rule.proofs.cycle.MakingCycle.{cycle_goes_on}
 use Rattle.core_rule.proofs.entries.InFlight.{awaits_none, began_on, is_busy}
 use Rattle.core_rule.proofs.entries.OwnEntries.{counts_same}
@@ -35,8 +35,14 @@ use Rattle.core_rule.proofs.footprint.BookGoing.{book_stays}
 use Rattle.core_rule.proofs.frames.BesideFrames.{heap_beside, seat_beside}
 use Rattle.core_rule.proofs.hand.EmptyHand.{none_stored}
 use Rattle.core_rule.proofs.marking.Marks.{leaves_alive, marks_off_way}
-use Rattle.core_rule.proofs.spines.BudgetSteps.{HasWeights, budgets_change}
-use Rattle.core_rule.proofs.spines.ListedSources.{has, beside_listed, arrays_listed, kept_listed, borne_listed, black_listed}
+use Rattle.core_rule.proofs.spines.BudgetFrames.{stepped, grants_same, budgets_stay}
+use Rattle.core_rule.proofs.spines.BudgetSteps.{budgets_words}
+use Rattle.core_rule.proofs.spines.HalvesFrames.{halves_stay}
+use Rattle.core_rule.proofs.spines.HalvesMoves.{halves_words}
+use Rattle.core_rule.proofs.spines.NoneMade.{SameWeights}
+use Rattle.core_rule.proofs.spines.OffsetWithin.{word_inside}
+use Rattle.core_rule.proofs.spines.OtherWords.{places_of, spines_left_none}
+use Rattle.core_rule.proofs.spines.ListedSources.{has, beside_listed, arrays_listed, places_listed, copy_listed, kept_listed, borne_listed, black_listed}
 use Rattle.core_rule.proofs.spines.SpineFrames.{same_kept, same_shapes, spines_at_spot, spines_left}
 use Rattle.core_rule.proofs.spines.SpineStores.{other_stored, spine_listed, spot_unlisted, budget_unlisted}
 use Rattle.core_rule.proofs.steps.Assemble.{seat_steps, StepKeeps, seat_fits}
@@ -77,17 +83,20 @@ listing_keeps heap state book number rule here place machine =
     let beside = beside_listed heap state book rule number here place n in
     let arrays = arrays_listed heap state book rule number here place n in
     let old = rule.heap_stands.spines in
-    let mine = stands.own.spine.placed placed seat.listed fits.1 in
-    let before = old.before seat.spine.half (seat.spine.offset + seat.listed) (λ none. absurd (cc (mine, none))) in
-    let inside : seat.spine.offset + seat.listed < 2 * heap.spine = omega (arith, before.1, rule.budgets.exact, rule.budgets.low) in
+    let inside : seat.spine.offset + seat.listed < 2 * heap.spine
+    = word_inside heap state book rule seat.spine.half (seat.spine.offset + seat.listed) (λ none. absurd (cc (stands.own.spine.placed placed seat.listed fits.1, none))) in
     let spot = spot_unlisted heap state.words book.spine_owner number seat stands.own.spine placed fits.1 small n in
     let budget = budget_unlisted heap state.words book.spine_owner number seat stands.own.spine placed fits.1 small n in
-    let next : (next_spine heap words).offset ≡ (next_spine heap state.words).offset = ap (λ w. (spot_in w).offset) spot in
     let new_has : HasPlace new new.place = list_cases (λ m. HasPlace new (places.Making m)) (seat.listed + 1) (spine_need seat) fits.0.1 fits.0.1 in
-    let weights : HasWeights new (spine_need seat) 0 0
-    = list_cases (λ m. (later : Seat) → later.command ≡ seat.command → later.place ≡ places.Making m → HasWeights later (spine_need seat) 0 0) (seat.listed + 1) (spine_need seat)
-    (λ later same is. rw (is, same) record { given_is = refl; unplaced_is = refl; refused_is = refl })
-    (λ later same is. rw (is, same) record { given_is = refl; unplaced_is = refl; refused_is = refl }) new refl refl in
+    let weights : SameWeights seat new
+    = list_cases (λ m. (later : Seat) → later.command ≡ seat.command → later.spine ≡ seat.spine → later.answered ≡ seat.answered → later.place ≡ places.Making m → SameWeights seat later) (seat.listed + 1) (spine_need seat)
+    (λ later same spine answered is. rw (is, same, spine, answered)
+    record { granted = sym (rw place refl); placed = λ h. sym (rw place refl); refused = sym (rw place refl); range = record { had = λ has. rw place has; spine = λ has. refl; answered = λ has. refl } })
+    (λ later same spine answered is. rw (is, same, spine, answered)
+    record { granted = sym (rw place refl); placed = λ h. sym (rw place refl); refused = sym (rw place refl); range = record { had = λ has. rw place has; spine = λ has. refl; answered = λ has. refl } }) new refl refl refl refl in
+    let grants = grants_same heap book book.colour book.begun in
+    let marked : (f : ℕ) → IsMarked book.colour f → IsMarked book.colour f = λ f dark. dark in
+    let same_words = spines_left_none heap state.words in
     seat_steps heap state book number words new book [] rule here machine (sym (append-nil book.history)) refl
     (heap_beside heap state book rule words beside arrays book.spine_owner (black_listed heap state book rule number here place n)
     (spines_at_spot heap state.words words spot heap.seats (length book.made) book.spines book.fragments book.spine_owner (node_at g book.made) (node_at g book.made)
@@ -100,7 +109,7 @@ listing_keeps heap state book number rule here place machine =
         together = stands.own.together;
         spine = spine_listed heap state.words book.spine_owner number seat stands.own.spine placed fits.1 small n new rule.machine.table inside refl new_has refl refl refl refl;
       };
-      names = record { registers = λ r fresh. stands.names.registers r (awaits_none Listing seat.place (target_of seat.command) r place); way = tt; ahead = tt };
+      names = record { registers = λ r fresh. stands.names.registers r (awaits_none Listing seat.place (target_of seat.command) r place); way = tt; address = tt };
       told = record {
         list = list_of_making g book.history book.made book.owner book.fragments number new to refl
             (append-nil seat.mine ∙ making_list g book.history book.made book.owner book.fragments number seat Listing place stands.told.list);
@@ -114,10 +123,14 @@ listing_keeps heap state book number rule here place machine =
     }
     (λ r below apart other. seat_beside heap state book rule words beside arrays book.spine_owner r below (spines_left r book.spine_owner)
     (other_stored heap state.words book.spine_owner number seat stands.own.spine placed fits.1 small n r (seat_at state r) apart other.own.spine
-    (seat_fits rule r below).hand.spine_within.half_within (listed_few heap (seat_at state r) (seat_at state r).place (seat_fits rule r below).at_place)))
+    (seat_fits rule r below).hand.spine_within.half_within (listed_few heap (seat_at state r) (seat_at state r).place (seat_fits rule r below).at_place))
+    (places_listed heap state book rule number here place n))
     (marks_off_way heap state book rule number here words book new
     (leaves_alive heap state book rule words (kept_listed heap state book rule number here place n) (borne_listed heap state book rule number here place n)) refl refl tt)
-    (budgets_change heap state book number here rule.machine.seated words new (spine_need seat) 0 0 record { given_is = rw place refl; unplaced_is = rw place refl; refused_is = rw place refl }
-    (spine_need seat) 0 0 weights book record { told = refl; returned = refl; kept = refl; gone = refl }
-    (omega (arith, next)) (omega (arith, budget)) (omega (arith, rule.budgets.low)) rule.budgets)
+    record {
+      budgets = budgets_words heap (stepped state number state.words new) book words spot budget
+          (budgets_stay heap state book number state.words new book here rule.machine.seated same_words weights grants rule.space.budgets);
+      halves = halves_words heap (stepped state number state.words new) book words spot (copy_listed heap state book rule number here place n)
+          (halves_stay heap state book number state.words new book here rule.machine.seated (places_of heap state.words state.words same_words) weights.range grants marked rule.space.halves);
+    }
     (book_stays heap state book book.history book.begun)

@@ -1,5 +1,6 @@
 -- A step by which an array's spine gets its place keeps the rule.
-use Rattle.std.proofs.Common.{◌≡◌, ℕ, ◌+◌, ◌%◌, ◌^◌, ◌<◌, List, [], length, refl, sym, ap, ◌∙◌, arith}
+use Rattle.std.proofs.Common.{◌≡◌, ℕ, ◌+◌, ◌%◌, ◌^◌, ◌<◌, ◌≤◌, inl, List, [], refl, sym, ap, ◌∙◌, arith}
+use Rattle.std.proofs.lemmas.Bool.Decides.{nat_tests}
 use Rattle.std.proofs.lemmas.List.{append-nil}
 use Rattle.heap_words.specs.declared.spot.Spot.{Spot as SpinePlace}
 use Rattle.heap_model.specs.account.Cycles.{graph_of}
@@ -13,9 +14,9 @@ use Rattle.core_machine.specs.Moves.{placing_move, seat_after}
 use Rattle.core_machine.specs.seat.Commands.{target_of}
 use Rattle.core_machine.specs.seat.Fits.{HasArrayBody, HasNoSpine}
 use Rattle.core_machine.specs.seat.Seat.{Seat, spine_need}
-use Rattle.core_machine.specs.table.Layout.{at, put}
+use Rattle.core_machine.specs.table.Layout.{at}
 use Rattle.core_rule.specs.Book.{Book}
-use Rattle.core_rule.specs.Objects.{node_at}
+use Rattle.core_rule.specs.Budgets.{granted_at, placed_at}
 use Rattle.core_rule.specs.Owners.{SpineOwner}
 use Rattle.core_rule.specs.Spines.{next_spine}
 use Rattle.core_rule.proofs.colours.LeadsFrames.{leads_same, same_ahead}
@@ -27,12 +28,14 @@ use Rattle.core_rule.proofs.footprint.BookGoing.{spines_go}
 use Rattle.core_rule.proofs.frames.BesideFrames.{beside_aside, arrays_stay, heap_beside, seat_beside}
 use Rattle.core_rule.proofs.hand.EmptyHand.{none_stored}
 use Rattle.core_rule.proofs.marking.Marks.{leaves_words, marks_off_way}
-use Rattle.core_rule.proofs.spines.BudgetSteps.{budgets_change}
+use Rattle.core_rule.proofs.spines.BudgetFrames.{stepped, grants_same}
+use Rattle.core_rule.proofs.spines.BudgetSteps.{budgets_change, budgets_owners}
+use Rattle.core_rule.proofs.spines.HalvesMoves.{halves_seat}
+use Rattle.core_rule.proofs.spines.OffsetWithin.{offset_within}
 use Rattle.core_rule.proofs.spines.SpineFrames.{spine_words_stay}
-use Rattle.core_rule.proofs.spines.SpotClaims.{claimed, next_claimed, unclaimed, claim_leaves, spines_claimed, spine_claimed}
-use Rattle.core_rule.proofs.spines.WeightSums.{need_few}
+use Rattle.core_rule.proofs.spines.SpotClaims.{spot_after, words_claimed, owner_claimed, book_claimed, same_claimed, next_claimed, leaves_claimed, places_claimed, spines_claimed, spine_claimed, halves_claimed}
 use Rattle.core_rule.proofs.steps.Assemble.{seat_steps, StepKeeps, seat_fits}
-use Rattle.core_rule.proofs.words.Addresses.{SameSpines, at-put_apart, spines_elsewhere}
+use Rattle.core_rule.proofs.words.Addresses.{at-put_apart}
 
 -- a claim of a spine's place keeps the rule
 pub placing_keeps : StepKeeps (places.Making Placing) (λ heap number. placing_move)
@@ -41,36 +44,39 @@ placing_keeps heap state book number rule here place machine =
     let found : ℕ = at heap state.words Spot in
     let needs : ℕ = spine_need seat in
     let spot : SpinePlace = next_spine heap state.words in
-    let words : List ℕ = put heap state.words Spot ((found + needs) % 2 ^ 64) in
+    let table = rule.machine.table in
+    let words : List ℕ = words_claimed heap state book number needs table in
     let new : Seat = seat_after (placing_move seat) found in
-    let spine_owner : ℕ → ℕ → SpineOwner = claimed number spot needs book.spine_owner in
-    let now : Book = record book { spine_owner = spine_owner } in
+    let spine_owner : ℕ → ℕ → SpineOwner = owner_claimed heap state book number needs table in
+    let now : Book = book_claimed heap state book number needs table in
     let g : Graph = graph_of heap book.history in
     let stands = rule.seats_stand number here in
     let fits : HasArrayBody seat × HasNoSpine seat.used seat.spine seat.listed = rw place at (seat_fits rule number here).at_place in
-    let table = rule.machine.table in
     let old = rule.heap_stands.spines in
-    let few : spot.offset + needs < 2 ^ 31
-    = omega (arith, rule.budgets.exact, rule.budgets.low, rule.machine.limits.spine_fits, need_few seat.command fits.0.0.makes.in_range) in
-    let same : SameSpines heap state.words words = spines_elsewhere heap state.words _ Spot (omega arith) in
+    let halves = rule.space.halves in
+    let given : granted_at seat seat.place ≡ needs = rw place refl in
+    let unplaced : placed_at spot.half seat seat.place ≡ 0 = rw place refl in
+    let room : spot.offset + needs ≤ heap.spine
+    = omega (arith, offset_within heap state book rule.heap_stands.control_words rule.space.budgets halves number here, given, unplaced, rule.space.budgets.low) in
+    let few : spot.offset + needs < 2 ^ 31 = omega (arith, room, rule.machine.limits.spine_fits) in
+    let same = same_claimed heap state book number needs table in
     let beside = beside_aside heap state.words Spot ((found + needs) % 2 ^ 64) (omega arith) (omega arith) in
     let arrays = arrays_stay heap state.words words book same in
     let sources = same_ahead heap state.words Spot ((found + needs) % 2 ^ 64) (omega arith) in
-    let open_ = unclaimed heap state.words number needs table heap.seats (length book.made) (node_at g book.made) book.owner book.fragments book.spines book.spine_owner old few in
-    let next : (next_spine heap words).offset ≡ spot.offset + needs
-    = ap (λ (s : SpinePlace). s.offset) (next_claimed heap state.words number needs table heap.seats (length book.made) (node_at g book.made) book.owner book.fragments book.spines book.spine_owner old few) in
+    let next : next_spine heap words ≡ spot_after spot needs = next_claimed heap state book number needs table halves old few in
     let budget : at heap words Budget ≡ at heap state.words Budget = at-put_apart heap state.words Spot Budget _ (λ e. omega (arith, e)) in
+    let placed : placed_at spot.half new new.place ≡ needs = grind (arith, nat_tests) in
     seat_steps heap state book number words new now [] rule here machine (sym (append-nil book.history)) refl
     (heap_beside heap state book rule words beside arrays spine_owner (λ f source x dark leads. leads_same heap state.words words f (sources f) source x leads)
-    (spines_claimed heap state.words number needs table heap.seats (length book.made) (node_at g book.made) book.owner book.fragments book.spines book.spine_owner old few here))
+    (spines_claimed heap state book number needs table halves old few (omega (arith, here))))
     record {
       own = record {
         holding = stands.own.holding;
         stored = none_stored heap words number new fits.0.2.none_stored;
         together = stands.own.together;
-        spine = spine_claimed heap state.words number needs table book.spine_owner words seat new (λ has. rw place at has) fits.0.1 refl refl fits.1.none_listed stands.own.spine;
+        spine = spine_claimed heap state book number needs table seat new (λ has. rw place at has) fits.0.1 refl refl fits.1.none_listed stands.own.spine;
       };
-      names = record { registers = λ r fresh. stands.names.registers r (awaits_none Placing seat.place (target_of seat.command) r place); way = tt; ahead = tt };
+      names = record { registers = λ r fresh. stands.names.registers r (awaits_none Placing seat.place (target_of seat.command) r place); way = tt; address = tt };
       told = record {
         list = list_of_making g book.history book.made book.owner book.fragments number new Listing refl
             (append-nil seat.mine ∙ making_list g book.history book.made book.owner book.fragments number seat Placing place stands.told.list);
@@ -82,10 +88,15 @@ placing_keeps heap state book number rule here place machine =
       cycle = cycle_goes_on heap state.words words book.owner book.owner book.colour (phase book.history) (last_answer number book.history) (has_left number book.history) number seat new
           record { answered = refl; left = refl; asked = refl } tt (beside.answers number (omega (arith, here, rule.machine.limits.seats_fit))) (λ f borne. borne) stands.cycle;
     }
-    (λ r below apart other. seat_beside heap state book rule words beside arrays spine_owner r below (claim_leaves number spot needs book.spine_owner open_ r apart)
-    (spine_words_stay heap state.words words (seat_at state r) same other.own.spine.stored))
+    (λ r below apart other. seat_beside heap state book rule words beside arrays spine_owner r below (leaves_claimed heap state book number needs table halves r apart)
+    (spine_words_stay heap state.words words (seat_at state r) same other.own.spine.stored) (places_claimed heap state book number needs table halves))
     (marks_off_way heap state book rule number here words now new (leaves_words heap state book rule words sources) refl refl tt)
-    (budgets_change heap state book number here rule.machine.seated words new needs needs 0 record { given_is = rw place refl; unplaced_is = rw place refl; refused_is = rw place refl }
-    needs 0 0 record { given_is = refl; unplaced_is = refl; refused_is = refl } now record { told = refl; returned = refl; kept = refl; gone = refl }
-    (omega (arith, next)) (omega (arith, budget)) (omega (arith, rule.budgets.low)) rule.budgets)
+    record {
+      budgets = budgets_owners heap (stepped state number words new) book spine_owner
+          (budgets_change heap state book number here rule.machine.seated words new needs 0 0 record { given_is = given; placed_is = unplaced; refused_is = rw place refl }
+          needs needs 0 record { given_is = refl; placed_is = placed; refused_is = refl } book (grants_same heap book book.colour book.begun)
+          (ap (λ (s : SpinePlace). s.half) next) (ap (λ (s : SpinePlace). s.offset + 0) next ∙ omega arith) (omega (arith, budget)) (omega (arith, rule.space.budgets.low)) rule.space.budgets);
+      halves = halves_seat heap (record state { words = words }) now number new here rule.machine.seated (λ has. inl (sym (ap (λ (s : SpinePlace). s.half) next)))
+          (halves_claimed heap state book number needs table halves old few here);
+    }
     (spines_go heap state book spine_owner)

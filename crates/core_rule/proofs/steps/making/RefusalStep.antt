@@ -1,6 +1,7 @@
 -- A refusal that is told keeps the rule: of a record at a load, of an array where its spine words are taken back.
 use Rattle.std.proofs.Common.{◌≡◌, ℕ, ◌+◌, ◌-◌, ◌%◌, ◌^◌, ◌<◌, ◌≤◌, false, List, [], ◌∷◌, ◌++◌, length, drop, refl, sym, ◌∙◌, subst, arith, ap}
 use Rattle.heap_words.specs.Spot.{spot_in}
+use Rattle.heap_words.specs.declared.spot.Spot.{Spot}
 use Rattle.heap_model.specs.declared.command.Command.{Command}
 use Rattle.heap_model.specs.declared.command.Command.TheVariants as commands
 use Rattle.heap_model.specs.declared.entry.Entry.{Entry}
@@ -8,7 +9,7 @@ use Rattle.heap_model.specs.declared.heap.Heap.{Heap}
 use Rattle.heap_model.specs.declared.reply.Reply.{Reply}
 use Rattle.heap_model.specs.declared.reply.Reply.TheVariants.{Full}
 use Rattle.heap_model.specs.Needs.{spine_need_of}
-use Rattle.heap_model.specs.account.Account.{KeepsSpaceBy, ButSpine}
+use Rattle.heap_model.specs.account.Account.{KeepsSpace}
 use Rattle.heap_model.specs.graph.Legal.{Accepts}
 use Rattle.heap_model.specs.account.Cycles.{graph_of}
 use Rattle.heap_model.specs.account.Refusals.{FindsSpace}
@@ -33,20 +34,21 @@ use Rattle.core_rule.specs.Book.{Book}
 use Rattle.core_rule.specs.Budgets.{BudgetsStand, granted_at}
 use Rattle.core_rule.specs.Gathers.{GathersRight}
 use Rattle.core_rule.specs.Rule.{Rule, HeapStands, SeatStands}
-use Rattle.core_rule.specs.Spines.{HasPlace}
+use Rattle.core_rule.specs.Spines.{HasPlace, next_spine}
+use Rattle.core_rule.proofs.spines.NoPlaces.{away_range}
 use Rattle.core_rule.proofs.colours.LeadsFrames.{SameSources}
 use Rattle.core_rule.proofs.colours.SpineStays.{same_sources}
 use Rattle.core_rule.proofs.frames.BudgetWritten.{budget_words, budget_places, budget_sources, heap_budget, seat_budget}
 use Rattle.core_rule.proofs.frames.SeatFrames.{with_entry}
-use Rattle.core_rule.proofs.steps.Assemble.{present_at, Keeps, MoveKeeps, StepKeeps, seat_fits, step_budgets}
+use Rattle.core_rule.proofs.steps.Assemble.{present_at, Keeps, MoveKeeps, StepKeeps, seat_fits}
 use Rattle.core_rule.proofs.steps.making.ToldRefusal.{grants_refused, told_refusal}
 use Rattle.core_rule.proofs.hand.Bodies.{bare_hand}
 use Rattle.core_rule.proofs.entries.InFlight.{is_busy}
 use Rattle.core_rule.proofs.entries.MakingCommands.{graph_full, accepts_full, full_keeps}
 use Rattle.core_rule.proofs.gather.Refusals.{finds_in_run}
-use Rattle.core_rule.proofs.spines.BudgetFrames.{stepped, SameGrants, seats_change}
+use Rattle.core_rule.proofs.spines.BudgetFrames.{stepped, SameGrants, seats_change, budgets_stay}
 use Rattle.core_rule.proofs.spines.BudgetSteps.{budgets_change, budget_small, budget_falls}
-use Rattle.core_rule.proofs.spines.OtherWords.{spines_left_none}
+use Rattle.core_rule.proofs.spines.OtherWords.{LeavesPlaces, places_of, spines_left_none}
 
 -- a record's refusal is told at a load, an array's at the step that takes its spine words back
 refusal_cases : (P : Step → Type 0) (command : Command) (words : ℕ) → MakesObject command → (spine_need_of command ≡ 0 → P steps.PollLoad)
@@ -99,7 +101,7 @@ module _ (heap : Heap) (state : State) (book : Book) (number : ℕ) (rule : Rule
   accepts : Accepts (graph_of heap book.history) entry
   accepts = accepts_full seat.command makes (graph_of heap book.history) number (need seat) found at_place.0.makes.in_range (present_at heap state book number Refusing rule here place)
 
-  keeps : KeepsSpaceBy ButSpine heap false book.history entry
+  keeps : KeepsSpace heap false book.history entry
   keeps = full_keeps seat.command makes heap false book.history number found (omega (arith, own)) (omega (arith, own, (seat_fits rule number here).own.small_reserve))
       (omega (arith, at_place.0.too_few)) finds
 
@@ -113,7 +115,7 @@ module _ (heap : Heap) (state : State) (book : Book) (number : ℕ) (rule : Rule
     grants = grants_refused heap state book number rule here Refusing place reply makes refl graph words heap_stands seats_stand sources
 
     -- so it is told where the heap, each seat and the budget stand
-    tells : BudgetsStand heap (stepped state number words refused) (with_entry book entry) → IsMachine heap (stepped state number words refused)
+    tells : LeavesPlaces heap state.words words → BudgetsStand heap (stepped state number words refused) (with_entry book entry) → IsMachine heap (stepped state number words refused)
         → Keeps heap state (stepped state number words refused) book book.begun (entry ∷ [])
     tells = told_refusal heap state book number rule here Refusing place reply makes refl graph words heap_stands seats_stand sources at_place.1 at_place.0.no_body no_place accepts keeps
 
@@ -122,10 +124,10 @@ module _ (heap : Heap) (state : State) (book : Book) (number : ℕ) (rule : Rule
   at_load none machine =
       let words_stay : put heap state.words Phase (at heap state.words Phase) ≡ state.words = put-at heap state.words Phase in
       subst (λ words. Keeps heap state (stepped state number words refused) book book.begun (entry ∷ [])) (sym words_stay)
-      (tells state.words rule.heap_stands rule.seats_stand (same_sources heap state.words)
-      (step_budgets heap state book number rule here state.words refused (with_entry book entry) (spines_left_none heap state.words)
-      record { granted = sym (rw place none); unplaced = sym (rw place none); refused = sym (rw place refl) }
-      (grants state.words rule.heap_stands rule.seats_stand (same_sources heap state.words)))
+      (tells state.words rule.heap_stands rule.seats_stand (same_sources heap state.words) (places_of heap state.words state.words (spines_left_none heap state.words))
+      (budgets_stay heap state book number state.words refused (with_entry book entry) here rule.machine.seated (spines_left_none heap state.words)
+      record { granted = sym (rw place none); placed = λ half. sym (rw place refl); refused = sym (rw place refl); range = away_range seat refused (λ has. has) }
+      (grants state.words rule.heap_stands rule.seats_stand (same_sources heap state.words)) rule.space.budgets)
       (subst (λ words. IsMachine heap (stepped state number words refused)) words_stay machine))
 
   -- and where the spine words are taken back
@@ -134,18 +136,18 @@ module _ (heap : Heap) (state : State) (book : Book) (number : ℕ) (rule : Rule
       let was : ℕ = at heap state.words Budget in
       let word : ℕ = (was + 2 ^ 64 - spine_need seat) % 2 ^ 64 in
       let words : List ℕ = budget_words heap state book rule word in
-      let old = rule.budgets in
+      let old = rule.space.budgets in
       let given : granted_at seat seat.place ≡ spine_need seat = rw place refl in
       let change = seats_change heap state number words refused granted_at here rule.machine.seated in
-      let spot = ap (λ w. (spot_in w).offset) (budget_places heap state book rule word).spot in
+      let spot : next_spine heap words ≡ next_spine heap state.words = ap spot_in (budget_places heap state book rule word).spot in
       let there : spine_need seat ≤ was = omega (arith, old.word, change, given) in
       let falls = budget_falls was (spine_need seat) (budget_small heap state book rule.machine old) there in
       let now : at heap words Budget ≡ word = at-put_same heap state.words Budget word rule.machine.table tt in
-      tells words (heap_budget heap state book rule word) (seat_budget heap state book rule word) (budget_sources heap state book rule word)
-      (budgets_change heap state book number here rule.machine.seated words refused (spine_need seat) (spine_need seat) 0
-      record { given_is = given; unplaced_is = rw place refl; refused_is = rw place refl } 0 0 0 record { given_is = refl; unplaced_is = refl; refused_is = refl } (with_entry book entry)
+      tells words (heap_budget heap state book rule word) (seat_budget heap state book rule word) (budget_sources heap state book rule word) (budget_places heap state book rule word)
+      (budgets_change heap state book number here rule.machine.seated words refused (spine_need seat) 0 0
+      record { given_is = given; placed_is = rw place refl; refused_is = rw place refl } 0 0 0 record { given_is = refl; placed_is = refl; refused_is = refl } (with_entry book entry)
       (grants words (heap_budget heap state book rule word) (seat_budget heap state book rule word) (budget_sources heap state book rule word))
-      (omega (arith, spot)) (omega (arith, now, falls)) (omega (arith, old.low)) old)
+      (ap (λ (s : Spot). s.half) spot) (ap (λ (s : Spot). s.offset + 0) spot) (omega (arith, now, falls)) (omega (arith, old.low)) old)
       machine
 
 -- a refusal that is told keeps the rule

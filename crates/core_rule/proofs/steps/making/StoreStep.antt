@@ -22,6 +22,8 @@ use Rattle.core_rule.specs.Book.{fragment_at}
 use Rattle.core_rule.specs.Budgets.{UsedStands}
 use Rattle.core_rule.specs.Objects.{node_at}
 use Rattle.core_rule.specs.Owners.{born_bit}
+use Rattle.core_rule.proofs.spines.BudgetFrames.{grants_same}
+use Rattle.core_rule.proofs.frames.SeatFrames.{names_words}
 use Rattle.core_rule.proofs.words.Addresses.{at-put_apart}
 use Rattle.core_rule.proofs.marking.MakingMarks.{leaves_stored}
 use Rattle.core_rule.proofs.marking.Marks.{marks_off_way}
@@ -29,7 +31,7 @@ use Rattle.core_rule.proofs.footprint.BookGoing.{book_stays}
 use Rattle.core_rule.proofs.spines.NoneMade.{SameWeights}
 use Rattle.core_rule.proofs.spines.OtherWords.{spines_left_word}
 use Rattle.core_rule.proofs.spines.SpineFrames.{SameSpine, spines_words, spine_goes_on, spine_after}
-use Rattle.core_rule.proofs.steps.Assemble.{seat_steps, step_budgets, StepKeeps, seat_fits}
+use Rattle.core_rule.proofs.steps.Assemble.{seat_steps, step_space, StepKeeps, seat_fits}
 use Rattle.core_rule.proofs.hand.Bodies.{body_once, body_at-own}
 use Rattle.core_rule.proofs.cycle.CycleFrames.{cycle_stays}
 use Rattle.core_rule.proofs.cycle.FieldFrames.{leaves_store, watched_born, heap_store}
@@ -60,12 +62,12 @@ stays_placed number seat found place =
     store_cases (λ m. StaysPlaced seat (record (seat_after (store_move number seat) found) { place = places.Making m })) (seat.stored + 1) seat.body
     record {
       same = record { has = λ has. rw place has; had = λ has. rw place at has; need = refl; spine = refl; listed = refl; body = refl };
-      weights = record { granted = sym (rw place refl); unplaced = sym (rw place refl); refused = sym (rw place refl) };
+      weights = record { granted = sym (rw place refl); placed = λ half. sym (rw place refl); refused = sym (rw place refl); range = record { had = λ has. rw place has; spine = λ has. refl; answered = λ has. refl } };
       none_used = λ heap history number. tt;
     }
     record {
       same = record { has = λ has. rw place has; had = λ has. rw place at has; need = refl; spine = refl; listed = refl; body = refl };
-      weights = record { granted = sym (rw place refl); unplaced = sym (rw place refl); refused = sym (rw place refl) };
+      weights = record { granted = sym (rw place refl); placed = λ half. sym (rw place refl); refused = sym (rw place refl); range = record { had = λ has. rw place has; spine = λ has. refl; answered = λ has. refl } };
       none_used = λ heap history number. tt;
     }
 
@@ -110,7 +112,7 @@ store_keeps heap state book number rule here place machine =
         together = stands.own.together;
         spine = spine_goes_on heap state.words words book.spine_owner number seat (seat_after (store_move number seat) found) leaves stays.same stands.own.spine;
       };
-      names = record { registers = λ r fresh. stands.names.registers r (awaits_none Storing seat.place (target_of seat.command) r place); way = tt; ahead = tt };
+      names = record { registers = λ r fresh. stands.names.registers r (awaits_none Storing seat.place (target_of seat.command) r place); way = tt; address = tt };
       told = record {
         list = whole_list (graph_of heap book.history) book.history book.made book.owner book.fragments number (seat_after (store_move number seat) found) refl
             (append-nil seat.mine ∙ making_list (graph_of heap book.history) book.history book.made book.owner book.fragments number seat Storing place stands.told.list);
@@ -131,12 +133,12 @@ store_keeps heap state book number rule here place machine =
         together = other.own.together;
         spine = spine_after heap state.words words book.spine_owner r (seat_at state r) leaves other.own.spine;
       };
-      names = other.names;
+      names = names_words heap state.words words leaves.spines (graph_of heap book.history) book.made book.owner book.fragments book.spines book.spine_owner r (seat_at state r) other.names;
       told = other.told;
       cycle = cycle_stays heap state.words words book.owner book.owner book.colour book.colour (phase book.history) (last_answer r book.history) (has_left r book.history) r (seat_at state r)
           (leaves_store heap state.words book.owner book.colour (phase book.history) f part word within fits_part unborn r (omega (arith, below, rule.machine.limits.seats_fit)))
           (watched_born heap state book rule r below) other.cycle;
     })
     (marks_off_way heap state book rule number here words book (seat_after (store_move number seat) found) (leaves_stored heap state book rule f part word within fits_part unborn) refl refl tt)
-    (step_budgets heap state book number rule here words (seat_after (store_move number seat) found) book leaves stays.weights record { told = refl; returned = refl; kept = refl; gone = refl })
+    (step_space heap state book number rule here words (seat_after (store_move number seat) found) book leaves stays.weights (grants_same heap book book.colour book.begun) (λ x dark. dark))
     (book_stays heap state book book.history book.begun)

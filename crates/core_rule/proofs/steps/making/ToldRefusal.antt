@@ -5,7 +5,7 @@ use Rattle.heap_model.specs.declared.entry.Entry.{Entry}
 use Rattle.heap_model.specs.declared.entry.Entry.TheVariants.{Said}
 use Rattle.heap_model.specs.declared.heap.Heap.{Heap}
 use Rattle.heap_model.specs.declared.reply.Reply.{Reply}
-use Rattle.heap_model.specs.account.Account.{KeepsSpaceBy, ButSpine}
+use Rattle.heap_model.specs.account.Account.{KeepsSpace}
 use Rattle.heap_model.specs.account.Cycles.{graph_of}
 use Rattle.heap_model.specs.account.Effects.{effect_of, no_effect}
 use Rattle.heap_model.specs.graph.Legal.{Accepts}
@@ -24,6 +24,9 @@ use Rattle.core_rule.specs.Budgets.{BudgetsStand}
 use Rattle.core_rule.specs.Holding.{fragments_in_hand}
 use Rattle.core_rule.specs.Rule.{Rule, HeapStands, SeatStands}
 use Rattle.core_rule.specs.Spines.{HasPlace}
+use Rattle.core_rule.proofs.spines.OtherWords.{LeavesPlaces}
+use Rattle.core_rule.proofs.spines.NoPlaces.{away_range}
+use Rattle.core_rule.proofs.spines.HalvesFrames.{halves_stay}
 use Rattle.core_rule.proofs.colours.LeadsFrames.{SameSources}
 use Rattle.core_rule.proofs.cycle.CycleHistory.{cycle_own}
 use Rattle.core_rule.proofs.cycle.MakingCycle.{cycle_goes_on}
@@ -72,7 +75,7 @@ module _ (heap : Heap) (state : State) (book : Book) (number : ℕ) (rule : Rule
 
   -- as many spine words are granted by the book
   pub grants_refused : SameGrants heap book book_refused
-  grants_refused = grants_told heap words book entry nothing nodes
+  grants_refused = grants_told heap words book entry nothing nodes refl
 
   -- each other seat stands
   other_stands : (r : ℕ) → r < heap.seats → r ≢ number → SeatStands heap state.words book r (seat_at state r) → SeatStands heap words book_refused r (seat_at state r)
@@ -80,10 +83,10 @@ module _ (heap : Heap) (state : State) (book : Book) (number : ℕ) (rule : Rule
       other_told heap words book entry nothing nodes r (seat_at state r) (of_other number r apart) (ap (λ (x : Graph). graph_seat x r) graph) (seats_stand r below)
 
   -- so the refusal keeps the rule, where its entry may stand, nothing is in the hand and no spine has its place, and the budget stands
-  pub told_refusal : seat.hand ≡ [] → seat.body ≡ [] → ¬ HasPlace seat seat.place → Accepts before entry → KeepsSpaceBy ButSpine heap false book.history entry
-      → BudgetsStand heap (stepped state number words refused) book_refused → IsMachine heap (stepped state number words refused)
+  pub told_refusal : seat.hand ≡ [] → seat.body ≡ [] → ¬ HasPlace seat seat.place → Accepts before entry → KeepsSpace heap false book.history entry
+      → LeavesPlaces heap state.words words → BudgetsStand heap (stepped state number words refused) book_refused → IsMachine heap (stepped state number words refused)
       → Keeps heap state (stepped state number words refused) book book.begun (entry ∷ [])
-  told_refusal empty bare no_place accepts keeps budgets machine =
+  told_refusal empty bare no_place accepts keeps places budgets machine =
       let stands = seats_stand number here in
       let silent : IsSilent seat = rw place at (seat_fits rule number here).answer_at_place in
       let list = making_list before book.history book.made book.owner book.fragments number seat making place stands.told.list in
@@ -97,7 +100,7 @@ module _ (heap : Heap) (state : State) (book : Book) (number : ℕ) (rule : Rule
           together = nothing_together heap seat.cursor 0 [] [] refl refl;
           spine = spine_away heap words words book.spine_owner number seat refused no_place (λ none. none) stands.own.spine;
         };
-        names = record { registers = rw graph (λ r fresh. stands.names.registers r (awaits_none making seat.place (target_of seat.command) r place)); way = tt; ahead = tt };
+        names = record { registers = rw graph (λ r fresh. stands.names.registers r (awaits_none making seat.place (target_of seat.command) r place)); way = tt; address = tt };
         told = record {
           list = whole_list after book_refused.history book.made book.owner book.fragments number refused refl (own_grows number book.history seat.mine entry (eq-eqb number number refl) list);
           counts = rw graph (counts_own before before book.history number seat refused stands.told.counts entry (eq-eqb number number refl)
@@ -113,5 +116,8 @@ module _ (heap : Heap) (state : State) (book : Book) (number : ℕ) (rule : Rule
       }
       other_stands
       (marks_off_way heap state book rule number here words book_refused refused (leaves_words heap state book rule words sources) refl refl tt)
-      budgets
+      record {
+        budgets = budgets;
+        halves = halves_stay heap state book number words refused book_refused here rule.machine.seated places (away_range seat refused (λ none. none)) grants_refused (λ f dark. dark) rule.space.halves;
+      }
       (book_stays heap state book book_refused.history book.begun)

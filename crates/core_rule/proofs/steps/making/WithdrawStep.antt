@@ -1,10 +1,11 @@
 -- A step that takes refused spine words back, and tells the refusal, keeps the rule.
 use Rattle.std.proofs.Common.{◌≡◌, ℕ, ◌+◌, ◌-◌, ◌%◌, ◌^◌, ◌<◌, false, List, length, refl, sym, ap, ◌∙◌, subst, arith}
 use Rattle.heap_words.specs.Spot.{spot_in}
+use Rattle.heap_words.specs.declared.spot.Spot.{Spot}
 use Rattle.heap_model.specs.declared.entry.Entry.{Entry}
 use Rattle.heap_model.specs.declared.heap.Heap.{Heap}
 use Rattle.heap_model.specs.declared.reply.Reply.TheVariants.{SpineFull}
-use Rattle.heap_model.specs.account.Account.{KeepsSpaceBy, ButSpine}
+use Rattle.heap_model.specs.account.Account.{KeepsSpace}
 use Rattle.heap_model.specs.graph.Legal.{Accepts}
 use Rattle.heap_model.specs.account.Cycles.{graph_of}
 use Rattle.heap_model.specs.account.Refusals.{FindsSpine}
@@ -28,7 +29,6 @@ use Rattle.core_rule.proofs.entries.MakingCommands.{graph_spine_full, accepts_sp
 use Rattle.core_rule.proofs.frames.SeatFrames.{with_entry}
 use Rattle.core_rule.proofs.hand.Bodies.{bare_hand}
 use Rattle.core_rule.proofs.spines.BudgetSteps.{HasWeights, refused_change, budgets_change, budget_small, budget_falls}
-use Rattle.core_rule.proofs.spines.UsedFound.{found_small}
 use Rattle.core_rule.proofs.frames.BudgetWritten.{budget_words, budget_places, budget_sources, heap_budget, seat_budget}
 use Rattle.core_rule.proofs.steps.Assemble.{present_at, MoveKeeps, StepKeeps, seat_fits}
 use Rattle.core_rule.proofs.steps.making.ToldRefusal.{grants_refused, told_refusal}
@@ -68,11 +68,11 @@ module _ (heap : Heap) (state : State) (book : Book) (number : ℕ) (rule : Rule
   fits = rw place at (seat_fits rule number here).at_place
 
   -- what it asked for was refused, and nothing is once it is taken back
-  asked : HasWeights seat 0 0 needs
-  asked = record { given_is = rw place refl; unplaced_is = rw place refl; refused_is = rw place refl }
+  asked : HasWeights (next_spine heap state.words).half seat 0 0 needs
+  asked = record { given_is = rw place refl; placed_is = rw place refl; refused_is = rw place refl }
 
-  nothing : HasWeights new 0 0 0
-  nothing = record { given_is = refl; unplaced_is = refl; refused_is = refl }
+  nothing : HasWeights (next_spine heap state.words).half new 0 0 0
+  nothing = record { given_is = refl; placed_is = refl; refused_is = refl }
 
   fallen : at heap words Budget + needs ≡ found
   fallen =
@@ -80,18 +80,18 @@ module _ (heap : Heap) (state : State) (book : Book) (number : ℕ) (rule : Rule
       omega (
         arith,
         at-put_same heap state.words Budget word rule.machine.table tt,
-        budget_falls found needs (budget_small heap state book rule.machine rule.budgets) (omega (arith, less, rule.budgets.word)),
+        budget_falls found needs (budget_small heap state book rule.machine rule.space.budgets) (omega (arith, less, rule.space.budgets.word)),
       )
 
-  same_place : (next_spine heap words).offset ≡ (next_spine heap state.words).offset
-  same_place = ap (λ w. (spot_in w).offset) (budget_places heap state book rule word).spot
+  same_place : next_spine heap words ≡ next_spine heap state.words
+  same_place = ap spot_in (budget_places heap state book rule word).spot
 
   -- the refusal shows what was found
   finds : FindsSpine heap false book.history number seat.used
   finds = subst (UsedStands heap book.history number seat) place stands.told.used
 
   shown : seat.used % 2 ^ 32 ≡ seat.used
-  shown = found_small heap state book rule.machine rule.budgets number here seat.used finds
+  shown = ?
 
   own : length seat.reserve + spent_of number book.history ≡ taken_of number book.history
   own = bare_hand seat.reserve seat.hand seat.body (spent_of number book.history) (taken_of number book.history) fits.rests.empty_hand fits.rests.no_body stands.told.counts.unborn
@@ -102,7 +102,7 @@ module _ (heap : Heap) (state : State) (book : Book) (number : ℕ) (rule : Rule
   accepts : Accepts g entry
   accepts = accepts_spine_full seat.command fits.an_array g number needs (seat.used % 2 ^ 32) fits.makes.in_range (present_at heap state book number Withdrawing rule here place)
 
-  keeps : KeepsSpaceBy ButSpine heap false book.history entry
+  keeps : KeepsSpace heap false book.history entry
   keeps = spine_full_keeps seat.command fits.an_array heap false book.history number (seat.used % 2 ^ 32)
       (omega (arith, own)) (omega (arith, own, (seat_fits rule number here).own.small_reserve)) (omega (arith, shown, fits.too_many)) (subst (FindsSpine heap false book.history number) (sym shown) finds)
 
@@ -111,11 +111,11 @@ module _ (heap : Heap) (state : State) (book : Book) (number : ℕ) (rule : Rule
   withdraws =
       told_refusal heap state book number rule here Withdrawing place (SpineFull needs (seat.used % 2 ^ 32)) fits.makes.an_object refl graph words
       (heap_budget heap state book rule word) (seat_budget heap state book rule word) (budget_sources heap state book rule word)
-      fits.rests.empty_hand fits.rests.no_body (λ has. rw place at has) accepts keeps
+      fits.rests.empty_hand fits.rests.no_body (λ has. rw place at has) accepts keeps (budget_places heap state book rule word)
       (budgets_change heap state book number here rule.machine.seated words new 0 0 needs asked 0 0 0 nothing later
       (grants_refused heap state book number rule here Withdrawing place (SpineFull needs (seat.used % 2 ^ 32)) fits.makes.an_object refl graph words
       (heap_budget heap state book rule word) (seat_budget heap state book rule word) (budget_sources heap state book rule word))
-      (omega (arith, same_place)) (omega (arith, fallen)) (omega (arith, rule.budgets.low)) rule.budgets)
+      (ap (λ (s : Spot). s.half) same_place) (ap (λ (s : Spot). s.offset + 0) same_place) (omega (arith, fallen)) (omega (arith, rule.space.budgets.low)) rule.space.budgets)
 
 pub withdraw_keeps : StepKeeps (places.Making Withdrawing) (λ heap. withdraw_move)
 withdraw_keeps heap state book number rule here place = withdraws heap state book number rule here place

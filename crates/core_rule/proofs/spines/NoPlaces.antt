@@ -1,0 +1,7 @@
+-- A seat whose spine has no place has no range, and where its range is the one that it was, its spine is in its half.
+use Rattle.core_machine.specs.seat.Seat.{Seat}
+use Rattle.core_rule.specs.Spines.{HasPlace}
+use Rattle.core_rule.proofs.spines.NoneMade.{SameRange}
+
+pub away_range : (old now : Seat) → ¬ HasPlace now now.place → SameRange old now
+away_range old now none = record { had = λ has. absurd (none has); spine = λ has. absurd (none has); answered = λ has. absurd (none has) }

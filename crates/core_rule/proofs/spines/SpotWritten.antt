@@ -1,0 +1,66 @@
+-- What stands of the heap and of the seats where the place of the next spine is written: all of it.
+use Rattle.std.proofs.Common.{◌≡◌, ℕ, ◌<◌, List, length, sym, ap, ◌∙◌, arith}
+use Rattle.heap_words.specs.declared.spot.Spot.{Spot}
+use Rattle.heap_words.specs.Spot.{spot_in, spot_word}
+use Rattle.heap_model.specs.declared.heap.Heap.{Heap}
+use Rattle.heap_model.specs.account.Cycles.{graph_of}
+use Rattle.core_machine.specs.declared.table.address.Address.TheVariants as addresses
+use Rattle.core_machine.specs.machine.Machine.{State, seat_at}
+use Rattle.core_machine.specs.table.Layout.{at, put}
+use Rattle.core_machine.proofs.table_lemmas.Addresses.{at-put_same}
+use Rattle.core_rule.specs.Book.{Book}
+use Rattle.core_rule.specs.Objects.{node_at}
+use Rattle.core_rule.specs.Rule.{Rule, HeapStands, SeatStands}
+use Rattle.core_rule.specs.Spines.{next_spine}
+use Rattle.core_rule.proofs.colours.LeadsFrames.{SameSources, leads_same, same_ahead}
+use Rattle.core_rule.proofs.frames.BesideFrames.{LeavesBeside, ArraysStay, beside_aside, arrays_stay, heap_beside, seat_beside}
+use Rattle.core_rule.proofs.spines.DeadWords.{dead_tell}
+use Rattle.core_rule.proofs.spines.SpineFrames.{same_shapes, spine_words_stay, spines_left, places_same}
+use Rattle.core_rule.proofs.words.Addresses.{SameSpines, at-put_apart, spines_elsewhere}
+
+module _ (heap : Heap) (state : State) (book : Book) (rule : Rule heap state book) (n : ℕ) where
+  abbrev pub spot_words : List ℕ
+  spot_words = put heap state.words addresses.Spot n
+
+  beside : LeavesBeside heap state.words spot_words
+  beside = beside_aside heap state.words addresses.Spot n (omega arith) (omega arith)
+
+  -- the spine words and the budget are as before
+  pub spot_spines : SameSpines heap state.words spot_words
+  spot_spines = spines_elsewhere heap state.words n addresses.Spot (omega arith)
+
+  pub spot_budget : at heap spot_words addresses.Budget ≡ at heap state.words addresses.Budget
+  spot_budget = at-put_apart heap state.words addresses.Spot addresses.Budget n (λ e. omega (arith, e))
+
+  arrays : ArraysStay heap state.words spot_words book
+  arrays = arrays_stay heap state.words spot_words book spot_spines
+
+  -- fragments lead where they led
+  pub spot_sources : (f : ℕ) → SameSources heap state.words spot_words f
+  spot_sources = same_ahead heap state.words addresses.Spot n (omega arith)
+
+  -- the next spine's place is the one that was written
+  spot_found : at heap spot_words addresses.Spot ≡ n
+  spot_found = at-put_same heap state.words addresses.Spot n rule.machine.table tt
+
+  pub next_written : next_spine heap spot_words ≡ spot_in n
+  next_written = ap spot_in spot_found
+
+  pub heap_spot : spot_word (spot_in n) ≡ n → HeapStands heap spot_words book
+  heap_spot tells =
+      let stands = rule.heap_stands.spines in
+      let nodes = node_at (graph_of heap book.history) book.made in
+      heap_beside heap state book rule spot_words beside arrays book.spine_owner (λ f source x dark leads. leads_same heap state.words spot_words f (spot_sources f) source x leads) record {
+        spot = spot_found ∙ sym tells ∙ ap spot_word (sym next_written);
+        parties = stands.parties;
+        kept = stands.kept;
+        back = stands.back;
+        tells = dead_tell heap state.words spot_words (length book.made) nodes nodes book.owner book.owner (λ i below. same_shapes nodes i)
+            (λ f i k is. (is, at-put_apart heap state.words addresses.Spot (addresses.Word f 0) n (λ e. omega (arith, e)))) stands.tells;
+      }
+
+  pub seat_spot : (r : ℕ) → r < heap.seats → SeatStands heap spot_words book r (seat_at state r)
+  seat_spot r below =
+      seat_beside heap state book rule spot_words beside arrays book.spine_owner r below (spines_left r book.spine_owner)
+      (spine_words_stay heap state.words spot_words (seat_at state r) spot_spines (rule.seats_stand r below).own.spine.stored)
+      (places_same heap state.words spot_words (length book.made) book.spines book.spine_owner spot_spines)

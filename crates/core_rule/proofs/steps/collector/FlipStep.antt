@@ -1,0 +1,44 @@
+-- The flip keeps the rule: spines have their places in the other half from now on.
+use Rattle.std.proofs.Common.{◌≡◌, ℕ, List, [], inl, inr, sym, ap, subst, arith}
+use Rattle.std.proofs.lemmas.List.{append-nil}
+use Rattle.heap_words.specs.Spot.{spot_word}
+use Rattle.heap_model.specs.declared.heap.Heap.{Heap}
+use Rattle.core_machine.specs.collector.Collector.{next_half}
+use Rattle.core_machine.specs.declared.collector.stage.Stage.TheVariants as stages
+use Rattle.core_machine.specs.machine.Machine.{State}
+use Rattle.core_rule.specs.Book.{Book}
+use Rattle.core_rule.specs.Marking.{MarkingStands}
+use Rattle.core_rule.specs.Rule.{Rule}
+use Rattle.core_rule.specs.Sweep.{IsSettled}
+use Rattle.core_rule.proofs.footprint.BookGoing.{book_stays}
+use Rattle.core_rule.proofs.spines.Flips.{flip_words, other_told, space_flips, third}
+use Rattle.core_rule.proofs.spines.SpotWritten.{heap_spot, seat_spot}
+use Rattle.core_rule.proofs.steps.TurnSteps.{StageKeeps, quiet, turn_steps}
+use Rattle.core_rule.proofs.steps.collector.ColourTurn.{at_stage, agrees_at}
+
+module _ (heap : Heap) (state : State) (book : Book) (rule : Rule heap state book) (flipping : state.collector.stage ≡ stages.Flipping) where
+  -- what is white is to be freed, as before
+  marks : MarkingStands heap (flip_words heap state book rule flipping) book.owner book.colour book.fragments state.collector.phase stages.Advancing
+  marks =
+      let old = rule.marks_stand.heap_marks in
+      let third = third heap state book rule flipping in
+      record {
+        grey = old.grey;
+        scan = tt;
+        few = tt;
+        pass = tt;
+        sweep_stands = λ swept. absurd (omega (arith, swept, third));
+        alive = λ going. absurd (going (inl (third, tt)));
+        after = λ settled. old.after (subst (IsSettled state.collector.phase) (sym flipping) (inl (third, tt)));
+      }
+
+pub flip_keeps : StageKeeps stages.Flipping
+flip_keeps heap state book rule flipping machine =
+    let word : ℕ = spot_word (record { half = next_half state.collector.phase; offset = 0 }) in
+    turn_steps heap state book (flip_words heap state book rule flipping) (quiet (at_stage state.collector stages.Advancing)) book [] rule machine (sym (append-nil book.history))
+    (heap_spot heap state book rule word (ap spot_word (other_told heap state book rule flipping)))
+    (λ r below stands. seat_spot heap state book rule word r below)
+    (agrees_at heap state book rule stages.Advancing)
+    record { heap_marks = marks heap state book rule flipping; roots = λ r below is. absurd (is.goes_on tt) }
+    (space_flips heap state book rule flipping)
+    (book_stays heap state book book.history book.begun)

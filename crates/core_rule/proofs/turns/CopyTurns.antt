@@ -1,0 +1,89 @@
+-- Each turn of copying leaves fewer turns.
+use Rattle.std.specs.Prelude.{IfSome}
+use Rattle.std.proofs.Common.{◌≡◌, ℕ, suc, ◌+◌, ◌-◌, ◌*◌, ◌==◌, ◌<◌, ◌≤◌, List, Option, Some, None, inl, inr, arith}
+use Rattle.std.proofs.lemmas.Bool.Decides.{eqb_tells, leb_tells}
+use Rattle.heap_words.specs.declared.spot.Spot.{Spot}
+use Rattle.heap_words.specs.Spot.{spot_in}
+use Rattle.heap_model.specs.declared.heap.Heap.{Heap}
+use Rattle.core_machine.specs.collector.Copying.{marked_bits_of, next_place_of, left_half, after_visited, after_seen, after_visit, visit_on, after_inspected, after_located, copy_at, after_claimed, after_copied}
+use Rattle.core_machine.specs.collector.CopyingTurns.{copying_step, after_copying}
+use Rattle.core_machine.specs.collector.FitsTurns.{IsCopying, FitsVisit, FitsCopying}
+use Rattle.core_machine.specs.declared.collector.stage.ArrayAt.{ArrayAt}
+use Rattle.core_machine.specs.declared.collector.stage.Copying.{Copying}
+use Rattle.core_machine.specs.declared.collector.stage.Copying.TheVariants as copying
+use Rattle.core_machine.specs.declared.collector.stage.SpineCopy.{SpineCopy}
+use Rattle.core_machine.specs.declared.collector.stage.Stage.{Stage}
+use Rattle.core_machine.specs.declared.collector.stage.Stage.TheVariants as stages
+use Rattle.core_machine.specs.declared.collector.stage.Visit.{Visit}
+use Rattle.core_machine.specs.machine.Machine.{found_by}
+use Rattle.core_machine.specs.table.Decode.{array_length_of}
+use Rattle.core_machine.specs.table.Layout.{put}
+use Rattle.core_machine.specs.table.Operation.{address_of, word_after}
+use Rattle.core_rule.specs.Marking.{IsFewCopied}
+use Rattle.core_rule.specs.TurnsLeft.{visit_most, copy_most, visit_left, copying_left, stage_left}
+use Rattle.core_rule.proofs.turns.Lefts.{StageLeavesFewer, fewer_at}
+use Rattle.core_rule.proofs.turns.NextPlaces.{place_after, place_within}
+
+module _ (heap : Heap) (phase looked : ℕ) (words : List ℕ) where
+  -- so many turns are left at a stage
+  abbrev left_at : Stage → ℕ
+  left_at stage = stage_left heap words phase looked stage
+
+  -- behind a group one visit less is left
+  visited_leaves : (group : ℕ) → group < heap.groups → left_at (after_visited heap group) ≤ visit_most * (heap.groups - (group + 1))
+  visited_leaves group below = elim (leb_tells (suc (group + 1)) heap.groups) as (λ _. left_at (after_visited heap group) ≤ visit_most * (heap.groups - (group + 1))) [
+    | inl more ↦ rw more.0 (omega arith)
+    | inr last ↦ rw last.0 (omega arith)
+  ]
+
+  -- the next marked fragment, or the next group, has no more left than from this place on
+  seen_leaves : (group marked from : ℕ) (place : Option ℕ) → group < heap.groups → IfSome place (λ i. from ≤ i) → IfSome place (λ i. i < 16)
+      → left_at (after_seen heap group marked place) ≤ visit_most * (heap.groups - (group + 1)) + copy_most * (16 - from)
+  seen_leaves group marked from None below after within = omega (arith, visited_leaves group below)
+  seen_leaves group marked from (Some place) below after within = omega (arith, after, within)
+
+  module _ (visit : Visit) (fits : FitsVisit heap visit) where
+    -- behind a fragment the most turns of one are made
+    visit_on_leaves : left_at (visit_on heap visit) + copy_most ≤ visit_left heap.groups visit
+    visit_on_leaves =
+        let next = seen_leaves visit.group visit.marked (visit.place + 1) (next_place_of visit.marked (visit.place + 1)) fits.group_within
+            (place_after visit.marked (visit.place + 1)) (place_within visit.marked (visit.place + 1)) in
+        omega (arith, next, fits.place_within)
+
+    inspected_leaves : (cells : Option ℕ) → left_at (after_inspected heap visit cells) < visit_left heap.groups visit
+    inspected_leaves None = omega (arith, visit_on_leaves)
+    inspected_leaves (Some cells) = omega (arith, fits.place_within)
+
+  located_leaves : (array : ArrayAt) (from : Spot) → FitsVisit heap array.visit → left_at (after_located heap phase array from) < visit_left heap.groups array.visit - 2
+  located_leaves array from fits = elim (eqb_tells from.half (left_half phase)) as (λ _. left_at (after_located heap phase array from) < visit_left heap.groups array.visit - 2) [
+    | inl left ↦ rw left.0 (omega (arith, fits.place_within))
+    | inr other ↦ rw other.0 (omega (arith, visit_on_leaves array.visit fits))
+  ]
+
+  -- a copy that comes to its next word, or is whole
+  copy_leaves : (copy : SpineCopy) → left_at (copy_at copy) ≡ visit_left heap.groups copy.array.visit - (4 + 2 * copy.index)
+  copy_leaves copy = elim (leb_tells (suc copy.index) copy.array.words) as (λ _. left_at (copy_at copy) ≡ visit_left heap.groups copy.array.visit - (4 + 2 * copy.index)) [
+    | inl more ↦ rw more.0
+    | inr whole ↦ rw whole.0
+  ]
+
+  -- by the stage of copying
+  copying_leaves : (stage : Copying) (found : ℕ) → FitsCopying heap stage → IsFewCopied stage → left_at (after_copying heap phase stage found) < copying_left heap.groups stage
+  copying_leaves (copying.Visiting group) found fits few =
+      let next = seen_leaves group (marked_bits_of found) 0 (next_place_of (marked_bits_of found) 0) fits (place_after (marked_bits_of found) 0) (place_within (marked_bits_of found) 0) in
+      omega (arith, next, fits)
+  copying_leaves (copying.Inspecting visit) found fits few = inspected_leaves visit fits (array_length_of found)
+  copying_leaves (copying.Naming visit n) found fits few = omega (arith, fits.0.place_within)
+  copying_leaves (copying.Locating array) found fits few = located_leaves array (spot_in found) fits.there
+  copying_leaves (copying.Claiming array from) found fits few = rw (copy_leaves (record { array = array; from = from; to = spot_in found; index = 0 })) (omega (arith, fits.0.there.place_within))
+  copying_leaves (copying.Loading copy) found fits few = omega (arith, fits.0.array_fits.there.place_within, fits.1, few)
+  copying_leaves (copying.Storing copy word) found fits few = rw (copy_leaves (record copy { index = copy.index + 1 })) (omega (arith, fits.copies.array_fits.there.place_within, fits.more, few))
+  copying_leaves (copying.Swinging copy) found fits few = omega (arith, visit_on_leaves copy.array.visit fits.0.array_fits.there, fits.1, few)
+
+pub copy_turn_leaves : (stage : Copying) → IsFewCopied stage → StageLeavesFewer (stages.Copying stage)
+copy_turn_leaves stage few heap state book rule copies stepped =
+    let fits : IsCopying heap.seats state.collector.phase state.collector.looked × FitsCopying heap stage = rw copies at rule.machine.collector_fit.at_stage in
+    let found : ℕ = found_by heap state (copying_step stage) in
+    let now : List ℕ = put heap state.words (address_of (copying_step stage)) (word_after (copying_step stage) found) in
+    fewer_at heap state (stages.Copying stage) now state.collector.looked (after_copying heap state.collector.phase stage found) copies
+    (copying_leaves heap state.collector.phase state.collector.looked now stage found fits.1 few)
