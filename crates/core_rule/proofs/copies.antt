@@ -5,6 +5,7 @@ pub mod VisitsOn
 pub mod InspectedWords
 pub mod BegunArrays
 pub mod CopyWords
+pub mod CopyStores
 pub mod SwungWords
 pub mod SwungSources
 pub mod SwungObjects

@@ -15,6 +15,7 @@ pub mod SpreadStep
 pub mod VisitStep
 pub mod InspectStep
 pub mod FindStep
+pub mod CopyLoadStep
 pub mod SwingStep
 pub mod SweepStep
 pub mod FreeStep
