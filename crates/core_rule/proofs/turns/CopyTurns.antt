@@ -1,11 +1,11 @@
 -- Each turn of copying leaves fewer turns.
 use Rattle.std.specs.Prelude.{IfSome}
-use Rattle.std.proofs.Common.{◌≡◌, ℕ, suc, ◌+◌, ◌-◌, ◌*◌, ◌==◌, ◌<◌, ◌≤◌, List, Option, Some, None, inl, inr, arith}
+use Rattle.std.proofs.Common.{◌≡◌, ℕ, suc, ◌+◌, ◌-◌, ◌*◌, ◌<◌, ◌≤◌, List, Option, Some, None, inl, inr, arith}
 use Rattle.std.proofs.lemmas.Bool.Decides.{eqb_tells, leb_tells}
 use Rattle.heap_words.specs.declared.spot.Spot.{Spot}
 use Rattle.heap_words.specs.Spot.{spot_in}
 use Rattle.heap_model.specs.declared.heap.Heap.{Heap}
-use Rattle.core_machine.specs.collector.Copying.{marked_bits_of, next_place_of, left_half, after_visited, after_seen, after_visit, visit_on, after_inspected, after_located, copy_at, after_claimed, after_copied}
+use Rattle.core_machine.specs.collector.Copying.{marked_bits_of, next_place_of, left_half, after_visited, after_seen, visit_on, after_inspected, after_located, copy_at}
 use Rattle.core_machine.specs.collector.CopyingTurns.{copying_step, after_copying}
 use Rattle.core_machine.specs.collector.FitsTurns.{IsCopying, FitsVisit, FitsCopying}
 use Rattle.core_machine.specs.declared.collector.stage.ArrayAt.{ArrayAt}
