@@ -62,17 +62,17 @@ pub record IsToCopy (nodes : ℕ → Node) (made : List Id) (owner : ℕ → Own
   pub own : from ≡ spines found.begins.index
   pub left : from.half ≢ half
 
--- what copying has found at each of its stages
+-- what copying has found at each of its stages; a copy has its place in this half
 abbrev pub CopyingStands : (ℕ → Node) → List Id → (ℕ → Owner) → (ℕ → Colour) → (ℕ → List ℕ) → (ℕ → Spot) → ℕ → Copying → Type 0
 CopyingStands nodes made owner colour fragments spines half (copying.Visiting group) = Unit {0}
 CopyingStands nodes made owner colour fragments spines half (copying.Inspecting visit) = AreMarked colour visit
 CopyingStands nodes made owner colour fragments spines half (copying.Naming visit words) = AreMarked colour visit × BeginsArray nodes owner (visited visit) words
 CopyingStands nodes made owner colour fragments spines half (copying.Locating array) = IsFound nodes made owner colour array
 CopyingStands nodes made owner colour fragments spines half (copying.Claiming array from) = IsToCopy nodes made owner colour spines half array from
-CopyingStands nodes made owner colour fragments spines half (copying.Loading copy) = IsToCopy nodes made owner colour spines half copy.array copy.from
+CopyingStands nodes made owner colour fragments spines half (copying.Loading copy) = IsToCopy nodes made owner colour spines half copy.array copy.from × (copy.to.half ≡ half)
 CopyingStands nodes made owner colour fragments spines half (copying.Storing copy word) =
-    (to_copy : IsToCopy nodes made owner colour spines half copy.array copy.from) × (word ≡ spine_word (fragment_at (fragments to_copy.found.begins.index) (copy.index + 1)))
-CopyingStands nodes made owner colour fragments spines half (copying.Swinging copy) = IsToCopy nodes made owner colour spines half copy.array copy.from
+    (to_copy : IsToCopy nodes made owner colour spines half copy.array copy.from) × (word ≡ spine_word (fragment_at (fragments to_copy.found.begins.index) (copy.index + 1))) × (copy.to.half ≡ half)
+CopyingStands nodes made owner colour fragments spines half (copying.Swinging copy) = IsToCopy nodes made owner colour spines half copy.array copy.from × (copy.to.half ≡ half)
 
 -- the copy in progress, from the claim of its place until the array swings to it
 abbrev pub copy_in : Stage → Option SpineCopy

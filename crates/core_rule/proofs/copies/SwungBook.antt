@@ -54,7 +54,11 @@ module _ (heap : Heap) (state : State) (book : Book) (rule : Rule heap state boo
 
   -- the array is to be copied, and stands yet where it stood
   pub to_copy : IsToCopy nodes book.made book.owner book.colour book.spines (next_spine heap state.words).half copy.array copy.from
-  to_copy = found_from heap state book rule (Swinging copy) swinging
+  to_copy = (found_from heap state book rule (Swinging copy) swinging).0
+
+  -- the copy stands in the half of the next spine
+  pub copy_here : copy.to.half ≡ (next_spine heap state.words).half
+  copy_here = (found_from heap state book rule (Swinging copy) swinging).1
 
   -- its number, and its first fragment
   abbrev pub i : ℕ

@@ -36,7 +36,7 @@ use Rattle.core_rule.specs.Owners.{Owner, Kept}
 use Rattle.core_rule.specs.Rule.{Rule, SpaceStands}
 use Rattle.core_rule.specs.Spines.{next_spine}
 use Rattle.core_rule.proofs.copies.CopyingStages.{IsFree, in_copying, leaving, half_next, half_copying, no_copy, none_returned, none_counted, seen_free}
-use Rattle.core_rule.proofs.copies.SwungBook.{to_copy, i, s, its, inside, now, places, owners, entry, book_swung, graph_swung, spot_same}
+use Rattle.core_rule.proofs.copies.SwungBook.{to_copy, copy_here, i, s, its, inside, now, places, owners, entry, book_swung, graph_swung, spot_same}
 use Rattle.core_rule.proofs.copies.SwungWords.{swung_word, spine_here, spine_other, placed_was}
 use Rattle.core_rule.proofs.copies.Visits.{awaits_on, to_visit_on}
 use Rattle.core_rule.proofs.copies.VisitsOn.{arrays_from, copies_seen}
@@ -67,8 +67,7 @@ other_swung history id mine other swung = elim (Contains-push_cases (after_last 
       | inr last ↦ absurd (other (cc (last)))
     ]
 
-module _ (heap : Heap) (state : State) (book : Book) (rule : Rule heap state book) (copy : SpineCopy) (swinging : state.collector.stage ≡ stages.Copying (Swinging copy))
-    (there : copy.to.half ≡ (next_spine heap state.words).half) where
+module _ (heap : Heap) (state : State) (book : Book) (rule : Rule heap state book) (copy : SpineCopy) (swinging : state.collector.stage ≡ stages.Copying (Swinging copy)) where
   abbrev words : List ℕ
   words = now heap state book rule copy swinging
 
@@ -102,6 +101,9 @@ module _ (heap : Heap) (state : State) (book : Book) (rule : Rule heap state boo
 
   abbrev turned : List Entry → State
   turned log = record state { words = words; collector = collector_swung log }
+
+  there : copy.to.half ≡ half
+  there = copy_here heap state book rule copy swinging
 
   its_place : spines n ≡ copy.to
   its_place = spine_here n copy.to book.spines

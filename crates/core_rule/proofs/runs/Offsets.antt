@@ -128,9 +128,9 @@ module _ (heap : Heap) (state : State) (book : Book) (rule : Rule heap state boo
   halves = rule.space.halves.copies
 
   copied_few : (stage : Stage) → WhileCopying (CopyingStands nodes book.made book.owner book.colour book.fragments book.spines half) stage → kept_here + copying_words stage ≤ kept_all
-  copied_few (stages.Copying (copying.Loading copy)) stands = copy_beside copy.array copy.from stands
+  copied_few (stages.Copying (copying.Loading copy)) stands = copy_beside copy.array copy.from stands.0
   copied_few (stages.Copying (copying.Storing copy word)) stands = copy_beside copy.array copy.from stands.0
-  copied_few (stages.Copying (copying.Swinging copy)) stands = copy_beside copy.array copy.from stands
+  copied_few (stages.Copying (copying.Swinging copy)) stands = copy_beside copy.array copy.from stands.0
   copied_few _ stands = omega (arith, kept_few)
 
   seats_few : of_seats heap state (placed_at half) ≤ of_seats heap state granted_at

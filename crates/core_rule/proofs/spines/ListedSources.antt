@@ -171,9 +171,9 @@ module _ (heap : Heap) (state : State) (book : Book) (rule : Rule heap state boo
           → IfSome (copy_in stage) (λ copy. (j : ℕ) → j < copy.array.words → book.spine_owner copy.to.half (copy.to.offset + j) ≡ Placed heap.seats j)
           → IfSome (copy_in stage) (λ copy. (j : ℕ) → j < copy.index → at heap state.words (spine_place copy.to j) ≡ at heap state.words (spine_place copy.from j))
           → IfSome (copy_in stage) (λ copy. (j : ℕ) → j < copy.index → at heap words_now (spine_place copy.to j) ≡ at heap words_now (spine_place copy.from j))
-      by (stages.Copying (copying.Loading copy)) fit copies placed copied = copied_listed copy copies fit.1.0.index_within placed copied
+      by (stages.Copying (copying.Loading copy)) fit copies placed copied = copied_listed copy copies.0 fit.1.0.index_within placed copied
       by (stages.Copying (copying.Storing copy word)) fit copies placed copied = copied_listed copy copies.0 fit.1.copies.index_within placed copied
-      by (stages.Copying (copying.Swinging copy)) fit copies placed copied = copied_listed copy copies fit.1.0.index_within placed copied
+      by (stages.Copying (copying.Swinging copy)) fit copies placed copied = copied_listed copy copies.0 fit.1.0.index_within placed copied
       by _ fit copies placed copied = tt
 
   pub kept_listed : (f i k : ℕ) → book.owner f ≡ Kept i k → SameSources heap state.words words_now f

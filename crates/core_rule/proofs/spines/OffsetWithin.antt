@@ -111,9 +111,9 @@ module _ (nodes : ℕ → Node) (spines : ℕ → Spot) (half : ℕ) where
     -- so it is with a copy in progress
     pub kept_beside_copy : (stage : Stage) → WhileCopying (CopyingStands nodes made owner colour fragments spines half) stage
         → kept_sum heap (words_in_half half nodes spines) owner + copying_words stage ≤ kept_sum heap (words_of nodes) owner
-    kept_beside_copy (stages.Copying (copying.Loading copy)) copies = copy_within copy.array copy.from copies
+    kept_beside_copy (stages.Copying (copying.Loading copy)) copies = copy_within copy.array copy.from copies.0
     kept_beside_copy (stages.Copying (copying.Storing copy word)) copies = copy_within copy.array copy.from copies.0
-    kept_beside_copy (stages.Copying (copying.Swinging copy)) copies = copy_within copy.array copy.from copies
+    kept_beside_copy (stages.Copying (copying.Swinging copy)) copies = copy_within copy.array copy.from copies.0
     kept_beside_copy _ copies = omega (arith, kept_in_half)
 
 module _ (heap : Heap) (state : State) (book : Book) (bits : Bits heap state.words book.owner) (budgets : BudgetsStand heap state book) (halves : HalvesStand heap state book) where

@@ -43,7 +43,7 @@ claimed number spot need spine_owner half offset =
 
 module _ (number : ℕ) (spot : Spot) (need : ℕ) (spine_owner : ℕ → ℕ → SpineOwner) where
   -- what is true of both is true of it
-  claim_cases : (P : SpineOwner → Type 0) (half offset : ℕ) → (IsClaimed spot need half offset → P (Placed number (offset - spot.offset))) → (¬ IsClaimed spot need half offset → P (spine_owner half offset))
+  pub claim_cases : (P : SpineOwner → Type 0) (half offset : ℕ) → (IsClaimed spot need half offset → P (Placed number (offset - spot.offset))) → (¬ IsClaimed spot need half offset → P (spine_owner half offset))
       → P (claimed number spot need spine_owner half offset)
   claim_cases P half offset there away = elim (eqb_tells half spot.half) as (λ _. P (claimed number spot need spine_owner half offset)) [
     | inr other ↦ rw other.0 (away (λ is. other.1 is.half_is))
@@ -59,7 +59,7 @@ module _ (number : ℕ) (spot : Spot) (need : ℕ) (spine_owner : ℕ → ℕ �
   ]
 
   -- the party has each of them
-  claim_has : (j : ℕ) → j < need → claimed number spot need spine_owner spot.half (spot.offset + j) ≡ Placed number j
+  pub claim_has : (j : ℕ) → j < need → claimed number spot need spine_owner spot.half (spot.offset + j) ≡ Placed number j
   claim_has j less = claim_cases (λ o. o ≡ Placed number j) spot.half (spot.offset + j) (λ is. ap (Placed number) (omega arith))
       (λ away. absurd (away record { half_is = refl; from = omega arith; upto = omega (arith, less) }))
 

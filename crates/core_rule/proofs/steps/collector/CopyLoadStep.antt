@@ -28,7 +28,7 @@ module _ (heap : Heap) (state : State) (book : Book) (rule : Rule heap state boo
   found = at heap state.words (spine_place copy.from copy.index)
 
   to_copy : IsToCopy (node_at (graph_of heap book.history) book.made) book.made book.owner book.colour book.spines (next_spine heap state.words).half copy.array copy.from
-  to_copy = found_from heap state book rule (Loading copy) loading
+  to_copy = (found_from heap state book rule (Loading copy) loading).0
 
   -- the word found names the next payload fragment
   names : found ≡ spine_word (fragment_at (book.fragments to_copy.found.begins.index) (copy.index + 1))
@@ -44,7 +44,7 @@ module _ (heap : Heap) (state : State) (book : Book) (rule : Rule heap state boo
     few = few_from heap state book rule (Loading copy) loading;
     as_many = ap copying_words (sym loading);
     arrays = arrays_from heap state book rule (Loading copy) loading;
-    copies = (to_copy, names);
+    copies = (to_copy, names, (found_from heap state book rule (Loading copy) loading).1);
     copy = has_copy heap state.words book.spine_owner (stages.Copying (Storing copy found)) copy refl
         (copy_has heap state.words book.spine_owner (stages.Copying (Loading copy)) copy refl (subst (CopyInHand heap state.words book.spine_owner) loading rule.space.halves.copy));
   }

@@ -21,7 +21,6 @@ use Rattle.core_rule.specs.Counts.{is_collectors}
 use Rattle.core_rule.specs.Objects.{node_at}
 use Rattle.core_rule.specs.Phases.{CollectorAgrees}
 use Rattle.core_rule.specs.Rule.{Rule}
-use Rattle.core_rule.specs.Spines.{next_spine}
 use Rattle.core_rule.proofs.copies.CopyingStages.{in_copying, after_marking, marks_copying}
 use Rattle.core_rule.proofs.copies.SwungBook.{to_copy, its, now, entry, book_swung}
 use Rattle.core_rule.proofs.copies.SwungSeats.{heap_swung, seat_swung}
@@ -30,7 +29,7 @@ use Rattle.core_rule.proofs.entries.Legality.{legal_more, keeps_swings}
 use Rattle.core_rule.proofs.entries.PhaseEntries.{phase_stays, answered_stays, left_stays}
 use Rattle.core_rule.proofs.footprint.BookGoing.{owners_stay}
 use Rattle.core_rule.proofs.graph.SameNodes.{made_node}
-use Rattle.core_rule.proofs.steps.TurnSteps.{TurnKeeps, turn_steps}
+use Rattle.core_rule.proofs.steps.TurnSteps.{StageKeeps, TurnKeeps, turn_steps}
 
 module _ (heap : Heap) (state : State) (book : Book) (rule : Rule heap state book) (copy : SpineCopy) (swinging : state.collector.stage ≡ stages.Copying (Swinging copy)) where
   abbrev g : Graph
@@ -65,27 +64,29 @@ module _ (heap : Heap) (state : State) (book : Book) (rule : Rule heap state boo
   legal = legal_more heap false book.history (entry heap state book rule copy swinging) rule.heap_stands.legal tt
       (keeps_swings heap false book.history copy.array.id (fourth, is_array, unswung))
 
-  module _ (there : copy.to.half ≡ (next_spine heap state.words).half) where
-    agrees : CollectorAgrees heap (collector_swung heap state book rule copy swinging there log) later.history
-    agrees =
-        let told = entry heap state book rule copy swinging in
-        let stands = rule.collector_stands in
-        record {
-          log = rw (filter-append is_collectors book.history (told ∷ []), stands.log) refl;
-          phase_told = stands.phase_told ∙ sym (phase_stays book.history told refl);
-          looked = λ number less below present.
-              answered_stays book.history told number refl ∙ stands.looked number less below (sym (left_stays book.history told number refl) ∙ present) ∙ sym (phase_stays book.history told refl);
-        }
+  agrees : CollectorAgrees heap (collector_swung heap state book rule copy swinging log) later.history
+  agrees =
+      let told = entry heap state book rule copy swinging in
+      let stands = rule.collector_stands in
+      record {
+        log = rw (filter-append is_collectors book.history (told ∷ []), stands.log) refl;
+        phase_told = stands.phase_told ∙ sym (phase_stays book.history told refl);
+        looked = λ number less below present.
+            answered_stays book.history told number refl ∙ stands.looked number less below (sym (left_stays book.history told number refl) ∙ present) ∙ sym (phase_stays book.history told refl);
+      }
 
-    swing_turns : TurnKeeps heap state book (turn_at heap state.collector (stages.Copying (Swinging copy)))
-    swing_turns machine =
-        let goes_free = free heap state book rule copy swinging there in
-        turn_steps heap state book (now heap state book rule copy swinging) (collector_swung heap state book rule copy swinging there log) later (entry heap state book rule copy swinging ∷ []) rule machine refl
-        (heap_swung heap state book rule copy swinging legal) (λ r below stands. seat_swung heap state book rule copy swinging r below stands) agrees
-        record {
-          heap_marks = marks_copying heap (now heap state book rule copy swinging) book.owner book.colour book.fragments state.collector.phase (in_copying heap state book rule (Swinging copy) swinging)
-              (after_marking heap state book rule (Swinging copy) swinging) (stage heap state book rule copy swinging there) goes_free.of_copying goes_free.few;
-          roots = λ r below marks. absurd (omega (arith, marks.phase, in_copying heap state book rule (Swinging copy) swinging));
-        }
-        (space_swung heap state book rule copy swinging there log)
-        record { made = λ j below. refl; owners = owners_stay (length book.made) book.owner; marked = λ f j k owned below marked. inl marked }
+  swing_turns : TurnKeeps heap state book (turn_at heap state.collector (stages.Copying (Swinging copy)))
+  swing_turns machine =
+      let goes_free = free heap state book rule copy swinging in
+      turn_steps heap state book (now heap state book rule copy swinging) (collector_swung heap state book rule copy swinging log) later (entry heap state book rule copy swinging ∷ []) rule machine refl
+      (heap_swung heap state book rule copy swinging legal) (λ r below stands. seat_swung heap state book rule copy swinging r below stands) agrees
+      record {
+        heap_marks = marks_copying heap (now heap state book rule copy swinging) book.owner book.colour book.fragments state.collector.phase (in_copying heap state book rule (Swinging copy) swinging)
+            (after_marking heap state book rule (Swinging copy) swinging) (stage heap state book rule copy swinging) goes_free.of_copying goes_free.few;
+        roots = λ r below marks. absurd (omega (arith, marks.phase, in_copying heap state book rule (Swinging copy) swinging));
+      }
+      (space_swung heap state book rule copy swinging log)
+      record { made = λ j below. refl; owners = owners_stay (length book.made) book.owner; marked = λ f j k owned below marked. inl marked }
+
+pub swing_keeps : (copy : SpineCopy) → StageKeeps (stages.Copying (Swinging copy))
+swing_keeps copy heap state book rule swinging machine = swing_turns heap state book rule copy swinging machine

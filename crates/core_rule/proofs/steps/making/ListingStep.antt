@@ -61,7 +61,7 @@ listed_all : (command : Command) (spine : SpinePlace) (listed : ℕ) → IsArray
 listed_all (commands.Array d cells) spine listed array all = omega (arith, all)
 listed_all _ spine listed array all = absurd array
 
-listed_few : (heap : Heap) (seat : Seat) (place : Place) → FitsPlace heap seat place → HasPlace seat place → seat.listed ≤ spine_need seat
+pub listed_few : (heap : Heap) (seat : Seat) (place : Place) → FitsPlace heap seat place → HasPlace seat place → seat.listed ≤ spine_need seat
 listed_few heap seat (places.Making Listing) fits has = omega (arith, fits.1)
 listed_few heap seat (places.Making Storing) fits has = listed_all seat.command seat.spine seat.listed has fits.3
 listed_few heap seat (places.Making Bearing) fits has = listed_all seat.command seat.spine seat.listed has fits.4
