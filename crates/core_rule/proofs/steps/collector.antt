@@ -16,6 +16,7 @@ pub mod VisitStep
 pub mod InspectStep
 pub mod FindStep
 pub mod CopyLoadStep
+pub mod CopyStoreStep
 pub mod SwingStep
 pub mod SweepStep
 pub mod FreeStep
