@@ -13,7 +13,7 @@ use Rattle.core_rule.specs.Budgets.{copying_words}
 use Rattle.core_rule.specs.Rule.{Rule}
 use Rattle.core_rule.proofs.copies.CopyStores.{to_copy, now, spot_same, budget_same, heap_copied, seat_copied, has_next}
 use Rattle.core_rule.proofs.copies.CopyWords.{copy_leads}
-use Rattle.core_rule.proofs.copies.CopyingStages.{LeadsBy, in_copying, after_marking, few_from, marks_copying, halves_copying, budgets_copying}
+use Rattle.core_rule.proofs.copies.CopyingStages.{LeadsBy, in_copying, after_marking, few_from, marks_copying, space_copying}
 use Rattle.core_rule.proofs.copies.VisitsOn.{arrays_from, found_from}
 use Rattle.core_rule.proofs.footprint.BookGoing.{book_stays}
 use Rattle.core_rule.proofs.steps.collector.ColourTurn.{agrees_at, at_stage}
@@ -25,8 +25,8 @@ copy_store_keeps copy word heap state book rule storing machine =
     let next : SpineCopy = record copy { index = copy.index + 1 } in
     let log : List Entry = state.collector.log ++ [] in
     let fourth = in_copying heap state book rule (Storing copy word) storing in
-    let leads : LeadsBy heap state book words (after_copied copy)
-    = copy_leads heap state book rule words next (few_from heap state book rule (Storing copy word) storing) (ap copying_words (sym storing))
+    let leads : LeadsBy heap state book words 0 (after_copied copy)
+    = copy_leads heap state book rule words 0 next (few_from heap state book rule (Storing copy word) storing) (omega (arith, ap copying_words storing))
     (arrays_from heap state book rule (Storing copy word) storing) (to_copy heap state book rule copy word storing) (found_from heap state book rule (Storing copy word) storing).2
     (has_next heap state book rule copy word storing) in
     turn_steps heap state book words (quiet (at_stage state.collector (after_copied copy))) book [] rule machine (sym (append-nil book.history))
@@ -36,8 +36,5 @@ copy_store_keeps copy word heap state book rule storing machine =
           leads.of_copying leads.few;
       roots = λ r below marks. absurd (omega (arith, marks.phase, fourth));
     }
-    record {
-      budgets = budgets_copying heap state book rule (Storing copy word) storing words (spot_same heap state book rule copy word storing) log (after_copied copy) leads (budget_same heap state book rule copy word storing);
-      halves = halves_copying heap state book rule (Storing copy word) storing words (spot_same heap state book rule copy word storing) log (after_copied copy) leads;
-    }
+    (space_copying heap state book rule (Storing copy word) storing words (spot_same heap state book rule copy word storing) (budget_same heap state book rule copy word storing) log (after_copied copy) leads)
     (book_stays heap state book book.history book.begun)
