@@ -26,7 +26,7 @@ copy_store_keeps copy word heap state book rule storing machine =
     let log : List Entry = state.collector.log ++ [] in
     let fourth = in_copying heap state book rule (Storing copy word) storing in
     let leads : LeadsBy heap state book words 0 (after_copied copy)
-    = copy_leads heap state book rule words 0 next (few_from heap state book rule (Storing copy word) storing) (omega (arith, ap copying_words storing))
+    = copy_leads heap state book rule words book.spine_owner 0 next (few_from heap state book rule (Storing copy word) storing) (omega (arith, ap copying_words storing))
     (arrays_from heap state book rule (Storing copy word) storing) (to_copy heap state book rule copy word storing) (found_from heap state book rule (Storing copy word) storing).2
     (has_next heap state book rule copy word storing) in
     turn_steps heap state book words (quiet (at_stage state.collector (after_copied copy))) book [] rule machine (sym (append-nil book.history))
