@@ -18,6 +18,7 @@ pub mod PhaseSpaces
 pub mod HalvesMoves
 pub mod OffsetWithin
 pub mod SweepSums
+pub mod SweptSpace
 pub mod UsedWords
 pub mod DyingWords
 pub mod WeightSums

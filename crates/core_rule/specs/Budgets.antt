@@ -1,5 +1,5 @@
 -- The spine words that are granted: they are those of arrays and of calls; and those that have their places in the half of the next spine stand before it.
-use Rattle.std.specs.Prelude.{◌≡◌, ℕ, ◌+◌, ◌*◌, ◌≤◌, ◌==◌, false, if◌then◌else◌, List, length}
+use Rattle.std.specs.Prelude.{◌≡◌, ℕ, ◌+◌, ◌*◌, ◌^◌, ◌<◌, ◌≤◌, ◌==◌, false, if◌then◌else◌, List, length}
 use Rattle.heap_model.specs.declared.entry.Entry.{Entry}
 use Rattle.heap_model.specs.declared.heap.Heap.{Heap}
 use Rattle.heap_model.specs.Limits.{group_fragments}
@@ -136,7 +136,7 @@ pub record BudgetsStand (heap : Heap) (state : State) (book : Book) : Type 0 whe
   pub early : IsBetween barriers copying_phase state.collector.phase → returned_in_cycle book.history ≡ 0
   pub counts : SweepCounts (words_of (nodes_in heap book)) book.owner state.collector.stage
 
--- what a call has found that takes its spine words back is what a run may show
+-- what a call has found that takes its spine words back is what a run may show, and a number of 32 bits
 abbrev pub UsedStands : Heap → List Entry → ℕ → Seat → Place → Type 0
-UsedStands heap history number seat (places.Making Withdrawing) = FindsSpine heap false history number seat.used
+UsedStands heap history number seat (places.Making Withdrawing) = FindsSpine heap false history number seat.used × (seat.used < 2 ^ 32)
 UsedStands heap history number seat _ = Unit {0}

@@ -58,10 +58,10 @@ module _ (heap : Heap) (words : List ℕ) (table : length words ≡ table_length
       let now : ℕ = at heap words_swung (spine_place (spot_in (at heap words_swung (Word s 2))) k) in
       let before : ℕ = at heap words (spine_place (spot_in (at heap words (Word s 2))) k) in
       ap (λ first. pointer_by first k now) first_swung ∙ (elim (leb_tells (suc k) (spine_words_in (at heap words (Word s 0))))
-          as (λ _. pointer_by (at heap words (Word s 0)) k now ≡ pointer_by (at heap words (Word s 0)) k before) [
-            | inl within ↦ rw within.0 (ap (λ w. Some (payload_in w)) (payload_swung k within.1))
-            | inr past ↦ rw past.0 refl
-          ])
+      as (λ _. pointer_by (at heap words (Word s 0)) k now ≡ pointer_by (at heap words (Word s 0)) k before) [
+        | inl within ↦ rw within.0 (ap (λ w. Some (payload_in w)) (payload_swung k within.1))
+        | inr past ↦ rw past.0 refl
+      ])
 
   here_swung : (source : ℕ) → source_pointer heap words_swung s source ≡ source_pointer heap words s source
   here_swung source = source_cases heap words s (λ o. source_pointer heap words_swung s source ≡ o) source

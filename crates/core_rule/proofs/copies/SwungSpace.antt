@@ -63,9 +63,9 @@ uncounted a b n apart = elim (eqb_tells a b) as (λ _. (if a == b then n else 0)
 other_swung : (history : List Entry) (id mine : Id) → mine ≢ id → HasSwung id (history ++ Swings mine ∷ []) → HasSwung id history
 other_swung history id mine other swung = elim (Contains-push_cases (after_last begins_phase history) (Swings mine) (Swings id)
     (subst (λ es. Contains es (Swings id)) (after_last-no begins_phase history (Swings mine) refl) swung)) [
-  | inl there ↦ there
-  | inr last ↦ absurd (other (cc (last)))
-]
+      | inl there ↦ there
+      | inr last ↦ absurd (other (cc (last)))
+    ]
 
 module _ (heap : Heap) (state : State) (book : Book) (rule : Rule heap state book) (copy : SpineCopy) (swinging : state.collector.stage ≡ stages.Copying (Swinging copy)) where
   abbrev words : List ℕ

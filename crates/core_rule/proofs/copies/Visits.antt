@@ -79,10 +79,14 @@ module _ (heap : Heap) (phase group : ℕ) where
       where
         seen_here : (o : Option ℕ) → next_place_of marked from ≡ o → AwaitsCopy phase (after_seen heap group marked o) f
         seen_here None none = absurd (omega (arith, place_none marked from (f % 16) none here.1 (omega arith), here.2))
-        seen_here (Some place) is = inr (here.0, (elim (leb_tells place (f % 16)) as (λ _. place ≤ f % 16) [
-          | inl from_ ↦ from_.1
-          | inr before ↦ absurd (omega (arith, next_first marked from place (f % 16) is here.1 (omega (arith, before.1)), here.2))
-        ]), here.2)
+        seen_here (Some place) is = inr (
+          here.0,
+          (elim (leb_tells place (f % 16)) as (λ _. place ≤ f % 16) [
+            | inl from_ ↦ from_.1
+            | inr before ↦ absurd (omega (arith, next_first marked from place (f % 16) is here.1 (omega (arith, before.1)), here.2))
+          ]),
+          here.2,
+        )
 
 -- what is yet to be visited and isn't where the visit stands is so from the next place on
 pub to_visit_on : (visit : Visit) (f : ℕ) → f ≢ visited visit → IsToVisit visit f → IsToVisit (record visit { place = visit.place + 1 }) f

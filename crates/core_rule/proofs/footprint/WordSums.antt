@@ -2,7 +2,7 @@
 use Rattle.std.proofs.Common.{◌≡◌, ◌⊎◌, ℕ, zero, suc, ◌+◌, ◌*◌, ◌<◌, ◌≤◌, ◌==◌, Bool, true, false, is_some, List, [], ◌∷◌, length, Option, Some, None, inl, inr, refl, sym, ap, ◌∙◌, subst, arith}
 use Rattle.std.specs.Option.{option_map_or}
 use Rattle.std.specs.Prelude.{if◌then◌else◌}
-use Rattle.std.proofs.lemmas.Bool.{cases_Bool, both_ways}
+use Rattle.std.proofs.lemmas.Bool.{cases_Bool}
 use Rattle.std.proofs.lemmas.Bool.Decides.{eqb_tells}
 use Rattle.std.proofs.lemmas.List.Sums.{sum_by-cons}
 use Rattle.heap_words.specs.declared.spot.Spot.{Spot}
@@ -23,7 +23,7 @@ use Rattle.core_rule.specs.Book.{fragment_at, id_at, object_number}
 use Rattle.core_rule.specs.Budgets.{kept_weight, kept_sum, words_of}
 use Rattle.core_rule.specs.Footprint.{is_among}
 use Rattle.core_rule.specs.Objects.{AreMade, Objects, node_in, node_at}
-use Rattle.core_rule.specs.Owners.{Owner, Free, Taken, Borne, Kept, Dead}
+use Rattle.core_rule.specs.Owners.{Owner, Kept}
 use Rattle.core_rule.proofs.footprint.NewWords.{makes_after, words_after_all}
 use Rattle.core_rule.proofs.graph.Numbering.{id_tells}
 use Rattle.core_rule.proofs.lists.SumLemmas.{sum-suc, sum_le, sum_plus}
@@ -81,7 +81,7 @@ module _ (heap : Heap) (words : List ℕ) (g : Graph) (made : List Id) (owner : 
   one_kept n c =
       let first : ℕ = fragment_at (fragments n) 0 in
       let less = sum_le (16 * heap.groups) (λ f. kept_weight (λ i. if i == n then c else 0) (owner f)) (λ f. if first == f then c else 0) (λ f below.
-          elim (head_or_none (owner f)) [ inl head ↦ rw head.1 (at_first f head.0 head.1) | inr none ↦ omega (arith, none (λ i. if i == n then c else 0)) ]) in
+      elim (head_or_none (owner f)) [ inl head ↦ rw head.1 (at_first f head.0 head.1) | inr none ↦ omega (arith, none (λ i. if i == n then c else 0)) ]) in
       omega (arith, less, sum_at_one (16 * heap.groups) first c)
     where
       at_first : (f i : ℕ) → owner f ≡ Kept i 0 → (if i == n then c else 0) ≤ (if fragment_at (fragments n) 0 == f then c else 0)

@@ -1,5 +1,5 @@
 -- Where a seat stands whose due step stores a newborn word or a spine word.
-use Rattle.std.proofs.Common.{◌≡◌, ℕ, ◌+◌, ◌/◌, ◌⊎◌, Bool, true, false, Option, Some, None, inl, inr, refl, sym, subst}
+use Rattle.std.proofs.Common.{◌≡◌, ℕ, ◌+◌, ◌/◌, ◌⊎◌, Bool, true, false, Option, Some, inl, inr, refl, sym, subst}
 use Rattle.std.specs.Prelude.{if◌then◌else◌, option_map, slice_index_or}
 use Rattle.heap_model.specs.declared.command.Command.{Command}
 use Rattle.heap_model.specs.declared.command.Command.TheVariants as commands

@@ -1,21 +1,18 @@
 -- The laws of held spine words: no claim takes one, and a store goes to a word of its own party.
-use Rattle.std.proofs.Common.{◌≡◌, ◌≢◌, ℕ, ◌+◌, ◌*◌, ◌/◌, ◌<◌, ◌≤◌, inl, inr, List, Some, refl, sym, ap, ◌∙◌, subst, arith}
+use Rattle.std.proofs.Common.{◌≡◌, ◌≢◌, ℕ, ◌/◌, ◌<◌, ◌≤◌, inl, inr, sym, ap, ◌∙◌, subst, arith}
 use Rattle.heap_model.specs.declared.heap.Heap.{Heap}
 use Rattle.core_machine.specs.collector.FitsTurns.{FitsStage, IsCopying, FitsCopying}
 use Rattle.core_machine.specs.declared.collector.stage.Copying.TheVariants as copying
 use Rattle.core_machine.specs.declared.collector.stage.SpineCopy.{SpineCopy}
-use Rattle.core_machine.specs.declared.collector.stage.Stage.TheVariants as stages
-use Rattle.core_machine.specs.declared.place.Making.TheVariants.{Listing, Storing}
-use Rattle.core_machine.specs.declared.place.Place.TheVariants as places
+use Rattle.core_machine.specs.declared.place.Making.TheVariants.{Storing}
 use Rattle.core_machine.specs.machine.Machine.{State, seat_at}
 use Rattle.core_machine.specs.seat.Fits.{FitsPlace}
 use Rattle.core_machine.specs.seat.Seat.{Seat}
 use Rattle.core_machine.specs.table.Fragments.{tally}
 use Rattle.core_rule.specs.Book.{Book}
-use Rattle.core_rule.specs.ControlWords.{IsBorn}
 use Rattle.core_rule.specs.HeldLaws.{NoPlaceTakesHeld, NoCopyTakesHeld, EachStoreIsOwn, EachSpineStoreIsOwn, EachCopyStoreIsOwn, OnlyInHandOf, OnlyInCopy}
 use Rattle.core_rule.specs.HeldWords.{IsAmong, IsInHandOf, IsInCopy, IsHeldWord}
-use Rattle.core_rule.specs.Owners.{Borne, Taken, Open, Placed, born_bit}
+use Rattle.core_rule.specs.Owners.{Borne, Placed, born_bit}
 use Rattle.core_rule.specs.Replicas.{copy_in}
 use Rattle.core_rule.specs.Rule.{Rule}
 use Rattle.core_rule.specs.Spines.{HasPlace, next_spine}

@@ -1,11 +1,11 @@
 -- Whose each held spine word is: an array's, a seat's, the collector's, or that of an array which has left it.
-use Rattle.std.proofs.Common.{◌≡◌, ◌≢◌, ℕ, zero, suc, ◌+◌, ◌*◌, ◌^◌, ◌==◌, eqb, ◌<◌, ◌≤◌, ◌⊎◌, Bool, true, false, List, length, get_or, Option, Some, IfSome, inl, inr, refl, sym, ap, ◌∙◌, subst, arith}
+use Rattle.std.proofs.Common.{◌≡◌, ◌≢◌, ℕ, zero, suc, ◌+◌, ◌*◌, ◌^◌, ◌==◌, eqb, ◌<◌, ◌⊎◌, Bool, true, false, length, get_or, IfSome, inl, inr, refl, sym, ap, ◌∙◌, subst, arith}
 use Rattle.std.specs.Prelude.{if◌then◌else◌}
 use Rattle.heap_words.specs.declared.name.Name.{Name}
 use Rattle.heap_words.specs.declared.spot.Spot.{Spot}
 use Rattle.heap_words.specs.Spot.{spot_in, spot_word}
 use Rattle.heap_model.specs.Command.{IsCommand}
-use Rattle.heap_model.specs.Needs.{array_words, spine_need_of}
+use Rattle.heap_model.specs.Needs.{spine_need_of}
 use Rattle.heap_model.specs.account.Cycles.{graph_of}
 use Rattle.heap_model.specs.declared.command.Command.{Command}
 use Rattle.heap_model.specs.declared.command.Command.TheVariants as commands
@@ -13,9 +13,6 @@ use Rattle.heap_model.specs.declared.heap.Heap.{Heap}
 use Rattle.heap_model.specs.graph.Graph.{Graph, Node}
 use Rattle.heap_model.specs.graph.Sizes.{spine_words_of}
 use Rattle.core_machine.specs.declared.collector.stage.SpineCopy.{SpineCopy}
-use Rattle.core_machine.specs.declared.place.Access.TheVariants.{Indexing}
-use Rattle.core_machine.specs.declared.place.Place.{Place}
-use Rattle.core_machine.specs.declared.place.Place.TheVariants as places
 use Rattle.core_machine.specs.declared.table.address.Address.TheVariants.{Word}
 use Rattle.core_machine.specs.machine.Machine.{State, seat_at}
 use Rattle.core_machine.specs.seat.Commands.{IsArray, MakesObject}
@@ -25,11 +22,10 @@ use Rattle.core_machine.specs.table.Decode.{spine_words_in}
 use Rattle.core_machine.specs.table.Layout.{at}
 use Rattle.core_machine.specs.table.Newborn.{array_meta, array_word_of}
 use Rattle.core_rule.specs.Book.{Book, fragment_at}
-use Rattle.core_rule.specs.Held.{IsHeld}
 use Rattle.core_rule.specs.HeldWords.{IsAmong, IsInHandOf, IsLoadedBy, IsInCopy, IsOfHeld, IsHeldWord}
 use Rattle.core_rule.specs.Objects.{IsKept, node_at}
 use Rattle.core_rule.specs.Owners.{Owner, Free, Taken, Borne, Kept, Dead, SpineOwner, Open, Placed, Spined, Gone, born_bit}
-use Rattle.core_rule.specs.Replicas.{AddressStands, copy_in}
+use Rattle.core_rule.specs.Replicas.{AddressStands}
 use Rattle.core_rule.specs.Rule.{Rule}
 use Rattle.core_rule.specs.Spines.{IsWordOf, HasPlace}
 use Rattle.core_rule.specs.Ways.{Locates, WayStands}

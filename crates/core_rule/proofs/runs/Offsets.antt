@@ -1,6 +1,6 @@
 -- The next spine's place is within the words that are granted: so a spine whose words are granted is always placed, and a copy always fits.
 use Rattle.std.specs.Prelude.{if◌then◌else◌}
-use Rattle.std.proofs.Common.{◌≡◌, ◌≢◌, ℕ, ◌+◌, ◌*◌, ◌==◌, ◌<◌, ◌≤◌, ◌⊎◌, Bool, true, false, inl, inr, List, refl, sym, ap, ◌∙◌, subst, arith}
+use Rattle.std.proofs.Common.{◌≡◌, ◌≢◌, ℕ, ◌+◌, ◌*◌, ◌==◌, ◌<◌, ◌≤◌, ◌⊎◌, Bool, true, false, inl, inr, refl, sym, ap, ◌∙◌, subst, arith}
 use Rattle.std.proofs.lemmas.Bool.{cases_lt}
 use Rattle.std.proofs.lemmas.Bool.Decides.{eqb_tells}
 use Rattle.heap_words.specs.declared.spot.Spot.{Spot}
@@ -8,13 +8,13 @@ use Rattle.heap_model.specs.declared.heap.Heap.{Heap}
 use Rattle.heap_model.specs.graph.Graph.{Node}
 use Rattle.heap_model.specs.graph.Sizes.{spine_words_of}
 use Rattle.core_machine.specs.collector.Collector.{Collector, turn_at}
-use Rattle.core_machine.specs.collector.CopyingTurns.{sentinel_at, copying_step}
+use Rattle.core_machine.specs.collector.CopyingTurns.{sentinel_at}
 use Rattle.core_machine.specs.declared.collector.stage.ArrayAt.{ArrayAt}
 use Rattle.core_machine.specs.declared.collector.stage.Copying.{Copying}
 use Rattle.core_machine.specs.declared.collector.stage.Copying.TheVariants as copying
 use Rattle.core_machine.specs.declared.collector.stage.Stage.{Stage}
 use Rattle.core_machine.specs.declared.collector.stage.Stage.TheVariants as stages
-use Rattle.core_machine.specs.declared.place.Making.TheVariants.{Withdrawing, Gathering, Returning, Refusing, Placing, Listing, Storing, Bearing}
+use Rattle.core_machine.specs.declared.place.Making.TheVariants.{Placing, Listing, Storing, Bearing}
 use Rattle.core_machine.specs.declared.place.Place.{Place}
 use Rattle.core_machine.specs.declared.place.Place.TheVariants as places
 use Rattle.core_machine.specs.declared.step.CopyingStep.TheVariants.{CopyClaim}
@@ -26,7 +26,7 @@ use Rattle.core_rule.specs.Book.{Book}
 use Rattle.core_rule.specs.Budgets.{granted_at, placed_at, of_seats, kept_weight, kept_sum, words_of, words_in_half, nodes_in, granted, unreturned, placed_words, copying_words}
 use Rattle.core_rule.specs.Halves.{IsLeaving, WhileCopying}
 use Rattle.core_rule.specs.Laws.{EveryRunKeeps}
-use Rattle.core_rule.specs.Owners.{Owner, Free, Kept}
+use Rattle.core_rule.specs.Owners.{Free, Kept}
 use Rattle.core_rule.specs.Replicas.{IsToCopy, CopyingStands}
 use Rattle.core_rule.specs.Rule.{Rule}
 use Rattle.core_rule.specs.SpineLaws.{EachOffsetIsWithin, EachGrantIsPlaced, EachCopyFits}

@@ -1,5 +1,5 @@
 -- The flip: the next spine's place is the first word of the other half, and all that stands is left behind.
-use Rattle.std.proofs.Common.{◌≡◌, ◌≢◌, ℕ, ◌+◌, ◌*◌, ◌/◌, ◌%◌, ◌<◌, ◌≤◌, ◌==◌, ◌⊎◌, if◌then◌else◌, Bool, true, false, List, length, inl, inr, refl, sym, ap, ◌∙◌, subst, arith}
+use Rattle.std.proofs.Common.{◌≡◌, ◌≢◌, ℕ, ◌*◌, ◌/◌, ◌%◌, ◌<◌, ◌==◌, ◌⊎◌, if◌then◌else◌, true, List, length, inl, inr, refl, sym, ap, ◌∙◌, subst, arith}
 use Rattle.std.proofs.lemmas.Bool.Decides.{nat_tests}
 use Rattle.heap_words.specs.declared.spot.Spot.{Spot}
 use Rattle.heap_words.specs.Spot.{spot_in, spot_word}
@@ -18,9 +18,9 @@ use Rattle.core_machine.specs.machine.Machine.{State, seat_at}
 use Rattle.core_machine.specs.seat.Commands.{IsArray}
 use Rattle.core_machine.specs.seat.Seat.{Seat}
 use Rattle.core_machine.proofs.table_lemmas.Free.{sum_zero}
-use Rattle.core_rule.specs.Book.{Book, fragment_at}
+use Rattle.core_rule.specs.Book.{Book}
 use Rattle.core_rule.specs.Budgets.{BudgetsStand, of_seats, placed_at, placed_words, kept_weight, kept_sum, words_in_half, nodes_in, returning}
-use Rattle.core_rule.specs.Halves.{HalvesStand, AwaitsCopy, IsBeforeNext, IsEarlyRange, IsLeaving, IsLeftBehind}
+use Rattle.core_rule.specs.Halves.{HalvesStand, AwaitsCopy, IsBeforeNext, IsLeaving, IsLeftBehind}
 use Rattle.core_rule.specs.Objects.{IsKept}
 use Rattle.core_rule.specs.Owners.{Owner, Kept}
 use Rattle.core_rule.specs.Rule.{Rule, SpaceStands}
@@ -28,7 +28,7 @@ use Rattle.core_rule.specs.Spines.{HasPlace, next_spine}
 use Rattle.core_rule.proofs.entries.AtRest.{seat_fits}
 use Rattle.core_rule.proofs.marking.Marks.{all_answered}
 use Rattle.core_rule.proofs.spines.HalfSums.{words_away}
-use Rattle.core_rule.proofs.spines.Leaving.{not_leaving, has_place_present}
+use Rattle.core_rule.proofs.spines.Leaving.{not_leaving, has_place_present, arrays_here, hands_here}
 use Rattle.core_rule.proofs.spines.OffsetWithin.{offset_low}
 use Rattle.core_rule.proofs.spines.SpotWritten.{spot_words, spot_spines, spot_budget, next_written}
 use Rattle.core_rule.proofs.spines.StagesOn.{copy_moves}
@@ -95,16 +95,10 @@ module _ (heap : Heap) (state : State) (book : Book) (rule : Rule heap state boo
   half_apart half same now = absurd (omega (arith, same, now, half_before))
 
   stand_before : (i : ℕ) → i < length book.made → IsKept book.owner book.fragments i → (nodes_in heap book i).array ≡ true → (book.spines i).half ≡ next.half
-  stand_before i below kept kind = elim (rule.space.halves.arrays i below kept kind) as (λ _. (book.spines i).half ≡ next.half) [
-    | inl here ↦ here
-    | inr waits ↦ absurd (subst (λ stage. AwaitsCopy p stage (fragment_at (book.fragments i) 0)) flipping waits)
-  ]
+  stand_before = arrays_here heap state book rule.space.halves (λ f waits. subst (λ stage. AwaitsCopy p stage f) flipping waits)
 
   hand_before : (r : ℕ) → r < heap.seats → HasPlace (seat_at state r) (seat_at state r).place → (seat_at state r).spine.half ≡ next.half
-  hand_before r below has = elim (rule.space.halves.hands r below has) as (λ _. (seat_at state r).spine.half ≡ next.half) [
-    | inl here ↦ here
-    | inr early ↦ absurd (before_flip early.leaving)
-  ]
+  hand_before r below = hands_here heap state book rule.space.halves r below (λ early. before_flip early.leaving)
 
   -- in the other half nothing stands
   none_placed : of_seats heap state (placed_at (next_half p)) ≡ 0

@@ -1,14 +1,18 @@
 -- When a half is left, who has a place in one, and what stands where nothing is copied.
-use Rattle.std.proofs.Common.{◌≡◌, ◌≢◌, ℕ, ◌%◌, Bool, true, false, List, None, Some, inl, inr, refl, subst, arith}
+use Rattle.std.proofs.Common.{◌≡◌, ◌≢◌, ℕ, ◌%◌, ◌<◌, Bool, true, false, List, length, None, Some, inl, inr, refl, subst, arith}
 use Rattle.heap_model.specs.declared.heap.Heap.{Heap}
 use Rattle.core_machine.specs.declared.collector.stage.Stage.{Stage}
 use Rattle.core_machine.specs.declared.collector.stage.Stage.TheVariants as stages
+use Rattle.core_machine.specs.machine.Machine.{State, seat_at}
 use Rattle.core_machine.specs.seat.Fits.{Fits}
 use Rattle.core_machine.specs.seat.Seat.{Seat}
-use Rattle.core_rule.specs.Halves.{IsLeaving}
+use Rattle.core_rule.specs.Book.{Book, fragment_at}
+use Rattle.core_rule.specs.Budgets.{nodes_in}
+use Rattle.core_rule.specs.Halves.{HalvesStand, AwaitsCopy, IsEarlyRange, IsLeaving}
+use Rattle.core_rule.specs.Objects.{IsKept}
 use Rattle.core_rule.specs.Owners.{SpineOwner, Placed}
 use Rattle.core_rule.specs.Replicas.{CopyInHand, copy_in}
-use Rattle.core_rule.specs.Spines.{HasPlace}
+use Rattle.core_rule.specs.Spines.{HasPlace, next_spine}
 
 -- no half is left in the phase of marking before the flip
 pub not_leaving : (phase : ℕ) (stage : Stage) → phase % 7 ≡ 3 → stage ≢ stages.Advancing → ¬ IsLeaving phase stage
@@ -32,3 +36,20 @@ module _ (heap : Heap) (words : List ℕ) (spine_owner : ℕ → ℕ → SpineOw
   -- and that is all that is asked then
   pub copy_away : ((half offset k : ℕ) → spine_owner half offset ≢ Placed heap.seats k) → CopyInHand heap words spine_owner stage
   copy_away away = record { placed = rw none tt; own = λ half offset k is. absurd (away half offset k is); copied = rw none tt }
+
+module _ (heap : Heap) (state : State) (book : Book) (halves : HalvesStand heap state book) where
+  -- where no array awaits a copy, all stand in the half of the next spine
+  pub arrays_here : ((f : ℕ) → ¬ AwaitsCopy state.collector.phase state.collector.stage f) → (i : ℕ) → i < length book.made → IsKept book.owner book.fragments i
+      → (nodes_in heap book i).array ≡ true → (book.spines i).half ≡ (next_spine heap state.words).half
+  arrays_here never i below kept kind = elim (halves.arrays i below kept kind) as (λ _. (book.spines i).half ≡ (next_spine heap state.words).half) [
+    | inl here ↦ here
+    | inr waits ↦ absurd (never (fragment_at (book.fragments i) 0) waits)
+  ]
+
+  -- and so does the spine of a seat that claimed it since the flip, or while no half is left
+  pub hands_here : (r : ℕ) → r < heap.seats → ¬ IsEarlyRange state.collector.phase state.collector.stage (seat_at state r).answered → HasPlace (seat_at state r) (seat_at state r).place
+      → (seat_at state r).spine.half ≡ (next_spine heap state.words).half
+  hands_here r below late has = elim (halves.hands r below has) as (λ _. (seat_at state r).spine.half ≡ (next_spine heap state.words).half) [
+    | inl here ↦ here
+    | inr early ↦ absurd (late early)
+  ]

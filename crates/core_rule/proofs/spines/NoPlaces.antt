@@ -1,4 +1,4 @@
--- A seat whose spine has no place has no range, and where its range is the one that it was, its spine is in its half.
+-- A seat whose spine has no place has no range.
 use Rattle.core_machine.specs.seat.Seat.{Seat}
 use Rattle.core_rule.specs.Spines.{HasPlace}
 use Rattle.core_rule.proofs.spines.NoneMade.{SameRange}

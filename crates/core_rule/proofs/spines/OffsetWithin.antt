@@ -128,10 +128,10 @@ module _ (heap : Heap) (state : State) (book : Book) (bits : Bits heap state.wor
       let seats = sum_within heap.seats number (of (placed_at half)) (of granted_at) (λ r below. placed_few half (seat_at state r) (seat_at state r).place) here in
       let kept = kept_beside_copy (nodes_in heap book) book.spines half heap state.words book.made book.owner book.colour book.fragments bits state.collector.stage halves.copies in
       elim (leaving_or_not state.collector.phase state.collector.stage)
-          as (λ _. (next_spine heap state.words).offset + granted_at (seat_at state number) (seat_at state number).place ≤ granted heap state book + placed_at half (seat_at state number) (seat_at state number).place) [
-            | inl leaves ↦ let level = budgets.leaving leaves in omega (arith, level, seats, kept)
-            | inr stays ↦ let level = budgets.level stays in omega (arith, level, seats, kept)
-          ]
+      as (λ _. (next_spine heap state.words).offset + granted_at (seat_at state number) (seat_at state number).place ≤ granted heap state book + placed_at half (seat_at state number) (seat_at state number).place) [
+        | inl leaves ↦ let level = budgets.leaving leaves in omega (arith, level, seats, kept)
+        | inr stays ↦ let level = budgets.level stays in omega (arith, level, seats, kept)
+      ]
 
 -- by the rule the next spine's place isn't behind the words that are granted
 pub offset_low : (heap : Heap) (state : State) (book : Book) → Rule heap state book → (next_spine heap state.words).offset ≤ granted heap state book

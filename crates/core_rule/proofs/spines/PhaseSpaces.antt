@@ -1,5 +1,5 @@
 -- The spine space where the next phase begins.
-use Rattle.std.proofs.Common.{◌≡◌, ◌≢◌, ℕ, ◌+◌, ◌*◌, ◌/◌, ◌%◌, ◌<◌, ◌≤◌, ◌⊎◌, Bool, true, false, List, [], ◌∷◌, ◌++◌, length, Contains, inl, inr, refl, sym, ap, ◌∙◌, subst, arith}
+use Rattle.std.proofs.Common.{◌≡◌, ◌≢◌, ℕ, ◌+◌, ◌*◌, ◌%◌, ◌<◌, ◌≤◌, ◌⊎◌, Bool, true, false, List, [], ◌∷◌, ◌++◌, Contains, inl, inr, refl, sym, ap, ◌∙◌, subst, arith}
 use Rattle.std.proofs.lemmas.Bool.Decides.{eqb_tells, nat_tests}
 use Rattle.heap_words.specs.declared.spot.Spot.{Spot}
 use Rattle.heap_model.specs.declared.entry.Entry.{Entry}
@@ -8,12 +8,11 @@ use Rattle.heap_model.specs.declared.heap.Heap.{Heap}
 use Rattle.heap_model.specs.declared.id.Id.{Id}
 use Rattle.heap_model.specs.account.Cycles.{graph_of}
 use Rattle.heap_model.specs.account.Effects.{effect_of}
-use Rattle.heap_model.specs.account.Space.{words_granted, words_returned}
+use Rattle.heap_model.specs.account.Space.{words_returned}
 use Rattle.heap_model.specs.account.Sweep.{HasSwung}
 use Rattle.heap_model.specs.account.Windows.{begins_cycle, begins_phase, since_cycle}
 use Rattle.heap_model.specs.graph.Graph.{Graph}
 use Rattle.heap_model.proofs.account_lemmas.Windows.{after_last-no, after_last-yes}
-use Rattle.core_machine.specs.collector.Collector.{Collector}
 use Rattle.core_machine.specs.declared.collector.stage.Stage.{Stage}
 use Rattle.core_machine.specs.declared.collector.stage.Stage.TheVariants as stages
 use Rattle.core_machine.specs.machine.Machine.{State, seat_at}
@@ -22,7 +21,7 @@ use Rattle.core_rule.specs.Book.{Book, fragment_at, id_at}
 use Rattle.core_rule.specs.Budgets.{BudgetsStand, dead_weight, kept_sum, dead_sum, words_of, words_in_half, nodes_in, placed_words, unreturned, returned_in_cycle}
 use Rattle.core_rule.specs.Halves.{HalvesStand, AwaitsCopy, IsBeforeNext, IsEarlyRange, IsLeaving, IsLeftBehind, half_at}
 use Rattle.core_rule.specs.Objects.{node_at}
-use Rattle.core_rule.specs.Owners.{Owner, Dead, SpineOwner, Open, Placed}
+use Rattle.core_rule.specs.Owners.{Owner, Dead, SpineOwner, Open}
 use Rattle.core_rule.specs.Rule.{Rule, SpaceStands}
 use Rattle.core_rule.specs.Spines.{HasPlace, next_spine}
 use Rattle.core_rule.proofs.spines.BudgetFrames.{none_granted_by, none_returned_by}
@@ -94,7 +93,8 @@ module _ (history : List Entry) (phase : ℕ) (entry : Entry) (begins : BeginsAt
 module _ (heap : Heap) (state : State) (book : Book) (rule : Rule heap state book) (ends : EndsPhase state.collector.phase state.collector.stage) (entry : Entry) (begins : BeginsAt state.collector.phase entry)
     (graph : graph_of heap (book.history ++ entry ∷ []) ≡ graph_of heap book.history) (words : List ℕ) (leaves : LeavesSpines heap state.words words) (log : List Entry)
     (spine_owner : ℕ → ℕ → SpineOwner) (lets : LetsGo (next_spine heap state.words).half state.collector.phase book.spine_owner spine_owner)
-    (alive : state.collector.phase % 7 ≡ 5 → (f i k : ℕ) → book.owner f ≢ Dead i k) (answered : state.collector.phase % 7 ≡ 5 → (r : ℕ) → r < heap.seats → HasPlace (seat_at state r) (seat_at state r).place → (seat_at state r).answered % 7 ≡ 5) where
+    (alive : state.collector.phase % 7 ≡ 5 → (f i k : ℕ) → book.owner f ≢ Dead i k)
+    (answered : state.collector.phase % 7 ≡ 5 → (r : ℕ) → r < heap.seats → HasPlace (seat_at state r) (seat_at state r).place → (seat_at state r).answered % 7 ≡ 5) where
   abbrev p : ℕ
   p = state.collector.phase
 

@@ -1,12 +1,12 @@
 -- The spine space once marking has ended: the words of arrays that are to be freed are granted until the sweep returns them.
-use Rattle.std.proofs.Common.{◌≡◌, ◌≢◌, ℕ, ◌+◌, ◌%◌, ◌<◌, ◌≤◌, ◌⊎◌, Bool, true, length, inl, inr, refl, sym, ap, ◌∙◌, subst, arith}
+use Rattle.std.proofs.Common.{◌≡◌, ◌≢◌, ℕ, ◌+◌, ◌%◌, ◌<◌, ◌⊎◌, Bool, true, length, inl, inr, refl, sym, ap, ◌∙◌, subst, arith}
 use Rattle.heap_model.specs.declared.heap.Heap.{Heap}
 use Rattle.core_machine.specs.collector.Collector.{Collector}
 use Rattle.core_machine.specs.declared.collector.stage.Stage.TheVariants as stages
-use Rattle.core_machine.specs.machine.Machine.{State, seat_at}
+use Rattle.core_machine.specs.machine.Machine.{State}
 use Rattle.core_rule.specs.Book.{Book, fragment_at}
 use Rattle.core_rule.specs.Budgets.{BudgetsStand, kept_weight, dead_weight, kept_sum, dead_sum, words_of, words_in_half, nodes_in, returning, copying_words, returned_in_cycle}
-use Rattle.core_rule.specs.Halves.{HalvesStand, AwaitsCopy, IsBeforeNext, IsEarlyRange, IsLeftBehind}
+use Rattle.core_rule.specs.Halves.{HalvesStand, AwaitsCopy, IsBeforeNext, IsLeftBehind}
 use Rattle.core_rule.specs.Objects.{IsKept}
 use Rattle.core_rule.specs.Owners.{Kept}
 use Rattle.core_rule.specs.Rule.{Rule, SpaceStands}
@@ -16,7 +16,7 @@ use Rattle.core_rule.proofs.spines.DyingWords.{settled_book, head_colour, settle
 use Rattle.core_rule.proofs.spines.HalfSums.{kept_sum_agrees, words_here, both_sums_same}
 use Rattle.core_rule.proofs.spines.HalvesFrames.{IsPlain}
 use Rattle.core_rule.proofs.spines.StagesOn.{plain_goes_on}
-use Rattle.core_rule.proofs.spines.Leaving.{not_leaving, none_copied, copy_away}
+use Rattle.core_rule.proofs.spines.Leaving.{not_leaving, none_copied, copy_away, arrays_here, hands_here}
 use Rattle.core_rule.proofs.steps.TurnSteps.{after_turn}
 
 module _ (heap : Heap) (state : State) (book : Book) (rule : Rule heap state book) (group : ℕ) (found : Bool) (passing : state.collector.stage ≡ stages.Passing group found)
@@ -38,10 +38,7 @@ module _ (heap : Heap) (state : State) (book : Book) (rule : Rule heap state boo
 
   -- all arrays stand in the half of the next spine
   stand_here : (i : ℕ) → i < length book.made → IsKept book.owner book.fragments i → (nodes_in heap book i).array ≡ true → (book.spines i).half ≡ half
-  stand_here i below kept kind = elim (rule.space.halves.arrays i below kept kind) as (λ _. (book.spines i).half ≡ half) [
-    | inl here ↦ here
-    | inr waits ↦ absurd (subst (λ stage. AwaitsCopy state.collector.phase stage (fragment_at (book.fragments i) 0)) passing waits)
-  ]
+  stand_here = arrays_here heap state book rule.space.halves (λ f waits. subst (λ stage. AwaitsCopy state.collector.phase stage f) passing waits)
 
   -- so what is kept has all its words there, before and after
   kept_here : (f i k : ℕ) → book.owner f ≡ Kept i k → words_in_half half (nodes_in heap book) book.spines i ≡ words i
@@ -94,11 +91,7 @@ module _ (heap : Heap) (state : State) (book : Book) (rule : Rule heap state boo
               | inr behind ↦ absurd (not_leaving state.collector.phase state.collector.stage third before_flip behind.leaving)
             ];
         arrays = λ i below kept kind. inl (stand_here i below (settled_was (book.owner (fragment_at (book.fragments i) 0)) (book.colour (fragment_at (book.fragments i) 0)) i 0 kept).0 kind);
-        hands = λ r below has. elim (old.hands r below has)
-            as (λ _. ((seat_at state r).spine.half ≡ half) ⊎ IsEarlyRange state.collector.phase stages.Flipping (seat_at state r).answered) [
-              | inl here ↦ inl here
-              | inr range ↦ absurd (not_leaving state.collector.phase state.collector.stage third before_flip range.leaving)
-            ];
+        hands = λ r below has. inl (hands_here heap state book old r below (λ range. not_leaving state.collector.phase state.collector.stage third before_flip range.leaving) has);
         swung = λ copies. absurd (omega (arith, copies, third));
         copies = tt;
         copy = copy_away heap state.words now.spine_owner stages.Flipping refl (λ half offset k placed. none_copied heap state.words book.spine_owner state.collector.stage (rw passing refl) old.copy half offset k

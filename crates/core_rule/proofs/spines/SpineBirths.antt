@@ -96,7 +96,7 @@ module _ (n : ℕ) (nodes now_nodes : ℕ → Node) (owner : ℕ → Owner) (fra
     head_new : IsKept now bodies n
     head_new = ap (λ fs. now (fragment_at fs 0)) (object_new fragments n body) ∙ head
 
-    pub kept_old : (i : ℕ) → i ≢ n → IsKept now bodies i → IsKept owner fragments i
+    kept_old : (i : ℕ) → i ≢ n → IsKept now bodies i → IsKept owner fragments i
     kept_old i apart is = kept_was n body owner (fragment_at (fragments i) 0) i 0 apart (ap (λ fs. now (fragment_at fs 0)) (sym (object_old fragments n body i apart)) ∙ is)
 
     kept_on : (i : ℕ) → i ≢ n → IsKept owner fragments i → IsKept now bodies i

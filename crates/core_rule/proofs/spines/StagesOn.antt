@@ -9,7 +9,7 @@ use Rattle.core_machine.specs.declared.collector.stage.Stage.{Stage}
 use Rattle.core_machine.specs.declared.collector.stage.Stage.TheVariants as stages
 use Rattle.core_rule.specs.Book.{Book}
 use Rattle.core_rule.specs.Budgets.{SweepCounts, words_of, nodes_in, returning, copying_words}
-use Rattle.core_rule.specs.Halves.{AwaitsCopy, IsLeaving, WhileCopying, half_at, has_flipped, is_advancing}
+use Rattle.core_rule.specs.Halves.{AwaitsCopy, IsLeaving, WhileCopying, half_at, is_advancing}
 use Rattle.core_rule.specs.Owners.{Owner, SpineOwner}
 use Rattle.core_rule.specs.Replicas.{CopyingStands, CopyInHand, copy_in}
 use Rattle.core_rule.specs.Spines.{next_spine}

@@ -1,23 +1,25 @@
 -- The spine words that the sweep has counted in its group: those of arrays that are to be freed and begin there.
 use Rattle.std.specs.Prelude.{if◌then◌else◌}
 use Rattle.std.specs.Int.{bit_at}
-use Rattle.std.proofs.Common.{◌≡◌, ℕ, ◌+◌, ◌-◌, ◌*◌, ◌==◌, ◌<◌, ◌≤◌, Option, Some, None, inl, inr, refl, sym, ◌∙◌, subst, arith}
+use Rattle.std.proofs.Common.{◌≡◌, ◌≢◌, ℕ, ◌+◌, ◌-◌, ◌*◌, ◌/◌, ◌^◌, ◌==◌, ◌<◌, ◌≤◌, Option, Some, None, inl, inr, refl, sym, ap, ◌∙◌, subst, arith}
 use Rattle.std.proofs.lemmas.Bool.Decides.{eqb_tells}
 use Rattle.heap_words.specs.Control.{next_place_of}
 use Rattle.heap_model.specs.declared.heap.Heap.{Heap}
 use Rattle.core_machine.specs.collector.Sweeping.{after_swept, after_examined}
-use Rattle.core_machine.specs.declared.collector.stage.Stage.{Stage}
 use Rattle.core_machine.specs.declared.collector.stage.Stage.TheVariants as stages
 use Rattle.core_machine.specs.machine.Sums.{sum_upto}
 use Rattle.core_machine.proofs.table_lemmas.DeadBits.{place_found, place_none}
-use Rattle.core_machine.proofs.table_lemmas.Free.{sum_zero}
-use Rattle.core_rule.specs.Budgets.{SweepCounts, dead_weight}
-use Rattle.core_rule.specs.Owners.{Owner, Dead, dead_bit}
+use Rattle.core_machine.proofs.table_lemmas.Free.{sum_same, sum_zero, sum_but_one}
+use Rattle.core_rule.specs.Budgets.{SweepCounts, dead_weight, dead_sum}
+use Rattle.core_rule.specs.Owners.{Owner, Free, Dead, dead_bit, owner_after}
 use Rattle.core_rule.specs.Sweep.{AreDead}
-use Rattle.core_rule.proofs.lists.SumLemmas.{sum_parts}
+use Rattle.core_rule.proofs.lists.SumLemmas.{sum_parts, sum_blocks}
 use Rattle.core_rule.proofs.marking.SweepMarks.{after_swept_either}
+use Rattle.core_rule.proofs.owners.DeadOwners.{dead_told}
+use Rattle.core_rule.proofs.owners.Handed.{handed_out, handed_cases}
 use Rattle.core_rule.proofs.turns.NextPlaces.{place_after}
 use Rattle.core_rule.proofs.words.MarkedPlaces.{next_first}
+use Rattle.core_rule.proofs.words.SetBits.{set_in, set_here, set_away}
 
 -- what isn't to be freed weighs nothing
 pub undead_weight : (words : ℕ → ℕ) (o : Owner) → dead_bit o ≡ 0 → dead_weight words o ≡ 0
@@ -56,3 +58,26 @@ module _ (heap : Heap) (words : ℕ → ℕ) (owner : ℕ → Owner) (group dead
       let after : from ≤ place = rw found at (place_after dead from) in
       let within = (place_found dead from place found).0 in
       is ∙ sym (sum_on from place after (omega (arith, within)) (λ i upon below. next_first dead from place i found upon below))
+
+module _ (heap : Heap) (words : ℕ → ℕ) (owner : ℕ → Owner) (group dead : ℕ) (below : group < heap.groups) (small : dead < 2 ^ 16) (are : AreDead owner group dead) where
+  abbrev freed : ℕ → Owner
+  freed = owner_after Free owner (set_in group dead)
+
+  -- once the group's fragments are freed nothing begins there
+  none_left : (j : ℕ) → j < 16 → dead_weight words (freed (16 * group + j)) ≡ 0
+  none_left j less = handed_cases (λ o. dead_weight words o ≡ 0) Free owner (set_in group dead) (16 * group + j) (λ there. refl) (λ away.
+      let here : (16 * group + j) / 16 ≡ group = omega (arith, less) in
+      undead_weight words (owner (16 * group + j)) (omega (arith, away, set_here group dead small (16 * group + j) here, dead_told owner group dead small are (16 * group + j) here)))
+
+  -- and in each other group what began there
+  others_stay : (g j : ℕ) → g ≢ group → j < 16 → freed (16 * g + j) ≡ owner (16 * g + j)
+  others_stay g j apart less = handed_out Free owner (set_in group dead) (16 * g + j) (set_away group dead (16 * g + j) (λ here. apart (omega (arith, here, less))))
+
+  -- so the words of what is to be freed are fewer by those of the group
+  pub dead_less : dead_sum heap words freed + sum_upto 16 (at_place heap words owner group dead are) ≡ dead_sum heap words owner
+  dead_less =
+      let block : (ℕ → Owner) → ℕ → ℕ = λ o g. sum_upto 16 (λ j. dead_weight words (o (16 * g + j))) in
+      let change = sum_but_one heap.groups (block freed) (block owner) group below
+          (λ g less apart. sum_same 16 (λ j. dead_weight words (freed (16 * g + j))) (λ j. dead_weight words (owner (16 * g + j))) (λ j few. ap (dead_weight words) (others_stay g j apart few))) in
+      let none = sum_zero 16 (λ j. dead_weight words (freed (16 * group + j))) none_left in
+      omega (arith, change, none, sum_blocks 16 heap.groups (λ f. dead_weight words (freed f)), sum_blocks 16 heap.groups (λ f. dead_weight words (owner f)))

@@ -27,5 +27,5 @@ module _ (heap : Heap) (number : ℕ) (history : List Entry) (entry : Entry) (ot
       rw since (omega (arith, finds.0, granted, returned, others), omega (arith, finds.1, granted, returned, returned_since))
 
   pub used_other : (seat : Seat) (place : Place) → UsedStands heap history number seat place → UsedStands heap (history ++ entry ∷ []) number seat place
-  used_other seat (places.Making Withdrawing) used = finds_stays seat.used used
+  used_other seat (places.Making Withdrawing) used = (finds_stays seat.used used.0, used.1)
   used_other seat _ used = tt

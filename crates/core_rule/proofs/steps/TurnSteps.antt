@@ -67,13 +67,26 @@ quiet collector = record collector { log = collector.log ++ [] }
 quiet_budgets : (heap : Heap) (state : State) (words : List ℕ) (collector : Collector) (book : Book) → BudgetsStand heap (after_turn state words collector) book
     → BudgetsStand heap (after_turn state words (quiet collector)) book
 quiet_budgets heap state words collector book old = record {
-  level = old.level; leaving = old.leaving; word = old.word; told = old.told; low = old.low; returned = old.returned; early = old.early; counts = old.counts;
+  level = old.level;
+  leaving = old.leaving;
+  word = old.word;
+  told = old.told;
+  low = old.low;
+  returned = old.returned;
+  early = old.early;
+  counts = old.counts;
 }
 
 quiet_halves : (heap : Heap) (state : State) (words : List ℕ) (collector : Collector) (book : Book) → HalvesStand heap (after_turn state words collector) book
     → HalvesStand heap (after_turn state words (quiet collector)) book
 quiet_halves heap state words collector book old = record {
-  half = old.half; before = old.before; arrays = old.arrays; hands = old.hands; swung = old.swung; copies = old.copies; copy = old.copy;
+  half = old.half;
+  before = old.before;
+  arrays = old.arrays;
+  hands = old.hands;
+  swung = old.swung;
+  copies = old.copies;
+  copy = old.copy;
 }
 
 -- the rule after a load of the collector, with the book that stands then

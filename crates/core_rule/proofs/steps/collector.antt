@@ -21,6 +21,7 @@ pub mod CopyStoreStep
 pub mod SwingStep
 pub mod SweepStep
 pub mod FreeStep
+pub mod ReturnStep
 pub mod ClearStep
 pub mod EndStep
 use Rattle.std.proofs.Common.{◌≡◌}
@@ -61,7 +62,8 @@ module _ (heap : Heap) (state : State) (book : Book) (rule : Rule heap state boo
   turn_keeps_at stages.Flipping is = FlipStep.flip_keeps heap state book rule is
   turn_keeps_at (stages.Copying stage) is = copying_keeps_at stage is
   turn_keeps_at (stages.Sweeping group) is = SweepStep.sweep_keeps group heap state book rule is
-  turn_keeps_at (stages.Examining group dead place) is = SweepStep.examine_keeps group dead place heap state book rule is
-  turn_keeps_at (stages.Freeing group dead) is = FreeStep.free_keeps group dead heap state book rule is
+  turn_keeps_at (stages.Examining group dead place counted) is = SweepStep.examine_keeps group dead place counted heap state book rule is
+  turn_keeps_at (stages.Freeing group dead counted) is = FreeStep.free_keeps group dead counted heap state book rule is
+  turn_keeps_at (stages.Returning group counted) is = ReturnStep.return_keeps group counted heap state book rule is
   turn_keeps_at (stages.Clearing group kept) is = ClearStep.clear_keeps group kept heap state book rule is
   turn_keeps_at (stages.Ending kept) is = EndStep.end_keeps kept heap state book rule is (ends kept is)

@@ -1,11 +1,11 @@
 -- Each turn of copying leaves fewer turns.
 use Rattle.std.specs.Prelude.{IfSome}
-use Rattle.std.proofs.Common.{◌≡◌, ℕ, suc, ◌+◌, ◌-◌, ◌*◌, ◌==◌, ◌<◌, ◌≤◌, List, Option, Some, None, inl, inr, arith}
+use Rattle.std.proofs.Common.{◌≡◌, ℕ, suc, ◌+◌, ◌-◌, ◌*◌, ◌<◌, ◌≤◌, List, Option, Some, None, inl, inr, arith}
 use Rattle.std.proofs.lemmas.Bool.Decides.{eqb_tells, leb_tells}
 use Rattle.heap_words.specs.declared.spot.Spot.{Spot}
 use Rattle.heap_words.specs.Spot.{spot_in}
 use Rattle.heap_model.specs.declared.heap.Heap.{Heap}
-use Rattle.core_machine.specs.collector.Copying.{marked_bits_of, next_place_of, left_half, after_visited, after_seen, after_visit, visit_on, after_inspected, after_located, copy_at, after_claimed, after_copied}
+use Rattle.core_machine.specs.collector.Copying.{marked_bits_of, next_place_of, left_half, after_visited, after_seen, visit_on, after_inspected, after_located, copy_at}
 use Rattle.core_machine.specs.collector.CopyingTurns.{copying_step, after_copying}
 use Rattle.core_machine.specs.collector.FitsTurns.{IsCopying, FitsVisit, FitsCopying}
 use Rattle.core_machine.specs.declared.collector.stage.ArrayAt.{ArrayAt}
@@ -47,7 +47,7 @@ module _ (heap : Heap) (phase looked : ℕ) (words : List ℕ) where
     visit_on_leaves : left_at (visit_on heap visit) + copy_most ≤ visit_left heap.groups visit
     visit_on_leaves =
         let next = seen_leaves visit.group visit.marked (visit.place + 1) (next_place_of visit.marked (visit.place + 1)) fits.group_within
-            (place_after visit.marked (visit.place + 1)) (place_within visit.marked (visit.place + 1)) in
+        (place_after visit.marked (visit.place + 1)) (place_within visit.marked (visit.place + 1)) in
         omega (arith, next, fits.place_within)
 
     inspected_leaves : (cells : Option ℕ) → left_at (after_inspected heap visit cells) < visit_left heap.groups visit

@@ -11,7 +11,7 @@ use Rattle.core_machine.specs.collector.Collector.{turn_at}
 use Rattle.core_machine.specs.declared.collector.stage.Stage.TheVariants as stages
 use Rattle.core_machine.specs.collector.FitsTurns.{FitsStage, HasLooked}
 use Rattle.core_machine.specs.machine.Machine.{State, seat_at}
-use Rattle.core_rule.specs.Book.{Book, fragment_at}
+use Rattle.core_rule.specs.Book.{Book}
 use Rattle.core_rule.specs.Budgets.{nodes_in}
 use Rattle.core_rule.specs.Marking.{MarkingStands, AfterMarking}
 use Rattle.core_rule.specs.Sweep.{SweepStands, HasMarked, IsSettled}
@@ -24,7 +24,7 @@ use Rattle.core_rule.proofs.cycle.NextPhase.{coloured_next}
 use Rattle.core_rule.proofs.entries.Legality.{legal_more, keeps_begins}
 use Rattle.core_rule.proofs.entries.AtRest.{seat_fits}
 use Rattle.core_rule.proofs.marking.Marks.{all_answered}
-use Rattle.core_rule.proofs.spines.Leaving.{has_place_present}
+use Rattle.core_rule.proofs.spines.Leaving.{has_place_present, arrays_here, hands_here}
 use Rattle.core_rule.proofs.spines.LeftHalf.{let_go, spines_let_go, hand_let_go, address_let_go}
 use Rattle.core_rule.proofs.spines.PhaseSpaces.{EndsPhase, lets_other}
 use Rattle.core_rule.proofs.steps.TurnSteps.{StageKeeps, TurnKeeps}
@@ -123,16 +123,10 @@ module _ (heap : Heap) (state : State) (book : Book) (rule : Rule heap state boo
 
     -- so its spine stands in the half of the next one, and so do those of arrays
     hand_here : (r : ℕ) → r < heap.seats → HasPlace (seat_at state r) (seat_at state r).place → (seat_at state r).spine.half ≡ half
-    hand_here r below has = elim (rule.space.halves.hands r below has) as (λ _. (seat_at state r).spine.half ≡ half) [
-      | inl here ↦ here
-      | inr early ↦ let fifth = placed_answered r below has in let third = early.behind in absurd (omega (arith, fifth, third))
-    ]
+    hand_here r below has = hands_here heap state book rule.space.halves r below (λ early. let fifth = placed_answered r below has in let third = early.behind in omega (arith, fifth, third)) has
 
     array_here : (i : ℕ) → i < length book.made → IsKept book.owner book.fragments i → (nodes_in heap book i).array ≡ true → (book.spines i).half ≡ half
-    array_here i below kept kind = elim (rule.space.halves.arrays i below kept kind) as (λ _. (book.spines i).half ≡ half) [
-      | inl here ↦ here
-      | inr waits ↦ let third = ends_phase.waits (fragment_at (book.fragments i) 0) waits in absurd (omega (arith, third, swept))
-    ]
+    array_here = arrays_here heap state book rule.space.halves (λ f waits. let third = ends_phase.waits f waits in omega (arith, third, swept))
 
     abbrev begins : BeginsNext p (Advance (p + 1))
     begins = advance_begins p

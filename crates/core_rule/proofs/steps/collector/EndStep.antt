@@ -97,7 +97,8 @@ end_keeps kept heap state book rule ending ends machine =
     let cycle : ℕ = state.collector.phase / 7 in
     let last_phase = (has_cleared kept heap state book rule ending).for_clearing in
     let begins = end_begins state.collector.phase cycle kept last_phase in
-    phase_turns heap state book rule all (Ends cycle kept) begins book.spine_owner (all_stay heap state book rule all (Ends cycle kept) begins (ends_phase kept heap state book rule ending) (λ swept. omega (arith, swept, last_phase)))
+    phase_turns heap state book rule all (Ends cycle kept) begins book.spine_owner
+    (all_stay heap state book rule all (Ends cycle kept) begins (ends_phase kept heap state book rule ending) (λ swept. omega (arith, swept, last_phase)))
     (legal_more heap false book.history (Ends cycle kept) rule.heap_stands.legal tt (keeps_ends heap false book.history cycle kept ends))
     (coloured_rest heap state.words (words_next heap state book rule all (Ends cycle kept) begins) book.owner book.colour book.fragments (phase book.history)
     (last kept heap state book rule ending) (all_white kept heap state book rule ending) rule.heap_stands.cycle.coloured)

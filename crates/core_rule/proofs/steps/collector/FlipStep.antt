@@ -1,5 +1,5 @@
 -- The flip keeps the rule: spines have their places in the other half from now on.
-use Rattle.std.proofs.Common.{◌≡◌, ℕ, List, [], inl, inr, sym, ap, subst, arith}
+use Rattle.std.proofs.Common.{◌≡◌, ℕ, [], inl, sym, ap, subst, arith}
 use Rattle.std.proofs.lemmas.List.{append-nil}
 use Rattle.heap_words.specs.Spot.{spot_word}
 use Rattle.heap_model.specs.declared.heap.Heap.{Heap}

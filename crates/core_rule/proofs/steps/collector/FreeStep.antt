@@ -1,35 +1,45 @@
 -- The collector frees the dead fragments of a group: that keeps the rule.
-use Rattle.std.proofs.Common.{◌≡◌, ℕ, zero, suc, ◌%◌, ◌≤◌, List, [], ◌∷◌, ◌++◌, length, count_ones, inr, refl, sym, ap, ◌∙◌, subst, arith}
+use Rattle.std.proofs.Common.{◌≡◌, ℕ, zero, suc, ◌%◌, ◌≤◌, List, [], ◌∷◌, ◌++◌, length, count_ones, inl, inr, refl, sym, ap, ◌∙◌, subst, arith}
+use Rattle.std.proofs.lemmas.Bool.Decides.{eqb_tells}
 use Rattle.std.proofs.lemmas.List.Elements.{filter-append}
 use Rattle.std.proofs.lemmas.Nat.{zero_from_ones}
 use Rattle.heap_model.specs.declared.entry.Entry.TheVariants.{Frees}
 use Rattle.heap_model.specs.declared.heap.Heap.{Heap}
 use Rattle.heap_model.specs.account.PhaseCounts.{phase}
+use Rattle.heap_model.specs.graph.Graph.{Graph}
 use Rattle.core_machine.specs.collector.Collector.{Collector}
 use Rattle.core_machine.specs.collector.FitsTurns.{IsFreeing}
-use Rattle.core_machine.specs.collector.Sweeping.{after_swept}
+use Rattle.core_machine.specs.collector.Sweeping.{after_freed}
 use Rattle.core_machine.specs.declared.collector.stage.Stage.TheVariants as stages
 use Rattle.core_machine.specs.machine.Machine.{State}
+use Rattle.core_machine.specs.machine.Sums.{sum_upto}
 use Rattle.core_machine.specs.machine.Value.{IsMachine}
 use Rattle.core_rule.specs.Book.{Book}
+use Rattle.core_rule.specs.Budgets.{SweepCounts, dead_sum, words_of, nodes_in, returning}
 use Rattle.core_rule.specs.Counts.{is_collectors}
 use Rattle.core_rule.specs.Marking.{AfterMarking, MarkingStands}
 use Rattle.core_rule.specs.Sweep.{AreFreed, AreDead, SweepStands}
+use Rattle.core_rule.specs.Objects.{node_at}
 use Rattle.core_rule.specs.Phases.{CollectorAgrees}
 use Rattle.core_rule.specs.Rule.{Rule}
 use Rattle.core_rule.proofs.entries.PhaseEntries.{phase_stays, answered_stays, left_stays}
 use Rattle.core_rule.proofs.footprint.BookGoing.{owners_go}
 use Rattle.core_rule.proofs.footprint.OwnersGo.{free_goes}
-use Rattle.core_rule.proofs.frames.Freeing.{words_freed, book_freed, leaves_spines, grants_freed, heap_freed, seat_freed}
-use Rattle.core_rule.proofs.marking.SweepMarks.{swept_further}
-use Rattle.core_rule.proofs.owners.DeadOwners.{set_dead, after_freed, freed_further}
+use Rattle.core_rule.proofs.frames.Freeing.{words_freed, book_freed, graph_freed, same, leaves_spines, told_freed, heap_freed, seat_freed}
+use Rattle.core_rule.proofs.marking.SweepMarks.{after_swept_either, after_freed_either, freed_further}
+use Rattle.core_rule.proofs.objects.ObjectFrames.{SameKept}
+use Rattle.core_rule.proofs.owners.DeadOwners.{set_dead}
+use Rattle.core_rule.proofs.owners.DeadOwners as owners
+use Rattle.core_rule.proofs.spines.OtherWords.{LeavesPlaces, LeavesSpines, places_of}
+use Rattle.core_rule.proofs.spines.SweepSums.{at_place, dead_less}
+use Rattle.core_rule.proofs.spines.SweptSpace.{CopiesNone, Sweeps, space_swept}
 use Rattle.core_rule.proofs.steps.Assemble.{Keeps}
 use Rattle.core_rule.proofs.owners.OwnerLemmas.{is_dead}
-use Rattle.core_rule.proofs.steps.TurnSteps.{StageKeeps, after_turn, turn_steps, turn_budgets}
+use Rattle.core_rule.proofs.steps.TurnSteps.{StageKeeps, after_turn, turn_steps}
 use Rattle.core_rule.proofs.words.SetBits.{set_in, length-set}
 
-module _ (heap : Heap) (state : State) (book : Book) (rule : Rule heap state book) (group dead : ℕ) (freeing : state.collector.stage ≡ stages.Freeing group dead) where
-  fits : IsFreeing heap state.collector.phase state.collector.looked group dead
+module _ (heap : Heap) (state : State) (book : Book) (rule : Rule heap state book) (group dead counted : ℕ) (freeing : state.collector.stage ≡ stages.Freeing group dead counted) where
+  fits : IsFreeing heap state.collector.phase state.collector.looked group dead counted
   fits = rw freeing at rule.machine.collector_fit.at_stage
 
   told : AreFreed book.owner group × AreDead book.owner group dead
@@ -56,7 +66,7 @@ module _ (heap : Heap) (state : State) (book : Book) (rule : Rule heap state boo
 
   -- the collector with so many told to be freed
   abbrev freed : ℕ → Collector
-  freed n = record state.collector { stage = after_swept heap group; log = state.collector.log ++ Frees n ∷ [] }
+  freed n = record state.collector { stage = after_freed heap group counted; log = state.collector.log ++ Frees n ∷ [] }
 
   agrees : CollectorAgrees heap (freed (length (set_in group dead))) now.history
   agrees =
@@ -69,10 +79,52 @@ module _ (heap : Heap) (state : State) (book : Book) (rule : Rule heap state boo
             answered_stays book.history entry number refl ∙ stands.looked number less below (sym (left_stays book.history entry number refl) ∙ present) ∙ sym (phase_stays book.history entry refl);
       }
 
-  marks : MarkingStands heap words now.owner book.colour book.fragments state.collector.phase (after_swept heap group)
-  marks = swept_further heap words now.owner book.colour book.fragments state.collector.phase fits.sweeps.for_sweep
-      (after_freed book.owner (set_in group dead) (set_dead book.owner group dead fits.dead_within told.1) book.colour after) group
-      (freed_further book.owner group dead fits.dead_within told.1 told.0)
+  marks : MarkingStands heap words now.owner book.colour book.fragments state.collector.phase (after_freed heap group counted)
+  marks = freed_further heap words now.owner book.colour book.fragments state.collector.phase fits.sweeps.for_sweep
+      (owners.after_freed book.owner (set_in group dead) (set_dead book.owner group dead fits.dead_within told.1) book.colour after) group counted
+      (owners.freed_further book.owner group dead fits.dead_within told.1 told.0)
+
+  abbrev spine_words : ℕ → ℕ
+  spine_words = words_of (nodes_in heap book)
+
+  -- the spine words of what is freed are returned next
+  counts : counted ≡ sum_upto 16 (at_place heap spine_words book.owner group dead told.1)
+  counts = subst (SweepCounts spine_words book.owner) freeing rule.space.budgets.counts
+
+  returns_next : returning (after_freed heap group counted) ≡ counted
+  returns_next = elim (eqb_tells counted 0) as (λ _. returning (after_freed heap group counted) ≡ counted) [
+    | inl none ↦ rw none.0 (after_swept_either (λ stage. returning stage ≡ counted) heap group (sym none.1) (λ last. sym none.1))
+    | inr some ↦ rw some.0 refl
+  ]
+
+  copies_none : CopiesNone (after_freed heap group counted)
+  copies_none = after_freed_either CopiesNone heap group counted (after_swept_either CopiesNone heap group tt (λ last. tt)) tt
+
+  leaves : LeavesSpines heap state.words words
+  leaves = leaves_spines heap state book rule group dead fits.sweeps.group_within fits.dead_within told.1
+
+  places : LeavesPlaces heap state.words words
+  places = places_of heap state.words words leaves
+
+  kept_on : SameKept book.owner now.owner
+  kept_on = same heap state book rule group dead fits.sweeps.group_within fits.dead_within told.1
+
+  -- so no words are returned yet
+  sweeps_on : Sweeps heap state book rule fits.sweeps.for_sweep (subst CopiesNone (sym freeing) tt) (after_freed heap group counted) copies_none words places (freed (length (set_in group dead))).log now.history
+      (graph_freed heap state book rule group dead fits.sweeps.group_within fits.dead_within told.1) now.owner kept_on 0
+  sweeps_on =
+      let history = told_freed heap state book rule group dead fits.sweeps.group_within fits.dead_within told.1 in
+      let none : returning state.collector.stage ≡ 0 = rw freeing refl in
+      let less = dead_less heap spine_words book.owner group dead fits.sweeps.group_within fits.dead_within told.1 in
+      let same_graph = ap (λ (g : Graph). dead_sum heap (words_of (node_at g book.made)) now.owner) (graph_freed heap state book rule group dead fits.sweeps.group_within fits.dead_within told.1) in
+      record {
+        less = omega (arith, none, less, same_graph, counts, returns_next);
+        budget = omega (arith, leaves.budget);
+        granted = history.granted;
+        told = omega (arith, history.returned);
+        in_cycle = omega (arith, history.in_cycle);
+        counts = after_freed_either (SweepCounts (words_of (nodes_in heap now)) now.owner) heap group counted (after_swept_either (SweepCounts (words_of (nodes_in heap now)) now.owner) heap group tt (λ last. tt)) tt;
+      }
 
   keeps : IsMachine heap (after_turn state words (freed (length (set_in group dead))))
       → Keeps heap state (after_turn state words (freed (length (set_in group dead)))) book book.begun (Frees (length (set_in group dead)) ∷ [])
@@ -81,8 +133,8 @@ module _ (heap : Heap) (state : State) (book : Book) (rule : Rule heap state boo
       (seat_freed heap state book rule group dead fits.sweeps.group_within fits.dead_within told.1)
       agrees
       record { heap_marks = marks; roots = λ r below is. absurd (omega (arith, is.phase, fits.sweeps.for_sweep)) }
-      (turn_budgets heap state book rule words (freed (length (set_in group dead))) now
-      (leaves_spines heap state book rule group dead fits.sweeps.group_within fits.dead_within told.1) (grants_freed heap state book rule group dead fits.sweeps.group_within fits.dead_within told.1))
+      (space_swept heap state book rule fits.sweeps.for_sweep (subst CopiesNone (sym freeing) tt) (after_freed heap group counted) copies_none words places (freed (length (set_in group dead))).log now.history
+      (graph_freed heap state book rule group dead fits.sweeps.group_within fits.dead_within told.1) now.owner kept_on 0 sweeps_on)
       (owners_go heap state book now.history book.begun now.owner (free_goes (length book.made) book.owner (set_in group dead)
       (λ f there. is_dead (book.owner f) (set_dead book.owner group dead fits.dead_within told.1 f there))))
 
@@ -91,5 +143,5 @@ module _ (heap : Heap) (state : State) (book : Book) (rule : Rule heap state boo
   free_kept = subst (λ n. IsMachine heap (after_turn state words (freed n)) → Keeps heap state (after_turn state words (freed n)) book book.begun (Frees n ∷ []))
       (length-set group dead fits.dead_within) keeps
 
-pub free_keeps : (group dead : ℕ) → StageKeeps (stages.Freeing group dead)
-free_keeps group dead heap state book rule freeing machine = free_kept heap state book rule group dead freeing machine
+pub free_keeps : (group dead counted : ℕ) → StageKeeps (stages.Freeing group dead counted)
+free_keeps group dead counted heap state book rule freeing machine = free_kept heap state book rule group dead counted freeing machine

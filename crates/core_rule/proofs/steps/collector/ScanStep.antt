@@ -1,6 +1,6 @@
 -- The load of a word of a grey fragment keeps the rule.
 use Rattle.std.specs.Option.{option_map_or}
-use Rattle.std.proofs.Common.{◌≡◌, ◌≢◌, ℕ, ◌<◌, ◌≤◌, Option, Some, None, inl, inr, refl, sym, ap, ◌∙◌, subst, arith}
+use Rattle.std.proofs.Common.{◌≡◌, ℕ, ◌<◌, ◌≤◌, Option, Some, None, inl, inr, refl, sym, ap, ◌∙◌, subst, arith}
 use Rattle.std.proofs.lemmas.Bool.Decides.{eqb_tells}
 use Rattle.heap_model.specs.declared.heap.Heap.{Heap}
 use Rattle.heap_model.specs.Needs.{array_words}
@@ -63,8 +63,11 @@ module _ (heap : Heap) (state : State) (book : Book) (rule : Rule heap state boo
   -- the pass and what was born stand, wherever the scan goes on
   marks_after : (stage : Stage) → OfMarking stage → ScanStands heap state.words book.owner book.colour book.fragments stage → IsFewWords stage → PassStands book.colour stage
       → SweepStands heap book.owner book.colour state.collector.phase stage → MarksNow stage
-  marks_after stage goes scans few passes sweeps = (marks_at heap state.words book.owner book.colour book.fragments state.collector.phase stage fits.marks.for_marking goes
-      rule.marks_stand.heap_marks.grey scans few passes sweeps (none_dead heap state book rule fits.marks.for_marking (subst HasMarked scanning)), goes)
+  marks_after stage goes scans few passes sweeps = (
+    marks_at heap state.words book.owner book.colour book.fragments state.collector.phase stage fits.marks.for_marking goes
+        rule.marks_stand.heap_marks.grey scans few passes sweeps (none_dead heap state book rule fits.marks.for_marking (subst HasMarked scanning)),
+    goes,
+  )
 
   lead : (g : ℕ) → WordPointsTo heap state.words f scan.part g → pointer_in scan.part word ≡ Some g
   lead g leads = lead_of_word heap state.words f scan.part g fits.part_within leads

@@ -1,6 +1,6 @@
 -- The loads of the sweep keep the rule: a group's control word tells which of its fragments are dead, and the first word of a dead one how many spine words its array has.
 use Rattle.std.specs.Prelude.{if◌then◌else◌}
-use Rattle.std.proofs.Common.{◌≡◌, ℕ, suc, ◌+◌, ◌*◌, ◌%◌, ◌==◌, Option, Some, None, inl, inr, refl, sym, ap, ◌∙◌, subst, arith}
+use Rattle.std.proofs.Common.{◌≡◌, ℕ, ◌+◌, ◌*◌, ◌%◌, ◌==◌, Option, Some, None, inl, inr, refl, sym, ap, ◌∙◌, subst, arith}
 use Rattle.std.proofs.lemmas.Bool.Decides.{eqb_tells}
 use Rattle.heap_model.specs.declared.heap.Heap.{Heap}
 use Rattle.core_machine.specs.collector.FitsTurns.{IsSweeping, IsExamining}
@@ -12,7 +12,7 @@ use Rattle.core_machine.specs.machine.Machine.{State}
 use Rattle.core_machine.specs.machine.Sums.{sum_upto}
 use Rattle.core_machine.specs.table.Decode.{spine_words_in}
 use Rattle.core_machine.proofs.table_lemmas.DeadBits.{dead_few}
-use Rattle.core_machine.proofs.table_lemmas.Free.{sum_upto-none}
+use Rattle.core_machine.proofs.table_lemmas.Free.{sum_upto-none, sum_upto-more}
 use Rattle.core_machine.specs.table.Layout.{at}
 use Rattle.core_rule.specs.Book.{Book}
 use Rattle.core_rule.specs.Budgets.{SweepCounts, dead_weight, words_of, nodes_in}
@@ -22,10 +22,10 @@ use Rattle.core_rule.specs.Sweep.{AreFreed, AreDead, SweepStands}
 use Rattle.core_rule.specs.Rule.{Rule}
 use Rattle.core_rule.proofs.marking.DeadPlaces.{are_dead}
 use Rattle.core_rule.proofs.marking.SweepMarks.{after_swept_either, examined_further}
-use Rattle.core_rule.proofs.lists.SumLemmas.{sum-suc}
 use Rattle.core_rule.proofs.owners.OwnerLemmas.{is_dead}
 use Rattle.core_rule.proofs.spines.HalvesFrames.{StageGoesOn}
 use Rattle.core_rule.proofs.spines.StagesOn.{IsQuiet, quiet_goes_on}
+
 use Rattle.core_rule.proofs.spines.SweepSums.{at_place, counts_on}
 use Rattle.core_rule.proofs.steps.collector.ColourTurn.{at_stage, load_turns_on}
 use Rattle.core_rule.proofs.steps.TurnSteps.{StageKeeps}
@@ -103,9 +103,7 @@ module _ (heap : Heap) (state : State) (book : Book) (rule : Rule heap state boo
   counts_more : counted + spine_words_in word ≡ sum_upto (place + 1) (at_place heap words book.owner group dead seen.1)
   counts_more =
       let weight : ℕ → ℕ = at_place heap words book.owner group dead seen.1 in
-      let behind : suc place ≡ place + 1 = omega arith in
-      let more : sum_upto (place + 1) weight ≡ sum_upto place weight + weight place = subst (λ n. sum_upto n weight ≡ sum_upto place weight + weight place) behind (sum-suc place weight) in
-      omega (arith, more, counts, tells)
+      omega (arith, sum_upto-more place weight, counts, tells)
 
 pub examine_keeps : (group dead place counted : ℕ) → StageKeeps (stages.Examining group dead place counted)
 examine_keeps group dead place counted heap state book rule examining machine =

@@ -38,7 +38,7 @@ module _ (heap : Heap) (state : State) (book : Book) (rule : Rule heap state boo
           same,
           omega arith,
           has_bit heap state.words book.colour group rule.machine.table (fits_from heap state book rule (Visiting group) visiting) rule.heap_stands.cycle.marks (head i) (sym same)
-          (kept_marked book.owner book.colour (after_marking heap state book rule (Visiting group) visiting) (head i) i 0 kept),
+              (kept_marked book.owner book.colour (after_marking heap state book rule (Visiting group) visiting) (head i) i 0 kept),
         )
       ]
 

@@ -138,7 +138,8 @@ module _ (heap : Heap) (state : State) (book : Book) (number : ℕ) (rule : Rule
         making = Withdrawing;
         placed = refl;
       }
-      stands.own.holding stands.own.together refl stands.told.gathers (λ has. has) (finds_budget heap state book rule.machine rule.space.budgets number here nothing)
+      stands.own.holding stands.own.together refl stands.told.gathers (λ has. has)
+      (finds_budget heap state book rule.machine rule.space.budgets number here nothing, omega (arith, budget_small heap state book rule.machine rule.space.budgets))
       (budgets_change heap state book number here rule.machine.seated words (with_entries next []) 0 0 0 nothing 0 0 needs record { given_is = refl; placed_is = refl; refused_is = refl }
       book (grants_same heap book book.colour book.begun) (ap (λ (s : Spot). s.half) same_place) (ap (λ (s : Spot). s.offset + 0) same_place) (omega (arith, grown)) (omega (arith, rule.space.budgets.low)) rule.space.budgets)
 

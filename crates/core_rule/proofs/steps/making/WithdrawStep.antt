@@ -88,10 +88,10 @@ module _ (heap : Heap) (state : State) (book : Book) (number : ℕ) (rule : Rule
 
   -- the refusal shows what was found
   finds : FindsSpine heap false book.history number seat.used
-  finds = subst (UsedStands heap book.history number seat) place stands.told.used
+  finds = (subst (UsedStands heap book.history number seat) place stands.told.used).0
 
   shown : seat.used % 2 ^ 32 ≡ seat.used
-  shown = ?
+  shown = omega (arith, (subst (UsedStands heap book.history number seat) place stands.told.used).1)
 
   own : length seat.reserve + spent_of number book.history ≡ taken_of number book.history
   own = bare_hand seat.reserve seat.hand seat.body (spent_of number book.history) (taken_of number book.history) fits.rests.empty_hand fits.rests.no_body stands.told.counts.unborn

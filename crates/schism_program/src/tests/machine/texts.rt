@@ -90,7 +90,9 @@ fn copying_text(alloc: Global, step: CopyingStep) -> Result<String, AllocError> 
         CopyingStep::CopyStore { half, offset, word } => {
             format!(in alloc; "write {half}.{offset} {word:x}")
         }
-        CopyingStep::SwingStore { sentinel, spot } => format!(in alloc; "swing {sentinel} {spot:x}"),
+        CopyingStep::SwingStore { sentinel, spot } => format!(in alloc;
+            "swing {sentinel} {spot:x}"
+        ),
         CopyingStep::BudgetReturn { words } => format!(in alloc; "return {words}"),
     }
 }

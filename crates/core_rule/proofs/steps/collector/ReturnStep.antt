@@ -1,0 +1,160 @@
+-- The collector returns the spine words of a group's arrays that it has freed: that keeps the rule.
+use Rattle.std.proofs.Common.{◌≡◌, ℕ, ◌+◌, ◌-◌, ◌%◌, ◌^◌, ◌<◌, false, List, [], ◌∷◌, ◌++◌, inr, refl, sym, ap, ◌∙◌, subst, arith}
+use Rattle.std.proofs.lemmas.List.Elements.{filter-append}
+use Rattle.heap_model.specs.declared.entry.Entry.{Entry}
+use Rattle.heap_model.specs.declared.entry.Entry.TheVariants.{Returns}
+use Rattle.heap_model.specs.declared.heap.Heap.{Heap}
+use Rattle.heap_model.specs.account.Account.{IsLegal}
+use Rattle.heap_model.specs.account.Cycles.{graph_of}
+use Rattle.heap_model.specs.account.PhaseCounts.{phase}
+use Rattle.heap_model.specs.account.Space.{words_returned}
+use Rattle.heap_model.specs.account.Windows.{begins_cycle, since_cycle}
+use Rattle.heap_model.specs.graph.Graph.{Graph, opening}
+use Rattle.heap_model.specs.graph.Objects.{graph_seat}
+use Rattle.heap_model.proofs.Histories.{graph_after-more, total-more}
+use Rattle.heap_model.proofs.account_lemmas.Windows.{after_last-no}
+use Rattle.core_machine.specs.collector.Collector.{Collector}
+use Rattle.core_machine.specs.collector.FitsTurns.{FitsStage, IsReturning}
+use Rattle.core_machine.specs.collector.Sweeping.{after_swept}
+use Rattle.core_machine.specs.declared.collector.stage.Stage.{Stage}
+use Rattle.core_machine.specs.declared.collector.stage.Stage.TheVariants as stages
+use Rattle.core_machine.specs.declared.table.address.Address.TheVariants.{Budget}
+use Rattle.core_machine.specs.machine.Machine.{State, seat_at}
+use Rattle.core_machine.specs.table.Layout.{at}
+use Rattle.core_machine.proofs.table_lemmas.Addresses.{at-put_same}
+use Rattle.core_rule.specs.Book.{Book}
+use Rattle.core_rule.specs.Budgets.{SweepCounts, dead_sum, words_of, nodes_in, returning}
+use Rattle.core_rule.specs.Counts.{is_collectors}
+use Rattle.core_rule.specs.Marking.{MarkingStands}
+use Rattle.core_rule.specs.Objects.{node_at}
+use Rattle.core_rule.specs.Phases.{CollectorAgrees}
+use Rattle.core_rule.specs.Rule.{Rule, HeapStands, SeatStands}
+use Rattle.core_rule.specs.Sweep.{AreFreed, SweepStands}
+use Rattle.core_rule.proofs.cycle.CycleHistory.{heap_cycle_more, cycle_other}
+use Rattle.core_rule.proofs.entries.Legality.{legal_more, keeps_returns}
+use Rattle.core_rule.proofs.entries.PhaseEntries.{phase_stays, answered_stays, left_stays}
+use Rattle.core_rule.proofs.footprint.BookGoing.{book_stays}
+use Rattle.core_rule.proofs.frames.BudgetWritten.{budget_words, budget_places, heap_budget, seat_budget}
+use Rattle.core_rule.proofs.frames.EntryFrames.{fragments_same, heap_past, seat_past}
+use Rattle.core_rule.proofs.frames.SeatFrames.{with_entry}
+use Rattle.core_rule.proofs.graph.SameNodes.{SameNodes, nodes_same}
+use Rattle.core_rule.proofs.marking.SweepMarks.{after_swept_either, swept_further}
+use Rattle.core_rule.proofs.spines.BudgetFrames.{none_granted_by}
+use Rattle.core_rule.proofs.spines.BudgetSteps.{budget_small, budget_falls}
+use Rattle.core_rule.proofs.spines.SpineFrames.{same_kept}
+use Rattle.core_rule.proofs.spines.SweptSpace.{CopiesNone, Sweeps, space_swept}
+use Rattle.core_rule.proofs.steps.TurnSteps.{StageKeeps, turn_steps}
+
+module _ (heap : Heap) (state : State) (book : Book) (rule : Rule heap state book) (group counted : ℕ) (returns : state.collector.stage ≡ stages.Returning group counted) where
+  fits : IsReturning heap state.collector.phase state.collector.looked group counted
+  fits = subst (FitsStage heap state.collector.phase state.collector.looked) returns rule.machine.collector_fit.at_stage
+
+  told : AreFreed book.owner (group + 1)
+  told = subst (SweepStands heap book.owner book.colour state.collector.phase) returns rule.marks_stand.heap_marks.sweep_stands
+
+  sweeps : phase book.history % 7 ≡ 5
+  sweeps = ap (λ p. p % 7) (sym rule.collector_stands.phase_told) ∙ fits.sweeps.for_sweep
+
+  -- the words that are about to be returned count as granted
+  about : returning state.collector.stage ≡ counted
+  about = rw returns refl
+
+  abbrev found : ℕ
+  found = at heap state.words Budget
+
+  abbrev word : ℕ
+  word = (found + 2 ^ 64 - counted) % 2 ^ 64
+
+  abbrev words : List ℕ
+  words = budget_words heap state book rule word
+
+  abbrev entry : Entry
+  entry = Returns counted
+
+  abbrev later : Book
+  later = with_entry book entry
+
+  fallen : at heap words Budget + counted ≡ found
+  fallen = omega (
+    arith,
+    at-put_same heap state.words Budget word rule.machine.table tt,
+    budget_falls found counted (budget_small heap state book rule.machine rule.space.budgets) (omega (arith, rule.space.budgets.word, about)),
+  )
+
+  graph : graph_of heap later.history ≡ graph_of heap book.history
+  graph = graph_after-more (opening heap) book.history entry
+
+  nodes : SameNodes (graph_of heap book.history) (graph_of heap later.history)
+  nodes = nodes_same (graph_of heap book.history) (graph_of heap later.history) graph
+
+  legal : IsLegal heap false later.history
+  legal = legal_more heap false book.history entry rule.heap_stands.legal tt
+      (keeps_returns heap false book.history counted (sweeps, omega (arith, fits.some_words), omega (arith, rule.space.budgets.told, about)))
+
+  heap_returns : HeapStands heap words later
+  heap_returns =
+      let stands = heap_budget heap state book rule word in
+      heap_past heap words words (fragments_same heap words) book entry nodes record { taken = refl; given = refl; freed = refl } legal
+      (heap_cycle_more heap words book.owner book.colour book.history entry refl book.fragments stands.cycle) stands
+
+  seat_returns : (r : ℕ) → r < heap.seats → SeatStands heap words later r (seat_at state r)
+  seat_returns r below =
+      let stands = seat_budget heap state book rule word r below in
+      seat_past heap words words (fragments_same heap words) book entry nodes r (seat_at state r) refl (ap (λ (g : Graph). graph_seat g r) graph)
+      (cycle_other heap words book.owner book.colour book.history entry refl r (seat_at state r) stands.cycle refl) stands
+
+  -- the collector with its entry
+  abbrev returned : Collector
+  returned = record state.collector { stage = after_swept heap group; log = state.collector.log ++ entry ∷ [] }
+
+  agrees : CollectorAgrees heap returned later.history
+  agrees =
+      let stands = rule.collector_stands in
+      record {
+        log = rw (filter-append is_collectors book.history (entry ∷ []), stands.log) refl;
+        phase_told = stands.phase_told ∙ sym (phase_stays book.history entry refl);
+        looked = λ number less below present.
+            answered_stays book.history entry number refl ∙ stands.looked number less below (sym (left_stays book.history entry number refl) ∙ present) ∙ sym (phase_stays book.history entry refl);
+      }
+
+  marks : MarkingStands heap words book.owner book.colour book.fragments state.collector.phase (after_swept heap group)
+  marks = swept_further heap words book.owner book.colour book.fragments state.collector.phase fits.sweeps.for_sweep (rule.marks_stand.heap_marks.after (inr (inr fits.sweeps.for_sweep))) group told
+
+  -- what holds of both stages that may come next
+  next : (P : Stage → Type 0) → P (stages.Sweeping (group + 1)) → P stages.Advancing → P (after_swept heap group)
+  next P on end = after_swept_either P heap group on (λ last. end)
+
+  was_none : CopiesNone state.collector.stage
+  was_none = subst CopiesNone (sym returns) tt
+
+  none_next : CopiesNone (after_swept heap group)
+  none_next = next CopiesNone tt tt
+
+  -- so many words are returned
+  sweeps_on : Sweeps heap state book rule fits.sweeps.for_sweep was_none (after_swept heap group) none_next words (budget_places heap state book rule word) returned.log later.history graph book.owner
+      (same_kept book.owner) counted
+  sweeps_on =
+      let none = next (λ stage. returning stage ≡ 0) refl refl in
+      let same = ap (λ (g : Graph). dead_sum heap (words_of (node_at g book.made)) book.owner) graph in
+      record {
+        less = omega (arith, about, none, same);
+        budget = fallen;
+        granted = none_granted_by book.history entry refl;
+        told = total-more (λ e. e.returned) book.history entry;
+        in_cycle = ap words_returned (after_last-no begins_cycle book.history entry refl) ∙ total-more (λ e. e.returned) (since_cycle book.history) entry;
+        counts = next (SweepCounts (words_of (nodes_in heap later)) book.owner) tt tt;
+      }
+
+pub return_keeps : (group counted : ℕ) → StageKeeps (stages.Returning group counted)
+return_keeps group counted heap state book rule returns machine =
+    let fits = fits heap state book rule group counted returns in
+    let entry : Entry = Returns counted in
+    let later : Book = with_entry book entry in
+    turn_steps heap state book (words heap state book rule group counted returns) (returned heap state book rule group counted returns) later (entry ∷ []) rule machine refl
+    (heap_returns heap state book rule group counted returns)
+    (λ r below stands. seat_returns heap state book rule group counted returns r below)
+    (agrees heap state book rule group counted returns)
+    record { heap_marks = marks heap state book rule group counted returns; roots = λ r below is. absurd (omega (arith, is.phase, fits.sweeps.for_sweep)) }
+    (space_swept heap state book rule fits.sweeps.for_sweep (was_none heap state book rule group counted returns) _ (none_next heap state book rule group counted returns) _ _ _ _
+    (graph heap state book rule group counted returns) book.owner (same_kept book.owner) counted (sweeps_on heap state book rule group counted returns))
+    (book_stays heap state book later.history book.begun)
