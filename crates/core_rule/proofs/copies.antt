@@ -6,6 +6,7 @@ pub mod InspectedWords
 pub mod BegunArrays
 pub mod CopyWords
 pub mod CopyStores
+pub mod CopyClaims
 pub mod SwungWords
 pub mod SwungSources
 pub mod SwungObjects

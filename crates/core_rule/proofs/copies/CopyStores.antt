@@ -16,6 +16,7 @@ use Rattle.core_machine.specs.declared.collector.stage.Stage.TheVariants as stag
 use Rattle.core_machine.specs.declared.table.address.Address.TheVariants as addresses
 use Rattle.core_machine.specs.declared.table.address.Address.TheVariants.{Word}
 use Rattle.core_machine.specs.machine.Machine.{State, seat_at}
+use Rattle.core_machine.specs.seat.Seat.{Seat, spine_need}
 use Rattle.core_machine.specs.table.Decode.{spine_words_in}
 use Rattle.core_machine.specs.table.Layout.{at, put, spine_place}
 use Rattle.core_machine.specs.table.Newborn.{spine_word}
@@ -35,11 +36,14 @@ use Rattle.core_rule.proofs.copies.CopyWords.{HasCopy, copy_has}
 use Rattle.core_rule.proofs.copies.CopyingStages.{fits_from, after_marking}
 use Rattle.core_rule.proofs.copies.InspectedWords.{borne_no_length}
 use Rattle.core_rule.proofs.copies.VisitsOn.{found_from}
+use Rattle.core_rule.proofs.entries.AtRest.{seat_fits}
 use Rattle.core_rule.proofs.frames.BesideFrames.{LeavesBeside, beside_spine, ArraysStay, heap_beside, seat_beside}
 use Rattle.core_rule.proofs.marking.KeptSources.{kept_sources}
 use Rattle.core_rule.proofs.objects.SpinePlaces.{place_fits}
+use Rattle.core_rule.proofs.spines.DeadWords.{dead_within}
 use Rattle.core_rule.proofs.spines.OffsetWithin.{word_inside}
 use Rattle.core_rule.proofs.spines.SpineFrames.{same_kept, same_shapes, spines_at_spot, spines_left, SpineIsStored}
+use Rattle.core_rule.proofs.steps.making.ListingStep.{listed_few}
 use Rattle.core_rule.proofs.words.Addresses.{at-put_apart, spine_other}
 
 -- a spine word is written that a party has
@@ -88,3 +92,101 @@ module _ (heap : Heap) (state : State) (book : Book) (rule : Rule heap state boo
       by (Borne r) is born = leads_same heap state.words now f (borne_sources f r leads.within is) source x leads
       by (Kept i k) is born = leads_same heap state.words now f (kept_sources heap state book rule now beside.parts arrays f i k is) source x leads
       by (Dead i k) is born = absurd (cc (dark, after.dead_white f i k is))
+
+-- the collector's next word is stored
+module _ (heap : Heap) (state : State) (book : Book) (rule : Rule heap state book) (copy : SpineCopy) (word : ℕ) (storing : state.collector.stage ≡ stages.Copying (Storing copy word)) where
+  abbrev nodes : ℕ → Node
+  nodes = node_at (graph_of heap book.history) book.made
+
+  fits : FitsStoring heap copy word
+  fits = fits_from heap state book rule (Storing copy word) storing
+
+  pub to_copy : IsToCopy nodes book.made book.owner book.colour book.spines (next_spine heap state.words).half copy.array copy.from
+  to_copy = (found_from heap state book rule (Storing copy word) storing).0
+
+  its : (to_copy.found.begins.index < length book.made) × IsKept book.owner book.fragments to_copy.found.begins.index
+      × (0 < length (book.fragments to_copy.found.begins.index)) × (sentinel_at copy.array ≡ fragment_at (book.fragments to_copy.found.begins.index) 0)
+  its = begun_there heap state book rule (sentinel_at copy.array) copy.array.words to_copy.found.begins
+
+  has : HasCopy heap state.words book.spine_owner copy
+  has = copy_has heap state.words book.spine_owner (stages.Copying (Storing copy word)) copy refl (subst (CopyInHand heap state.words book.spine_owner) storing rule.space.halves.copy)
+
+  abbrev offset : ℕ
+  offset = copy.to.offset + copy.index
+
+  -- the word is the collector's
+  mine : book.spine_owner copy.to.half offset ≡ Placed heap.seats copy.index
+  mine = has.placed copy.index fits.more
+
+  small : (h o : ℕ) → book.spine_owner h o ≢ Open → h < 2
+  small h o some = (place_fits heap state book rule.machine.limits rule.space.halves h o some).half_within
+
+  -- the words after it
+  abbrev pub now : List ℕ
+  now = put heap state.words (addresses.Spine copy.to.half offset) word
+
+  pub beside : LeavesBeside heap state.words now
+  beside = beside_spine heap state.words (addresses.Spine copy.to.half offset) word (omega arith)
+
+  arrays : ArraysStay heap state.words now book
+  arrays i j below kept within =
+      spined_written heap state.words book.spine_owner heap.seats copy.index copy.to.half offset word mine small (book.spines i).half ((book.spines i).offset + j) i j (rule.heap_stands.spines.kept i j below kept within)
+
+  pub spot_same : at heap now addresses.Spot ≡ at heap state.words addresses.Spot
+  spot_same = at-put_apart heap state.words (addresses.Spine copy.to.half offset) addresses.Spot word (λ e. omega (arith, e))
+
+  pub budget_same : at heap now addresses.Budget ≡ at heap state.words addresses.Budget
+  budget_same = at-put_apart heap state.words (addresses.Spine copy.to.half offset) addresses.Budget word (λ e. omega (arith, e))
+
+  -- the heap stands
+  pub heap_copied : HeapStands heap now book
+  heap_copied = heap_beside heap state book rule now beside arrays book.spine_owner
+      (black_sources heap state book rule now beside arrays (after_marking heap state book rule (Storing copy word) storing))
+      (spines_at_spot heap state.words now spot_same heap.seats (length book.made) book.spines book.fragments book.spine_owner nodes nodes book.owner book.owner (same_kept book.owner) (same_shapes nodes)
+      (λ f i k is. (is, beside.parts f 0 (dead_within heap state.words book.owner f i k rule.heap_stands.control_words is) (omega arith))) rule.heap_stands.spines)
+
+  -- each seat has stored what it had
+  seat_listed : (r : ℕ) → r < heap.seats → SpineIsStored heap now (seat_at state r)
+  seat_listed r below placed j less =
+      let seat = seat_at state r in
+      let hand = (rule.seats_stand r below).own.spine in
+      let few : seat.listed ≤ spine_need seat = listed_few heap seat seat.place (seat_fits rule r below).at_place placed in
+      placed_written heap state.words book.spine_owner heap.seats copy.index copy.to.half offset word mine small seat.spine.half (seat.spine.offset + j) r j (λ e. omega (arith, e, below))
+      (hand.placed placed j (omega (arith, less, few))) ∙ hand.stored placed j less
+
+  pub seat_copied : (r : ℕ) → r < heap.seats → SeatStands heap now book r (seat_at state r)
+  seat_copied r below = seat_beside heap state book rule now beside arrays book.spine_owner r below (spines_left r book.spine_owner) (seat_listed r below) record {
+    stay = λ i less. refl;
+    gone = λ h o is. is;
+    as_were = gone_written heap state.words book.spine_owner heap.seats copy.index copy.to.half offset word mine small;
+  }
+
+  -- the word equals that of the spine
+  from_same : (j : ℕ) → j < copy.array.words → at heap now (spine_place copy.from j) ≡ at heap state.words (spine_place copy.from j)
+  from_same j within = subst (λ (p : Spot). at heap now (spine_place p j) ≡ at heap state.words (spine_place p j)) (sym to_copy.own)
+      (arrays to_copy.found.begins.index j its.0 its.1 (subst (λ n. j < n) to_copy.found.begins.as_many within))
+
+  spine_has : at heap state.words (spine_place copy.from copy.index) ≡ word
+  unfolding to_copy
+  spine_has = ap (λ (p : Spot). at heap state.words (spine_place p copy.index)) to_copy.own
+      ∙ (rule.heap_stands.objects.kept to_copy.found.begins.index its.0 its.1).listed copy.index (subst (λ n. copy.index < n) to_copy.found.begins.as_many fits.more)
+      ∙ sym (found_from heap state book rule (Storing copy word) storing).1
+
+  copied_next : (j : ℕ) → j < copy.index + 1 → at heap now (spine_place copy.to j) ≡ at heap now (spine_place copy.from j)
+  copied_next j less = elim (cases_eq j copy.index) [
+    | inl last ↦ subst (λ k. at heap now (spine_place copy.to k) ≡ at heap now (spine_place copy.from k)) (sym last)
+        (at-put_same heap state.words (addresses.Spine copy.to.half offset) word rule.machine.table
+        (small copy.to.half offset (λ none. absurd (cc (mine, none))), word_inside heap state book rule copy.to.half offset (λ none. absurd (cc (mine, none))))
+        ∙ sym spine_has ∙ sym (from_same copy.index fits.more))
+    | inr before ↦
+        let within : j < copy.array.words = omega (arith, less, before, fits.more) in
+        let there = has.placed j within in
+        others_written heap state.words book.spine_owner heap.seats copy.index copy.to.half offset word mine small copy.to.half (copy.to.offset + j) (λ none. absurd (cc (there, none)))
+        (λ own. before (place_of there own)) ∙ has.copied j (omega (arith, less, before)) ∙ sym (from_same j within)
+  ]
+    where
+      place_of : {o : SpineOwner} {j k : ℕ} → o ≡ Placed heap.seats j → o ≡ Placed heap.seats k → j ≡ k
+      place_of a b = cc
+
+  pub has_next : HasCopy heap now book.spine_owner (record copy { index = copy.index + 1 })
+  has_next = record { placed = has.placed; own = has.own; copied = copied_next }

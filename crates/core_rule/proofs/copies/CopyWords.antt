@@ -55,10 +55,10 @@ has_copy heap words spine_owner stage copy is has = record {
 }
 
 -- and the collector may come to each, where arrays are in this half or to be visited, and the copy is that of a spine in the other one
-pub copy_leads : (heap : Heap) (state : State) (book : Book) (rule : Rule heap state book) (words : List ℕ) (copy : SpineCopy) → copy.array.words ≤ 1024
-    → copy.array.words ≡ copying_words state.collector.stage → ArraysOr heap state book rule (IsToVisit copy.array.visit)
+pub copy_leads : (heap : Heap) (state : State) (book : Book) (rule : Rule heap state book) (words : List ℕ) (spine_owner : ℕ → ℕ → SpineOwner) (more : ℕ) (copy : SpineCopy) → copy.array.words ≤ 1024
+    → copy.array.words ≡ copying_words state.collector.stage + more → ArraysOr heap state book rule (IsToVisit copy.array.visit)
     → IsToCopy (node_at (graph_of heap book.history) book.made) book.made book.owner book.colour book.spines (next_spine heap state.words).half copy.array copy.from
-    → copy.to.half ≡ (next_spine heap state.words).half → HasCopy heap words book.spine_owner copy → LeadsBy heap state book words (copy_at copy)
-copy_leads heap state book rule words copy few same arrays to_copy here has = copy_cases (LeadsBy heap state book words) copy
-    record { of_copying = tt; few = few; as_many = same; arrays = arrays; copies = (to_copy, here); copy = has_copy heap words book.spine_owner (stages.Copying (Loading copy)) copy refl has }
-    record { of_copying = tt; few = few; as_many = same; arrays = arrays; copies = (to_copy, here); copy = has_copy heap words book.spine_owner (stages.Copying (Swinging copy)) copy refl has }
+    → copy.to.half ≡ (next_spine heap state.words).half → HasCopy heap words spine_owner copy → LeadsBy heap state (record book { spine_owner = spine_owner }) words more (copy_at copy)
+copy_leads heap state book rule words spine_owner more copy few same arrays to_copy here has = copy_cases (LeadsBy heap state (record book { spine_owner = spine_owner }) words more) copy
+    record { of_copying = tt; few = few; as_many = same; arrays = arrays; copies = (to_copy, here); copy = has_copy heap words spine_owner (stages.Copying (Loading copy)) copy refl has }
+    record { of_copying = tt; few = few; as_many = same; arrays = arrays; copies = (to_copy, here); copy = has_copy heap words spine_owner (stages.Copying (Swinging copy)) copy refl has }

@@ -1,6 +1,7 @@
 -- What stands in the phase of copying whichever of its stages the collector comes to.
 use Rattle.std.specs.Prelude.{IfSome}
 use Rattle.std.proofs.Common.{◌≡◌, ◌≢◌, ◌⊎◌, ℕ, ◌+◌, ◌/◌, ◌%◌, ◌<◌, true, List, [], length, Option, Some, None, inl, inr, refl, sym, ap, ◌∙◌, subst, arith}
+use Rattle.heap_words.specs.Spot.{spot_in}
 use Rattle.heap_model.specs.declared.entry.Entry.{Entry}
 use Rattle.heap_model.specs.declared.heap.Heap.{Heap}
 use Rattle.heap_model.specs.account.Cycles.{graph_of}
@@ -16,13 +17,13 @@ use Rattle.core_machine.specs.machine.Machine.{State, seat_at}
 use Rattle.core_machine.specs.machine.Value.{IsMachine}
 use Rattle.core_machine.specs.table.Layout.{at, put}
 use Rattle.core_rule.specs.Book.{Book, Colour, fragment_at}
-use Rattle.core_rule.specs.Budgets.{BudgetsStand, SweepCounts, copying_words, returning}
-use Rattle.core_rule.specs.Halves.{HalvesStand, AwaitsCopy, IsToVisit, IsLeaving, WhileCopying, half_at}
+use Rattle.core_rule.specs.Budgets.{BudgetsStand, SweepCounts, copying_words, placed_words, returning}
+use Rattle.core_rule.specs.Halves.{HalvesStand, IsBeforeNext, IsLeftBehind, AwaitsCopy, IsToVisit, IsLeaving, WhileCopying, half_at}
 use Rattle.core_rule.specs.Marking.{ScanStands, IsFewWords, PassStands, AfterMarking, MarkingStands}
 use Rattle.core_rule.specs.Objects.{IsKept, node_at}
-use Rattle.core_rule.specs.Owners.{Owner, SpineOwner, Placed}
+use Rattle.core_rule.specs.Owners.{Owner, SpineOwner, Open, Placed}
 use Rattle.core_rule.specs.Replicas.{AreMarked, CopyingStands, CopyInHand, copy_in}
-use Rattle.core_rule.specs.Rule.{Rule}
+use Rattle.core_rule.specs.Rule.{Rule, SpaceStands}
 use Rattle.core_rule.specs.Spines.{next_spine}
 use Rattle.core_rule.specs.Sweep.{SweepStands}
 use Rattle.core_rule.proofs.copies.Visits.{seen_cases, awaits_on}
@@ -98,11 +99,11 @@ seen_free heap phase group marked = seen_cases heap phase group marked IsFree
     (λ last. record { of_copying = tt; few = tt; none = refl; no_words = refl })
     (λ place. record { of_copying = tt; few = tt; none = refl; no_words = refl })
 
--- what is asked of the stage to which a turn leads that leaves these words, and the place of the next spine
-pub record LeadsBy (heap : Heap) (state : State) (book : Book) (words : List ℕ) (stage : Stage) : Type 0 where
+-- what is asked of the stage to which a turn leads that leaves these words, and places so many more spine words
+pub record LeadsBy (heap : Heap) (state : State) (book : Book) (words : List ℕ) (more : ℕ) (stage : Stage) : Type 0 where
   pub of_copying : IsOfCopying stage
   pub few : IsFewWords stage
-  pub as_many : copying_words stage ≡ copying_words state.collector.stage
+  pub as_many : copying_words stage ≡ copying_words state.collector.stage + more
   pub arrays : (i : ℕ) → i < length book.made → IsKept book.owner book.fragments i → (node_at (graph_of heap book.history) book.made i).array ≡ true
       → ((book.spines i).half ≡ (next_spine heap state.words).half) ⊎ AwaitsCopy state.collector.phase stage (fragment_at (book.fragments i) 0)
   pub copies : WhileCopying (CopyingStands (node_at (graph_of heap book.history) book.made) book.made book.owner book.colour book.fragments book.spines (next_spine heap state.words).half) stage
@@ -110,7 +111,7 @@ pub record LeadsBy (heap : Heap) (state : State) (book : Book) (words : List ℕ
 
 -- and to which a load does
 abbrev pub LeadsTo : Heap → State → Book → Stage → Type 0
-LeadsTo heap state book stage = LeadsBy heap state book state.words stage
+LeadsTo heap state book stage = LeadsBy heap state book state.words 0 stage
 
 module _ (heap : Heap) (state : State) (book : Book) (rule : Rule heap state book) (from : Copying) (was : state.collector.stage ≡ stages.Copying from) where
   fits_copying : (state.collector.looked ≡ heap.seats) × (state.collector.phase % 7 ≡ 4) × FitsCopying heap from
@@ -140,36 +141,46 @@ module _ (heap : Heap) (state : State) (book : Book) (rule : Rule heap state boo
   pub half_next : (next_spine heap state.words).half ≡ next_half state.collector.phase
   half_next = rule.space.halves.half ∙ half_copying state.collector.phase state.collector.stage in_copying
 
-  module _ (words : List ℕ) (spot : at heap words Spot ≡ at heap state.words Spot) (log : List Entry) (stage : Stage) (leads : LeadsBy heap state book words stage) where
-    abbrev turned : State
-    turned = after_turn state words (record state.collector { stage = stage; log = log })
+  -- the state after a turn
+  abbrev pub turned : List ℕ → List Entry → Stage → State
+  turned words log stage = after_turn state words (record state.collector { stage = stage; log = log })
 
-    -- spines stand in their halves there
-    pub halves_copying : HalvesStand heap turned book
-    halves_copying = let old = rule.space.halves in record {
-      half = rw spot (half_next ∙ sym (half_copying state.collector.phase stage in_copying));
-      before = rw spot (λ half offset some. elim (old.before half offset some) [
+  module _ (words : List ℕ) (spine_owner : ℕ → ℕ → SpineOwner) (more : ℕ) (log : List Entry) (stage : Stage) (leads : LeadsBy heap state (record book { spine_owner = spine_owner }) words more stage)
+      (same : (next_spine heap words).half ≡ (next_spine heap state.words).half) where
+    abbrev later : Book
+    later = record book { spine_owner = spine_owner }
+
+    -- where the next spine has its place in the half that it had, spines stand in their halves
+    pub halves_led : ((half offset : ℕ) → spine_owner half offset ≢ Open
+        → IsBeforeNext (next_spine heap words) half offset ⊎ IsLeftBehind heap (next_spine heap words) state.collector.phase state.collector.stage half offset)
+        → HalvesStand heap (turned words log stage) later
+    halves_led before = let old = rule.space.halves in record {
+      half = same ∙ half_next ∙ sym (half_copying state.collector.phase stage in_copying);
+      before = λ half offset some. elim (before half offset some) [
         | inl here ↦ inl here
         | inr behind ↦ inr record { leaving = leaving stage; a_half = behind.a_half; other = behind.other; before = behind.before }
-      ]);
-      arrays = rw spot leads.arrays;
-      hands = rw spot (λ r below has. elim (old.hands r below has) [
-        | inl here ↦ inl here
+      ];
+      arrays = λ i below kept an_array. elim (leads.arrays i below kept an_array) [
+        | inl here ↦ inl (here ∙ sym same)
+        | inr waits ↦ inr waits
+      ];
+      hands = λ r below has. elim (old.hands r below has) [
+        | inl here ↦ inl (here ∙ sym same)
         | inr early ↦ inr record { leaving = leaving stage; behind = early.behind }
-      ]);
-      swung = rw spot old.swung;
-      copies = rw spot leads.copies;
+      ];
+      swung = λ copies i below kept swung. old.swung copies i below kept swung ∙ sym same;
+      copies = subst (λ h. WhileCopying (CopyingStands (node_at (graph_of heap book.history) book.made) book.made book.owner book.colour book.fragments book.spines h) stage) (sym same) leads.copies;
       copy = leads.copy;
     }
 
-    -- and as many words are granted
-    pub budgets_copying : at heap words Budget ≡ at heap state.words Budget → BudgetsStand heap turned book
-    budgets_copying budget =
+    -- and as many words are granted, where its place is behind so many more
+    pub budgets_led : (next_spine heap words).offset ≡ (next_spine heap state.words).offset + more → at heap words Budget ≡ at heap state.words Budget → BudgetsStand heap (turned words log stage) later
+    budgets_led offset budget =
         let old = rule.space.budgets in
         let none : returning stage ≡ returning state.collector.stage = none_returned stage leads.of_copying ∙ ap returning (sym was) in
         record {
           level = λ goes. absurd (goes (leaving stage));
-          leaving = λ _. rw spot (omega (arith, old.leaving (leaving state.collector.stage), leads.as_many));
+          leaving = λ _. subst (λ h. (next_spine heap words).offset ≡ placed_words heap (turned words log stage) later h) (sym same) (omega (arith, old.leaving (leaving state.collector.stage), leads.as_many, offset));
           word = omega (arith, budget, old.word, none);
           told = omega (arith, old.told, none);
           low = omega (arith, old.low, none);
@@ -177,6 +188,14 @@ module _ (heap : Heap) (state : State) (book : Book) (rule : Rule heap state boo
           early = old.early;
           counts = none_counted _ book.owner stage leads.of_copying;
         }
+
+  -- where that place and whose the words are stay, so does the spine space
+  pub space_copying : (words : List ℕ) → at heap words Spot ≡ at heap state.words Spot → at heap words Budget ≡ at heap state.words Budget → (log : List Entry) (stage : Stage) → LeadsBy heap state book words 0 stage
+      → SpaceStands heap (turned words log stage) book
+  space_copying words spot budget log stage leads = record {
+    budgets = budgets_led words book.spine_owner 0 log stage leads (ap (λ w. (spot_in w).half) spot) (omega (arith, ap (λ w. (spot_in w).offset) spot)) budget;
+    halves = halves_led words book.spine_owner 0 log stage leads (ap (λ w. (spot_in w).half) spot) (rw spot rule.space.halves.before);
+  }
 
   -- a load keeps the rule
   pub copying_loads : (stage : Stage) → LeadsTo heap state book stage → (a : Address)
@@ -188,7 +207,7 @@ module _ (heap : Heap) (state : State) (book : Book) (rule : Rule heap state boo
         heap_marks = marks_copying heap state.words book.owner book.colour book.fragments state.collector.phase in_copying after_marking stage leads.of_copying leads.few;
         roots = λ r below marks. absurd (omega (arith, marks.phase, in_copying));
       }
-      record { budgets = budgets_copying state.words refl state.collector.log stage leads refl; halves = halves_copying state.words refl state.collector.log stage leads }
+      (space_copying state.words refl refl state.collector.log stage leads)
       (book_stays heap state book book.history book.begun)
 
   module _ (free : IsFree (stages.Copying from)) where
@@ -205,7 +224,7 @@ module _ (heap : Heap) (state : State) (book : Book) (rule : Rule heap state boo
     leads_free stage next arrays copies = record {
       of_copying = next.of_copying;
       few = next.few;
-      as_many = next.no_words ∙ sym (ap copying_words was ∙ free.no_words);
+      as_many = omega (arith, next.no_words, ap copying_words was, free.no_words);
       arrays = arrays;
       copies = copies;
       copy = no_copy heap state.words book.spine_owner stage next.none unplaced;

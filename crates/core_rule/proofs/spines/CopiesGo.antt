@@ -58,8 +58,11 @@ module _ (nodes now_nodes : ℕ → Node) (made now_made : List Id) (owner now_o
   copies_go half (copying.Locating array) is = found_go array is
   copies_go half (copying.Claiming array from) is = to_copy_go half array from is
   copies_go half (copying.Loading copy) is = (to_copy_go half copy.array copy.from is.0, is.1)
-  copies_go half (copying.Storing copy word) is = (to_copy_go half copy.array copy.from is.0,
-      is.1 ∙ ap (λ fs. spine_word (fragment_at fs (copy.index + 1))) (sym (heads (sentinel_at copy.array) is.0.found.begins.index is.0.found.begins.kept).fragments_stay), is.2)
+  copies_go half (copying.Storing copy word) is = (
+    to_copy_go half copy.array copy.from is.0,
+    is.1 ∙ ap (λ fs. spine_word (fragment_at fs (copy.index + 1))) (sym (heads (sentinel_at copy.array) is.0.found.begins.index is.0.found.begins.kept).fragments_stay),
+    is.2,
+  )
   copies_go half (copying.Swinging copy) is = (to_copy_go half copy.array copy.from is.0, is.1)
 
   pub while_copies_go : (half : ℕ) (stage : Stage) → WhileCopying (CopyingStands nodes made owner colour fragments spines half) stage

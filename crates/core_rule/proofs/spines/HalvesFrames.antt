@@ -101,8 +101,11 @@ module _ (heap : Heap) (book now : Book) (grants : SameGrants heap book now) whe
     copies_same half (copying.Locating array) is = found_same array is
     copies_same half (copying.Claiming array from) is = to_copy_same half array from is
     copies_same half (copying.Loading copy) is = (to_copy_same half copy.array copy.from is.0, is.1)
-    copies_same half (copying.Storing copy word) is = (to_copy_same half copy.array copy.from is.0,
-        is.1 ∙ ap (λ (fragments : ℕ → List ℕ). spine_word (fragment_at (fragments is.0.found.begins.index) (copy.index + 1))) (sym grants.fragments), is.2)
+    copies_same half (copying.Storing copy word) is = (
+      to_copy_same half copy.array copy.from is.0,
+      is.1 ∙ ap (λ (fragments : ℕ → List ℕ). spine_word (fragment_at (fragments is.0.found.begins.index) (copy.index + 1))) (sym grants.fragments),
+      is.2,
+    )
     copies_same half (copying.Swinging copy) is = (to_copy_same half copy.array copy.from is.0, is.1)
 
     pub while_copies_same : (half : ℕ) (stage : Stage)

@@ -42,7 +42,7 @@ module _ (heap : Heap) (state : State) (book : Book) (rule : Rule heap state boo
   load_leads = record {
     of_copying = tt;
     few = few_from heap state book rule (Loading copy) loading;
-    as_many = ap copying_words (sym loading);
+    as_many = omega (arith, ap copying_words loading);
     arrays = arrays_from heap state book rule (Loading copy) loading;
     copies = (to_copy, names, (found_from heap state book rule (Loading copy) loading).1);
     copy = has_copy heap state.words book.spine_owner (stages.Copying (Storing copy found)) copy refl

@@ -1,0 +1,40 @@
+-- A word is stored into the collector's copy: that keeps the rule.
+use Rattle.std.proofs.Common.{◌≡◌, ℕ, ◌+◌, List, [], ◌++◌, refl, sym, ap, ◌∙◌, arith}
+use Rattle.std.proofs.lemmas.List.{append-nil}
+use Rattle.heap_model.specs.declared.entry.Entry.{Entry}
+use Rattle.heap_model.specs.declared.heap.Heap.{Heap}
+use Rattle.core_machine.specs.collector.Copying.{after_copied}
+use Rattle.core_machine.specs.declared.collector.stage.Copying.TheVariants.{Storing}
+use Rattle.core_machine.specs.declared.collector.stage.SpineCopy.{SpineCopy}
+use Rattle.core_machine.specs.declared.collector.stage.Stage.TheVariants as stages
+use Rattle.core_machine.specs.machine.Machine.{State}
+use Rattle.core_rule.specs.Book.{Book}
+use Rattle.core_rule.specs.Budgets.{copying_words}
+use Rattle.core_rule.specs.Rule.{Rule}
+use Rattle.core_rule.proofs.copies.CopyStores.{to_copy, now, spot_same, budget_same, heap_copied, seat_copied, has_next}
+use Rattle.core_rule.proofs.copies.CopyWords.{copy_leads}
+use Rattle.core_rule.proofs.copies.CopyingStages.{LeadsBy, in_copying, after_marking, few_from, marks_copying, space_copying}
+use Rattle.core_rule.proofs.copies.VisitsOn.{arrays_from, found_from}
+use Rattle.core_rule.proofs.footprint.BookGoing.{book_stays}
+use Rattle.core_rule.proofs.steps.collector.ColourTurn.{agrees_at, at_stage}
+use Rattle.core_rule.proofs.steps.TurnSteps.{StageKeeps, quiet, turn_steps}
+
+pub copy_store_keeps : (copy : SpineCopy) (word : ℕ) → StageKeeps (stages.Copying (Storing copy word))
+copy_store_keeps copy word heap state book rule storing machine =
+    let words : List ℕ = now heap state book rule copy word storing in
+    let next : SpineCopy = record copy { index = copy.index + 1 } in
+    let log : List Entry = state.collector.log ++ [] in
+    let fourth = in_copying heap state book rule (Storing copy word) storing in
+    let leads : LeadsBy heap state book words 0 (after_copied copy)
+    = copy_leads heap state book rule words book.spine_owner 0 next (few_from heap state book rule (Storing copy word) storing) (omega (arith, ap copying_words storing))
+    (arrays_from heap state book rule (Storing copy word) storing) (to_copy heap state book rule copy word storing) (found_from heap state book rule (Storing copy word) storing).2
+    (has_next heap state book rule copy word storing) in
+    turn_steps heap state book words (quiet (at_stage state.collector (after_copied copy))) book [] rule machine (sym (append-nil book.history))
+    (heap_copied heap state book rule copy word storing) (λ r below stands. seat_copied heap state book rule copy word storing r below) (agrees_at heap state book rule (after_copied copy))
+    record {
+      heap_marks = marks_copying heap words book.owner book.colour book.fragments state.collector.phase fourth (after_marking heap state book rule (Storing copy word) storing) (after_copied copy)
+          leads.of_copying leads.few;
+      roots = λ r below marks. absurd (omega (arith, marks.phase, fourth));
+    }
+    (space_copying heap state book rule (Storing copy word) storing words (spot_same heap state book rule copy word storing) (budget_same heap state book rule copy word storing) log (after_copied copy) leads)
+    (book_stays heap state book book.history book.begun)
