@@ -78,6 +78,6 @@ module _ (heap : Heap) (words : ℕ → ℕ) (owner : ℕ → Owner) (group dead
   dead_less =
       let block : (ℕ → Owner) → ℕ → ℕ = λ o g. sum_upto 16 (λ j. dead_weight words (o (16 * g + j))) in
       let change = sum_but_one heap.groups (block freed) (block owner) group below
-          (λ g less apart. sum_same 16 (λ j. dead_weight words (freed (16 * g + j))) (λ j. dead_weight words (owner (16 * g + j))) (λ j few. ap (dead_weight words) (others_stay g j apart few))) in
+      (λ g less apart. sum_same 16 (λ j. dead_weight words (freed (16 * g + j))) (λ j. dead_weight words (owner (16 * g + j))) (λ j few. ap (dead_weight words) (others_stay g j apart few))) in
       let none = sum_zero 16 (λ j. dead_weight words (freed (16 * group + j))) none_left in
       omega (arith, change, none, sum_blocks 16 heap.groups (λ f. dead_weight words (freed f)), sum_blocks 16 heap.groups (λ f. dead_weight words (owner f)))

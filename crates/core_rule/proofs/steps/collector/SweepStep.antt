@@ -25,7 +25,6 @@ use Rattle.core_rule.proofs.marking.SweepMarks.{after_swept_either, examined_fur
 use Rattle.core_rule.proofs.owners.OwnerLemmas.{is_dead}
 use Rattle.core_rule.proofs.spines.HalvesFrames.{StageGoesOn}
 use Rattle.core_rule.proofs.spines.StagesOn.{IsQuiet, quiet_goes_on}
-
 use Rattle.core_rule.proofs.spines.SweepSums.{at_place, counts_on}
 use Rattle.core_rule.proofs.steps.collector.ColourTurn.{at_stage, load_turns_on}
 use Rattle.core_rule.proofs.steps.TurnSteps.{StageKeeps}
