@@ -25,7 +25,8 @@ module _ (heap : Heap) (state : State) (book : Book) (rule : Rule heap state boo
   -- its name was found
   pub begun_name : id_of (at heap state.words (Word f 1)) ≡ id_at book.made i
   begun_name = ap (λ x. id_of (at heap state.words (Word x 1))) begun_there.3
-      ∙ name_found heap state.words (graph_of heap book.history) book.made book.owner book.fragments rule.machine.limits rule.heap_stands.control_words rule.heap_stands.ids rule.heap_stands.objects i begun_there.0 begun_there.1
+      ∙ name_found heap state.words (graph_of heap book.history) book.made book.owner book.fragments rule.machine.limits rule.heap_stands.control_words rule.heap_stands.ids rule.heap_stands.objects
+      i begun_there.0 begun_there.1
 
   pub begun_fits : FitsSpot (book.spines i)
   begun_fits = spine_placed rule i begun_there.0 begun_there.1 begins.is_array
@@ -33,8 +34,8 @@ module _ (heap : Heap) (state : State) (book : Book) (rule : Rule heap state boo
   -- and the place of its spine
   pub begun_spine : spot_in (at heap state.words (Word f 2)) ≡ book.spines i
   begun_spine = ap (λ x. spot_in (at heap state.words (Word x 2))) begun_there.3
-      ∙ spine_found heap state.words (graph_of heap book.history) book.made book.owner book.fragments rule.machine.limits rule.heap_stands.control_words rule.heap_stands.ids rule.heap_stands.objects i begun_there.0 begun_there.1
-      begins.is_array begun_fits
+      ∙ spine_found heap state.words (graph_of heap book.history) book.made book.owner book.fragments rule.machine.limits rule.heap_stands.control_words rule.heap_stands.ids rule.heap_stands.objects
+      i begun_there.0 begun_there.1 begins.is_array begun_fits
 
   -- no other begins there
   pub begun_alone : (j : ℕ) → fragment_at (book.fragments j) 0 ≡ f → IsKept book.owner book.fragments j → j ≡ i

@@ -1,5 +1,5 @@
 -- The collector claims the place of a copy: it fits into the budget, and its words are the collector's.
-use Rattle.std.proofs.Common.{◌≡◌, ◌≢◌, ℕ, ◌+◌, ◌-◌, ◌*◌, ◌%◌, ◌^◌, ◌<◌, ◌≤◌, List, length, None, refl, sym, ap, ◌∙◌, arith}
+use Rattle.std.proofs.Common.{◌≡◌, ℕ, ◌+◌, ◌-◌, ◌%◌, ◌^◌, ◌<◌, ◌≤◌, List, refl, ap, arith}
 use Rattle.heap_words.specs.declared.spot.Spot.{Spot as Place}
 use Rattle.heap_model.specs.declared.heap.Heap.{Heap}
 use Rattle.heap_model.specs.account.Cycles.{graph_of}
@@ -26,7 +26,7 @@ use Rattle.core_rule.proofs.frames.BesideFrames.{LeavesBeside, beside_aside, arr
 use Rattle.core_rule.proofs.lists.SumLemmas.{sum_le}
 use Rattle.core_rule.proofs.spines.OffsetWithin.{placed_few, copy_within}
 use Rattle.core_rule.proofs.spines.SpineFrames.{spine_words_stay}
-use Rattle.core_rule.proofs.spines.SpotClaims.{claim_cases, claim_has, words_claimed, owner_claimed, book_claimed, same_claimed, leaves_claimed, places_claimed, spines_claimed}
+use Rattle.core_rule.proofs.spines.SpotClaims.{claim_cases, claim_has, words_claimed, owner_claimed, same_claimed, leaves_claimed, places_claimed, spines_claimed}
 use Rattle.core_rule.proofs.words.Addresses.{at-put_apart}
 
 module _ (heap : Heap) (state : State) (book : Book) (rule : Rule heap state book) (array : ArrayAt) (from : Place) (claiming : state.collector.stage ≡ stages.Copying (Claiming array from)) where

@@ -1,10 +1,10 @@
 -- The words of the copy in progress: the collector has them, from the claim of their place on, and the first ones equal those of the spine.
-use Rattle.std.proofs.Common.{◌≡◌, ◌⊎◌, ℕ, suc, ◌+◌, ◌<◌, ◌≤◌, List, Some, None, inl, inr, refl, sym, ap, ◌∙◌, subst, arith}
+use Rattle.std.proofs.Common.{◌≡◌, ℕ, suc, ◌+◌, ◌<◌, ◌≤◌, List, Some, inl, inr, refl, subst}
 use Rattle.std.proofs.lemmas.Bool.Decides.{leb_tells}
 use Rattle.heap_model.specs.declared.heap.Heap.{Heap}
 use Rattle.heap_model.specs.account.Cycles.{graph_of}
 use Rattle.core_machine.specs.collector.Copying.{copy_at}
-use Rattle.core_machine.specs.declared.collector.stage.Copying.TheVariants.{Loading, Storing, Swinging}
+use Rattle.core_machine.specs.declared.collector.stage.Copying.TheVariants.{Loading, Swinging}
 use Rattle.core_machine.specs.declared.collector.stage.SpineCopy.{SpineCopy}
 use Rattle.core_machine.specs.declared.collector.stage.Stage.{Stage}
 use Rattle.core_machine.specs.declared.collector.stage.Stage.TheVariants as stages

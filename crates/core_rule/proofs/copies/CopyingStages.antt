@@ -1,33 +1,32 @@
 -- What stands in the phase of copying whichever of its stages the collector comes to.
-use Rattle.std.specs.Prelude.{IfSome}
-use Rattle.std.proofs.Common.{◌≡◌, ◌≢◌, ◌⊎◌, ℕ, ◌+◌, ◌/◌, ◌%◌, ◌<◌, true, List, [], length, Option, Some, None, inl, inr, refl, sym, ap, ◌∙◌, subst, arith}
+use Rattle.std.proofs.Common.{◌≡◌, ◌≢◌, ◌⊎◌, ℕ, ◌+◌, ◌%◌, ◌<◌, true, List, [], length, Option, None, inl, inr, refl, sym, ap, ◌∙◌, subst, arith}
 use Rattle.heap_words.specs.Spot.{spot_in}
 use Rattle.heap_model.specs.declared.entry.Entry.{Entry}
 use Rattle.heap_model.specs.declared.heap.Heap.{Heap}
 use Rattle.heap_model.specs.account.Cycles.{graph_of}
-use Rattle.core_machine.specs.collector.Copying.{next_half, left_half, next_place_of, after_seen}
+use Rattle.core_machine.specs.collector.Copying.{next_half, left_half, after_seen}
 use Rattle.core_machine.specs.collector.FitsTurns.{FitsStage, FitsCopying}
 use Rattle.core_machine.specs.declared.collector.stage.Copying.{Copying}
 use Rattle.core_machine.specs.declared.collector.stage.Stage.{Stage}
 use Rattle.core_machine.specs.declared.collector.stage.Stage.TheVariants as stages
-use Rattle.core_machine.specs.declared.collector.stage.Visit.{Visit}
 use Rattle.core_machine.specs.declared.table.address.Address.{Address}
 use Rattle.core_machine.specs.declared.table.address.Address.TheVariants.{Budget, Spot}
-use Rattle.core_machine.specs.machine.Machine.{State, seat_at}
+use Rattle.core_machine.specs.machine.Machine.{State}
 use Rattle.core_machine.specs.machine.Value.{IsMachine}
 use Rattle.core_machine.specs.table.Layout.{at, put}
 use Rattle.core_rule.specs.Book.{Book, Colour, fragment_at}
 use Rattle.core_rule.specs.Budgets.{BudgetsStand, SweepCounts, copying_words, placed_words, returning}
-use Rattle.core_rule.specs.Halves.{HalvesStand, IsBeforeNext, IsLeftBehind, AwaitsCopy, IsToVisit, IsLeaving, WhileCopying, half_at}
+use Rattle.core_rule.specs.Halves.{HalvesStand, IsBeforeNext, IsLeftBehind, AwaitsCopy, IsLeaving, WhileCopying, half_at}
 use Rattle.core_rule.specs.Marking.{ScanStands, IsFewWords, PassStands, AfterMarking, MarkingStands}
 use Rattle.core_rule.specs.Objects.{IsKept, node_at}
 use Rattle.core_rule.specs.Owners.{Owner, SpineOwner, Open, Placed}
-use Rattle.core_rule.specs.Replicas.{AreMarked, CopyingStands, CopyInHand, copy_in}
+use Rattle.core_rule.specs.Replicas.{CopyingStands, CopyInHand, copy_in}
 use Rattle.core_rule.specs.Rule.{Rule, SpaceStands}
 use Rattle.core_rule.specs.Spines.{next_spine}
 use Rattle.core_rule.specs.Sweep.{SweepStands}
-use Rattle.core_rule.proofs.copies.Visits.{seen_cases, awaits_on}
+use Rattle.core_rule.proofs.copies.Visits.{seen_cases}
 use Rattle.core_rule.proofs.footprint.BookGoing.{book_stays}
+use Rattle.core_rule.proofs.spines.Leaving.{none_copied, copy_away}
 use Rattle.core_rule.proofs.steps.Assemble.{Keeps}
 use Rattle.core_rule.proofs.steps.TurnSteps.{after_turn, quiet, load_turns_with}
 
@@ -81,16 +80,6 @@ pub record IsFree (stage : Stage) : Type 0 where
   pub few : IsFewWords stage
   pub none : copy_in stage ≡ None
   pub no_words : copying_words stage ≡ 0
-
--- so the collector has no words
-pub no_copy : (heap : Heap) (words : List ℕ) (spine_owner : ℕ → ℕ → SpineOwner) (stage : Stage) → copy_in stage ≡ None → ((half offset j : ℕ) → spine_owner half offset ≢ Placed heap.seats j)
-    → CopyInHand heap words spine_owner stage
-no_copy heap words spine_owner stage none unplaced = record { placed = rw none tt; own = λ half offset j is. absurd (unplaced half offset j is); copied = rw none tt }
-
--- and has none where it had none
-pub none_placed : (heap : Heap) (words : List ℕ) (spine_owner : ℕ → ℕ → SpineOwner) (stage : Stage) → copy_in stage ≡ None → CopyInHand heap words spine_owner stage
-    → (half offset j : ℕ) → spine_owner half offset ≢ Placed heap.seats j
-none_placed heap words spine_owner stage none old half offset j is = let its = old.own half offset j is in let both : None ≡ Some its.copy = sym none ∙ its.progress in cc both
 
 -- behind a visit's fragment no copy is in progress
 pub seen_free : (heap : Heap) (phase group marked : ℕ) (o : Option ℕ) → IsFree (after_seen heap group marked o)
@@ -180,7 +169,8 @@ module _ (heap : Heap) (state : State) (book : Book) (rule : Rule heap state boo
         let none : returning stage ≡ returning state.collector.stage = none_returned stage leads.of_copying ∙ ap returning (sym was) in
         record {
           level = λ goes. absurd (goes (leaving stage));
-          leaving = λ _. subst (λ h. (next_spine heap words).offset ≡ placed_words heap (turned words log stage) later h) (sym same) (omega (arith, old.leaving (leaving state.collector.stage), leads.as_many, offset));
+          leaving = λ _. subst (λ h. (next_spine heap words).offset ≡ placed_words heap (turned words log stage) later h) (sym same)
+              (omega (arith, old.leaving (leaving state.collector.stage), leads.as_many, offset));
           word = omega (arith, budget, old.word, none);
           told = omega (arith, old.told, none);
           low = omega (arith, old.low, none);
@@ -190,8 +180,8 @@ module _ (heap : Heap) (state : State) (book : Book) (rule : Rule heap state boo
         }
 
   -- where that place and whose the words are stay, so does the spine space
-  pub space_copying : (words : List ℕ) → at heap words Spot ≡ at heap state.words Spot → at heap words Budget ≡ at heap state.words Budget → (log : List Entry) (stage : Stage) → LeadsBy heap state book words 0 stage
-      → SpaceStands heap (turned words log stage) book
+  pub space_copying : (words : List ℕ) → at heap words Spot ≡ at heap state.words Spot → at heap words Budget ≡ at heap state.words Budget → (log : List Entry) (stage : Stage)
+      → LeadsBy heap state book words 0 stage → SpaceStands heap (turned words log stage) book
   space_copying words spot budget log stage leads = record {
     budgets = budgets_led words book.spine_owner 0 log stage leads (ap (λ w. (spot_in w).half) spot) (omega (arith, ap (λ w. (spot_in w).offset) spot)) budget;
     halves = halves_led words book.spine_owner 0 log stage leads (ap (λ w. (spot_in w).half) spot) (rw spot rule.space.halves.before);
@@ -213,7 +203,7 @@ module _ (heap : Heap) (state : State) (book : Book) (rule : Rule heap state boo
   module _ (free : IsFree (stages.Copying from)) where
     -- while no copy is in progress the collector has no spine words
     pub unplaced : (half offset j : ℕ) → book.spine_owner half offset ≢ Placed heap.seats j
-    unplaced = none_placed heap state.words book.spine_owner (stages.Copying from) free.none (subst (CopyInHand heap state.words book.spine_owner) was rule.space.halves.copy)
+    unplaced = none_copied heap state.words book.spine_owner (stages.Copying from) free.none (subst (CopyInHand heap state.words book.spine_owner) was rule.space.halves.copy)
 
     -- and a stage without a copy may come, where arrays are in this half or to be visited, and copying has found what it is to have
     pub leads_free : (stage : Stage) → IsFree stage
@@ -227,5 +217,5 @@ module _ (heap : Heap) (state : State) (book : Book) (rule : Rule heap state boo
       as_many = omega (arith, next.no_words, ap copying_words was, free.no_words);
       arrays = arrays;
       copies = copies;
-      copy = no_copy heap state.words book.spine_owner stage next.none unplaced;
+      copy = copy_away heap state.words book.spine_owner stage next.none unplaced;
     }

@@ -1,5 +1,5 @@
 -- The first words of marked fragments: an array's first one alone begins with an array's meta.
-use Rattle.std.proofs.Common.{◌≡◌, ◌≢◌, ℕ, zero, suc, ◌+◌, ◌-◌, ◌*◌, ◌<◌, ◌≤◌, ◌^◌, Bool, true, false, eqb, inl, inr, List, [], ◌∷◌, ◌++◌, length, get_or, slice_get, Some, None, refl, sym, ap, ◌∙◌, subst, arith}
+use Rattle.std.proofs.Common.{◌≡◌, ◌≢◌, ℕ, zero, suc, ◌+◌, ◌-◌, ◌*◌, ◌<◌, ◌≤◌, ◌^◌, Bool, true, false, eqb, inl, inr, List, [], ◌∷◌, ◌++◌, length, get_or, slice_get, Some, None, refl, sym, ap, ◌∙◌, arith}
 use Rattle.std.proofs.lemmas.Bool.{cases_lt}
 use Rattle.std.proofs.lemmas.Bool.Decides.{leb_tells}
 use Rattle.std.proofs.lemmas.List.{get_or_past}
@@ -12,11 +12,9 @@ use Rattle.heap_words.specs.Cell.{cell_of}
 use Rattle.heap_model.specs.declared.command.Command.{Command}
 use Rattle.heap_model.specs.declared.command.Command.TheVariants as commands
 use Rattle.heap_model.specs.declared.heap.Heap.{Heap}
-use Rattle.heap_model.specs.Limits.{most_cells}
 use Rattle.heap_model.specs.Needs.{array_words}
 use Rattle.heap_model.specs.account.Cycles.{graph_of}
 use Rattle.heap_model.specs.graph.Graph.{Graph, Node}
-use Rattle.heap_model.specs.graph.Sizes.{spine_words_of}
 use Rattle.core_machine.specs.declared.table.address.Address.TheVariants.{Word}
 use Rattle.core_machine.specs.machine.Machine.{State, seat_at}
 use Rattle.heap_model.specs.Command.{IsCommand}
@@ -30,7 +28,7 @@ use Rattle.core_machine.specs.seat.Seat.{Seat}
 use Rattle.core_machine.specs.table.Decode.{array_length_in, array_length_of, is_fixed, is_meta}
 use Rattle.core_machine.specs.table.Fragments.{tally}
 use Rattle.core_machine.specs.table.Layout.{at}
-use Rattle.core_machine.specs.table.Newborn.{record_meta, link_after, record_word_of}
+use Rattle.core_machine.specs.table.Newborn.{link_after, record_word_of}
 use Rattle.core_machine.proofs.table_lemmas.CellWords.{cell_of-cell_word}
 use Rattle.core_rule.specs.Book.{Book, fragment_at, id_at, object_head}
 use Rattle.core_rule.specs.Colours.{IsMarked}
@@ -43,8 +41,8 @@ use Rattle.core_rule.specs.Replicas.{BeginsArray}
 use Rattle.core_rule.specs.Rule.{Rule}
 use Rattle.core_rule.proofs.entries.AtRest.{seat_fits}
 use Rattle.core_rule.proofs.held.BodyWords.{bearing}
-use Rattle.core_rule.proofs.lists.Members.{place_of, place_within, tally_at}
-use Rattle.core_rule.proofs.lists.Tallies.{tally-append, one_at_same}
+use Rattle.core_rule.proofs.lists.Members.{place_of, place_within}
+use Rattle.core_rule.proofs.lists.Tallies.{one_at_same}
 use Rattle.core_rule.proofs.marking.ObjectEdges.{found_cases, cell_no_meta, small}
 use Rattle.core_rule.proofs.objects.LastBirth.{all_stored}
 use Rattle.core_rule.proofs.owners.Seated.{borne_by_seat}
@@ -81,7 +79,8 @@ module _ (fragments : List ℕ) (small_ : (i : ℕ) → i < length fragments →
   record_no_length name fields (suc k) few = let later : eqb (suc k) 0 ≡ false = grind arith in rw later (link_no_length (suc k))
 
   -- so no fragment of a newborn object tells one but an array's first
-  newborn_no_length : (command : Command) (name : Name) (spine : Spot) (k : ℕ) → MakesObject command → IsCommand command → (IsArray command → k ≢ 0) → array_length_of (newborn_word command name spine fragments k 0) ≡ None
+  newborn_no_length : (command : Command) (name : Name) (spine : Spot) (k : ℕ) → MakesObject command → IsCommand command → (IsArray command → k ≢ 0)
+      → array_length_of (newborn_word command name spine fragments k 0) ≡ None
   newborn_no_length (commands.New d fields) name spine k made range behind = record_no_length name fields k (omega (arith, range.1.1))
   newborn_no_length (commands.Array d cells) name spine zero made range behind = absurd (behind tt refl)
   newborn_no_length (commands.Array d cells) name spine (suc k) made range behind = let later : eqb (suc k) 0 ≡ false = grind arith in rw later refl

@@ -1,14 +1,12 @@
 -- The heap and each seat stand once an array has swung to the collector's copy.
-use Rattle.std.proofs.Common.{◌≡◌, ◌≢◌, ◌⊎◌, ℕ, ◌+◌, ◌*◌, ◌/◌, ◌%◌, ◌<◌, ◌≤◌, true, false, List, [], ◌∷◌, ◌++◌, length, Some, inl, inr, refl, sym, ap, ◌∙◌, subst, arith}
+use Rattle.std.proofs.Common.{◌≡◌, ℕ, ◌+◌, ◌*◌, ◌<◌, List, [], ◌∷◌, ◌++◌, length, inl, inr, sym, ap, ◌∙◌, subst, arith}
 use Rattle.std.proofs.lemmas.Bool.{cases_eq}
 use Rattle.heap_words.specs.declared.spot.Spot.{Spot}
 use Rattle.heap_words.specs.Spot.{spot_word}
 use Rattle.heap_model.specs.declared.entry.Entry.{Entry}
 use Rattle.heap_model.specs.declared.entry.Entry.TheVariants.{Swings}
 use Rattle.heap_model.specs.declared.heap.Heap.{Heap}
-use Rattle.heap_model.specs.declared.id.Id.{Id}
 use Rattle.heap_model.specs.account.Cycles.{graph_of}
-use Rattle.heap_model.specs.account.PhaseCounts.{phase, last_answer, has_left}
 use Rattle.heap_model.specs.graph.Graph.{Graph, Node, opening}
 use Rattle.heap_model.specs.graph.Sizes.{spine_words_of}
 use Rattle.heap_model.proofs.Histories.{graph_after-more}
@@ -19,14 +17,14 @@ use Rattle.core_machine.specs.declared.collector.stage.SpineCopy.{SpineCopy}
 use Rattle.core_machine.specs.declared.collector.stage.Stage.TheVariants as stages
 use Rattle.core_machine.specs.declared.table.address.Address.TheVariants as addresses
 use Rattle.core_machine.specs.declared.table.address.Address.TheVariants.{Word}
-use Rattle.core_machine.specs.machine.Machine.{State, seat_at}
+use Rattle.core_machine.specs.machine.Machine.{State}
 use Rattle.core_machine.specs.table.Decode.{spine_words_in}
 use Rattle.core_machine.specs.table.Layout.{at, put, spine_place, FitsSpot}
 use Rattle.core_machine.specs.table.Newborn.{spine_word}
-use Rattle.core_rule.specs.Book.{Book, fragment_at, id_at}
+use Rattle.core_rule.specs.Book.{Book, fragment_at}
 use Rattle.core_rule.specs.Colours.{WordPointsTo}
 use Rattle.core_rule.specs.Objects.{Objects, IsKept, node_at}
-use Rattle.core_rule.specs.Owners.{SpineOwner, Kept, Placed, Spined}
+use Rattle.core_rule.specs.Owners.{SpineOwner, Spined}
 use Rattle.core_rule.specs.Replicas.{CopyInHand, IsToCopy}
 use Rattle.core_rule.specs.Rule.{Rule}
 use Rattle.core_rule.specs.Spines.{SpinesStand, IsWordOf, next_spine}

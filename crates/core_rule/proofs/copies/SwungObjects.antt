@@ -1,6 +1,5 @@
 -- The objects stand once an array has swung: its first fragment tells the new place of its spine, where the spine's words stand too.
-use Rattle.std.specs.Prelude.{if◌then◌else◌}
-use Rattle.std.proofs.Common.{◌≡◌, ◌≢◌, ◌⊎◌, ℕ, ◌+◌, ◌*◌, ◌<◌, ◌≤◌, Bool, true, false, List, length, inl, inr, refl, sym, ap, ◌∙◌, subst, arith}
+use Rattle.std.proofs.Common.{◌≡◌, ◌≢◌, ℕ, ◌+◌, ◌*◌, ◌<◌, true, List, length, inl, inr, refl, sym, ap, ◌∙◌, subst, arith}
 use Rattle.std.proofs.lemmas.Bool.{cases_eq}
 use Rattle.std.proofs.lemmas.Bool.Decides.{eqb_tells}
 use Rattle.heap_words.specs.declared.name.Name.{Name}
@@ -68,7 +67,8 @@ module _ (heap : Heap) (words : List ℕ) (table : length words ≡ table_length
           → at heap now (Word (fragment_at (fragments i) k) part) ≡ object_word (object_head made fragments) (name_of (id_at made i)) (node_at g made i) to (fragments i) k part
       stored k part within fits = elim (cases_eq (fragment_at (fragments i) k) s) [
         | inr other ↦ fragment_other heap words (spot_word to) s 2 (fragment_at (fragments i) k) part (omega arith) fits other ∙ (old.kept i below is).stored k part within fits
-            ∙ sym (words_but_place (object_head made fragments) (name_of (id_at made i)) (node_at g made i) (spines i) to (fragments i) k part (λ zero. absurd (other (ap (fragment_at (fragments i)) zero ∙ sym first))))
+            ∙ sym (words_but_place (object_head made fragments) (name_of (id_at made i)) (node_at g made i) (spines i) to (fragments i) k part
+            (λ zero. absurd (other (ap (fragment_at (fragments i)) zero ∙ sym first))))
         | inl same ↦ elim (cases_eq part 2) [
           | inr other ↦ part_other heap words (spot_word to) s 2 (fragment_at (fragments i) k) part other same ∙ (old.kept i below is).stored k part within fits
               ∙ sym (words_but_place (object_head made fragments) (name_of (id_at made i)) (node_at g made i) (spines i) to (fragments i) k part (λ zero. other))

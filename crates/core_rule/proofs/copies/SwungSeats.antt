@@ -1,5 +1,5 @@
 -- The heap and each seat stand once an array has swung: a call that has loaded its old place reads a replica that the array has left.
-use Rattle.std.proofs.Common.{◌≡◌, ◌≢◌, ◌⊎◌, ℕ, ◌+◌, ◌*◌, ◌/◌, ◌%◌, ◌<◌, ◌≤◌, false, List, [], ◌∷◌, ◌++◌, length, inl, inr, refl, sym, ap, ◌∙◌, subst, arith}
+use Rattle.std.proofs.Common.{◌≡◌, ◌≢◌, ◌⊎◌, ℕ, ◌+◌, ◌%◌, ◌<◌, false, List, inl, inr, refl, sym, ap, ◌∙◌, subst, arith}
 use Rattle.std.proofs.lemmas.Bool.{cases_eq}
 use Rattle.heap_words.specs.declared.spot.Spot.{Spot}
 use Rattle.heap_words.specs.Spot.{spot_word}
@@ -10,7 +10,6 @@ use Rattle.heap_model.specs.account.Cycles.{graph_of}
 use Rattle.heap_model.specs.account.PhaseCounts.{phase, last_answer, has_left}
 use Rattle.heap_model.specs.graph.Graph.{Graph}
 use Rattle.heap_model.specs.graph.Objects.{graph_seat}
-use Rattle.heap_model.specs.graph.Sizes.{spine_words_of}
 use Rattle.heap_model.proofs.Histories.{total-more}
 use Rattle.core_machine.specs.declared.collector.stage.Copying.TheVariants.{Swinging}
 use Rattle.core_machine.specs.declared.collector.stage.SpineCopy.{SpineCopy}
@@ -21,7 +20,7 @@ use Rattle.core_machine.specs.declared.place.Place.TheVariants as places
 use Rattle.core_machine.specs.declared.table.address.Address.TheVariants.{Word, Answer, Phase, Control}
 use Rattle.core_machine.specs.machine.Machine.{State, seat_at}
 use Rattle.core_machine.specs.seat.Seat.{Seat}
-use Rattle.core_machine.specs.table.Layout.{at, spine_place}
+use Rattle.core_machine.specs.table.Layout.{at}
 use Rattle.core_rule.specs.Book.{Book}
 use Rattle.core_rule.specs.Colours.{IsBetween}
 use Rattle.core_rule.specs.Cycle.{HeapInCycle, SeatInCycle}

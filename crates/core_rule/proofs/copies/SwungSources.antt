@@ -1,13 +1,13 @@
 -- The word that tells the place of an array's spine is written anew: where the new place has the words that the old one has, every fragment leads where it led.
 use Rattle.std.specs.Prelude.{if◌then◌else◌}
-use Rattle.std.proofs.Common.{◌≡◌, ◌≢◌, ℕ, suc, ◌+◌, ◌-◌, ◌*◌, ◌<◌, ◌≤◌, List, length, Option, Some, None, inl, inr, nat_lt, refl, sym, ap, ◌∙◌, subst, arith}
+use Rattle.std.proofs.Common.{◌≡◌, ℕ, suc, ◌+◌, ◌-◌, ◌*◌, ◌<◌, List, length, Option, Some, None, inl, inr, nat_lt, refl, sym, ap, ◌∙◌, subst, arith}
 use Rattle.std.proofs.lemmas.Bool.{cases_eq}
 use Rattle.std.proofs.lemmas.Bool.Decides.{leb_tells}
 use Rattle.heap_words.specs.declared.spot.Spot.{Spot}
 use Rattle.heap_words.specs.Spot.{spot_in, spot_word}
 use Rattle.heap_model.specs.declared.heap.Heap.{Heap}
 use Rattle.core_machine.specs.declared.table.address.Address.TheVariants.{Word}
-use Rattle.core_machine.specs.table.Decode.{pointer_in, payload_in, head_of, spine_words_in}
+use Rattle.core_machine.specs.table.Decode.{pointer_in, payload_in, spine_words_in}
 use Rattle.core_machine.specs.table.Layout.{at, put, table_length, spine_place, FitsSpot}
 use Rattle.core_rule.specs.Colours.{WordPointsTo}
 use Rattle.core_rule.specs.Sources.{spine_pointer, source_pointer}

@@ -1,6 +1,6 @@
 -- The spine space stands once an array has swung to a copy in the half of the next spine: what is placed there is as much as before, and the visit goes on.
 use Rattle.std.specs.Prelude.{if◌then◌else◌}
-use Rattle.std.proofs.Common.{◌≡◌, ◌≢◌, ◌⊎◌, ℕ, zero, suc, ◌+◌, ◌*◌, ◌%◌, ◌==◌, ◌<◌, true, List, [], ◌∷◌, ◌++◌, Contains, length, None, inl, inr, refl, sym, ap, ◌∙◌, subst, arith}
+use Rattle.std.proofs.Common.{◌≡◌, ◌≢◌, ◌⊎◌, ℕ, zero, suc, ◌+◌, ◌*◌, ◌==◌, ◌<◌, true, List, [], ◌∷◌, ◌++◌, Contains, length, inl, inr, refl, sym, ap, ◌∙◌, subst, arith}
 use Rattle.std.proofs.lemmas.Bool.{cases_eq}
 use Rattle.std.proofs.lemmas.Bool.Decides.{eqb_tells}
 use Rattle.std.proofs.lemmas.List.Elements.{Contains-push_cases}
@@ -17,32 +17,32 @@ use Rattle.heap_model.specs.graph.Sizes.{spine_words_of}
 use Rattle.heap_model.proofs.account_lemmas.Windows.{after_last-no}
 use Rattle.core_machine.specs.collector.Collector.{Collector}
 use Rattle.core_machine.specs.collector.Copying.{next_place_of, visit_on}
-use Rattle.core_machine.specs.collector.CopyingTurns.{visited}
 use Rattle.core_machine.specs.declared.collector.stage.Copying.TheVariants.{Swinging}
 use Rattle.core_machine.specs.declared.collector.stage.SpineCopy.{SpineCopy}
 use Rattle.core_machine.specs.declared.collector.stage.Stage.{Stage}
 use Rattle.core_machine.specs.declared.collector.stage.Stage.TheVariants as stages
 use Rattle.core_machine.specs.declared.collector.stage.Visit.{Visit}
 use Rattle.core_machine.specs.declared.table.address.Address.TheVariants.{Word, Budget}
-use Rattle.core_machine.specs.machine.Machine.{State, seat_at}
-use Rattle.core_machine.specs.machine.Sums.{sum_upto}
+use Rattle.core_machine.specs.machine.Machine.{State}
 use Rattle.core_machine.specs.table.Layout.{at}
 use Rattle.core_machine.proofs.table_lemmas.Free.{sum_but_one}
 use Rattle.core_rule.specs.Book.{Book, fragment_at, id_at, object_number}
 use Rattle.core_rule.specs.Budgets.{BudgetsStand, kept_weight, kept_sum, dead_sum, words_of, words_in_half, nodes_in, copying_words, returning}
-use Rattle.core_rule.specs.Halves.{HalvesStand, AwaitsCopy, IsToVisit}
+use Rattle.core_rule.specs.Halves.{HalvesStand, AwaitsCopy}
 use Rattle.core_rule.specs.Objects.{IsKept, node_at}
 use Rattle.core_rule.specs.Owners.{Owner, Kept}
 use Rattle.core_rule.specs.Rule.{Rule, SpaceStands}
 use Rattle.core_rule.specs.Spines.{next_spine}
-use Rattle.core_rule.proofs.copies.CopyingStages.{IsFree, in_copying, leaving, half_next, half_copying, no_copy, none_returned, none_counted, seen_free}
-use Rattle.core_rule.proofs.copies.SwungBook.{to_copy, copy_here, i, s, its, inside, now, places, owners, entry, book_swung, graph_swung, spot_same}
+use Rattle.core_rule.proofs.copies.BegunArrays.{begun_alone}
+use Rattle.core_rule.proofs.copies.CopyingStages.{IsFree, in_copying, leaving, half_next, half_copying, none_returned, none_counted, seen_free}
+use Rattle.core_rule.proofs.copies.SwungBook.{to_copy, copy_here, i, s, its, inside, now, places, entry, book_swung, graph_swung, spot_same}
 use Rattle.core_rule.proofs.copies.SwungWords.{swung_word, spine_here, spine_other, placed_was}
 use Rattle.core_rule.proofs.copies.Visits.{awaits_on, to_visit_on}
 use Rattle.core_rule.proofs.copies.VisitsOn.{arrays_from, copies_seen}
 use Rattle.core_rule.proofs.entries.ToldSpines.{still_returned}
 use Rattle.core_rule.proofs.spines.BudgetFrames.{none_granted_by, none_returned_by}
 use Rattle.core_rule.proofs.spines.DeadWords.{none_behind}
+use Rattle.core_rule.proofs.spines.Leaving.{copy_away}
 use Rattle.core_rule.proofs.ways.KeptWords.{kept_within}
 use Rattle.core_rule.proofs.words.Addresses.{at-put_apart}
 
@@ -182,15 +182,9 @@ module _ (heap : Heap) (state : State) (book : Book) (rule : Rule heap state boo
       | inr to ↦
           let head : ℕ = fragment_at (book.fragments j) 0 in
           inr (awaits_on heap state.collector.phase visit.group visit.marked (visit.place + 1) head (kept_within heap state.words book.owner head j 0 rule.heap_stands.control_words kept)
-          (to_visit_on visit head (λ same. other (one_array (sym (ap book.owner same) ∙ kept))) to))
+          (to_visit_on visit head (λ same. other (begun_alone heap state book rule f copy.array.words (to_copy heap state book rule copy swinging).found.begins j same kept)) to))
     ]
   ]
-    where
-      one_array : book.owner f ≡ Kept j 0 → j ≡ n
-      one_array is = index_of is (to_copy heap state book rule copy swinging).found.begins.kept
-        where
-          index_of : book.owner f ≡ Kept j 0 → book.owner f ≡ Kept n 0 → j ≡ n
-          index_of a b = cc
 
   -- so has each that has swung
   halves_have : (j : ℕ) → j < length book.made → IsKept book.owner book.fragments j → HasSwung (id_at book.made j) later.history → (spines j).half ≡ half
@@ -225,7 +219,7 @@ module _ (heap : Heap) (state : State) (book : Book) (rule : Rule heap state boo
         swung = rw next (λ copies j below kept swung. halves_have j below kept swung);
         copies = rw (graph, next) (copies_seen heap nodes book.made book.owner book.colour book.fragments spines half state.collector.phase visit (to_copy heap state book rule copy swinging).found.marked
             (next_place_of visit.marked (visit.place + 1)));
-        copy = no_copy heap words later.spine_owner stage free.none (λ h offset j is. (placed_was heap.seats n (book.spine_owner h offset) heap.seats j is).1 refl);
+        copy = copy_away heap words later.spine_owner stage free.none (λ h offset j is. (placed_was heap.seats n (book.spine_owner h offset) heap.seats j is).1 refl);
       }
 
   pub space_swung : (log : List Entry) → SpaceStands heap (turned log) later

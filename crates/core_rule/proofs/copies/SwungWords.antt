@@ -1,10 +1,9 @@
 -- Whose the spine words are once an array has swung to the collector's copy: the words that it had are gone, and those of the copy are its.
 use Rattle.std.specs.Prelude.{if◌then◌else◌}
-use Rattle.std.proofs.Common.{◌≡◌, ◌≢◌, ◌⊎◌, ℕ, ◌==◌, inl, inr, refl, ap, ◌∙◌, sym, subst}
-use Rattle.std.proofs.lemmas.Bool.{cases_eq}
+use Rattle.std.proofs.Common.{◌≡◌, ◌≢◌, ◌⊎◌, ℕ, ◌==◌, inl, inr, refl, ap, ◌∙◌}
 use Rattle.std.proofs.lemmas.Bool.Decides.{eqb_tells}
 use Rattle.heap_words.specs.declared.spot.Spot.{Spot}
-use Rattle.core_rule.specs.Owners.{SpineOwner, Open, Placed, Spined, Gone}
+use Rattle.core_rule.specs.Owners.{SpineOwner, Placed, Spined, Gone}
 
 -- where the spines stand then
 abbrev pub swung_spines : ℕ → Spot → (ℕ → Spot) → ℕ → Spot

@@ -1,18 +1,17 @@
 -- The visits of copying: the bits that a group's control word tells, which fragments are yet to be visited, and where a visit goes on.
 use Rattle.std.specs.Int.{bit_at}
-use Rattle.std.proofs.Common.{◌≡◌, ◌≢◌, ℕ, suc, ◌+◌, ◌*◌, ◌/◌, ◌%◌, ◌<◌, ◌≤◌, List, length, Option, Some, None, inl, inr, refl, sym, ap, ◌∙◌, subst, arith}
-use Rattle.std.proofs.lemmas.Bool.Decides.{leb_tells, eqb_tells}
+use Rattle.std.proofs.Common.{◌≡◌, ◌≢◌, ℕ, suc, ◌+◌, ◌*◌, ◌/◌, ◌%◌, ◌<◌, ◌≤◌, List, length, Option, Some, None, inl, inr, refl, sym, ap, ◌∙◌, arith}
+use Rattle.std.proofs.lemmas.Bool.Decides.{leb_tells}
 use Rattle.heap_model.specs.declared.heap.Heap.{Heap}
-use Rattle.core_machine.specs.collector.Copying.{marked_bits_of, next_place_of, after_visited, after_seen, visit_on}
+use Rattle.core_machine.specs.collector.Copying.{marked_bits_of, next_place_of, after_visited, after_seen}
 use Rattle.core_machine.specs.collector.CopyingTurns.{visited}
-use Rattle.core_machine.specs.collector.FitsCopying.{FitsVisit}
 use Rattle.core_machine.specs.declared.collector.stage.Copying.TheVariants as copying
 use Rattle.core_machine.specs.declared.collector.stage.Stage.{Stage}
 use Rattle.core_machine.specs.declared.collector.stage.Stage.TheVariants as stages
 use Rattle.core_machine.specs.declared.collector.stage.Visit.{Visit}
 use Rattle.core_machine.specs.declared.table.address.Address.TheVariants.{Control}
 use Rattle.core_machine.specs.table.Layout.{at, table_length}
-use Rattle.core_machine.proofs.table_lemmas.DeadBits.{place_found, place_none}
+use Rattle.core_machine.proofs.table_lemmas.DeadBits.{place_none}
 use Rattle.core_rule.specs.Book.{Colour, White, Grey, Black}
 use Rattle.core_rule.specs.Colours.{Marks, IsMarked, marked_bit}
 use Rattle.core_rule.specs.Halves.{IsToVisit, AwaitsCopy}

@@ -1,19 +1,18 @@
 -- A visit goes on behind a fragment: to the next marked one of its group, to the next group, or to the end of copying.
-use Rattle.std.specs.Int.{bit_at}
-use Rattle.std.proofs.Common.{◌≡◌, ◌≢◌, ◌⊎◌, ℕ, ◌+◌, ◌*◌, ◌/◌, ◌%◌, ◌<◌, true, List, length, Option, inl, inr, refl, sym, ap, ◌∙◌, subst, arith}
+use Rattle.std.proofs.Common.{◌≡◌, ◌⊎◌, ℕ, ◌+◌, ◌<◌, true, List, length, Option, inl, inr, ap, subst}
 use Rattle.std.proofs.lemmas.Bool.{cases_eq}
 use Rattle.heap_words.specs.declared.spot.Spot.{Spot}
 use Rattle.heap_model.specs.declared.heap.Heap.{Heap}
 use Rattle.heap_model.specs.declared.id.Id.{Id}
 use Rattle.heap_model.specs.account.Cycles.{graph_of}
 use Rattle.heap_model.specs.graph.Graph.{Node}
-use Rattle.core_machine.specs.collector.Copying.{next_place_of, after_seen, visit_on}
+use Rattle.core_machine.specs.collector.Copying.{next_place_of, after_seen}
 use Rattle.core_machine.specs.collector.CopyingTurns.{visited}
 use Rattle.core_machine.specs.declared.collector.stage.Copying.{Copying}
 use Rattle.core_machine.specs.declared.collector.stage.Stage.TheVariants as stages
 use Rattle.core_machine.specs.declared.collector.stage.Visit.{Visit}
 use Rattle.core_machine.specs.machine.Machine.{State}
-use Rattle.core_rule.specs.Book.{Book, Colour, White, fragment_at}
+use Rattle.core_rule.specs.Book.{Book, Colour, fragment_at}
 use Rattle.core_rule.specs.Colours.{IsMarked}
 use Rattle.core_rule.specs.Halves.{AwaitsCopy, AwaitsVisit, IsToVisit, WhileCopying}
 use Rattle.core_rule.specs.Marking.{AfterMarking}
@@ -22,7 +21,7 @@ use Rattle.core_rule.specs.Owners.{Owner, Kept, born_bit}
 use Rattle.core_rule.specs.Replicas.{AreMarked, CopyingStands}
 use Rattle.core_rule.specs.Rule.{Rule}
 use Rattle.core_rule.specs.Spines.{next_spine}
-use Rattle.core_rule.proofs.copies.CopyingStages.{IsFree, LeadsTo, leads_free, seen_free, after_marking}
+use Rattle.core_rule.proofs.copies.CopyingStages.{IsFree, LeadsTo, leads_free, seen_free}
 use Rattle.core_rule.proofs.copies.Visits.{seen_cases, awaits_on, to_visit_on}
 use Rattle.core_rule.proofs.ways.KeptWords.{kept_within}
 
@@ -33,8 +32,8 @@ kept_marked owner colour after f i k kept white =
     cc (kept, dead.2)
 
 -- copying has found what it is to have where a visit goes on
-pub copies_seen : (heap : Heap) (nodes : ℕ → Node) (made : List Id) (owner : ℕ → Owner) (colour : ℕ → Colour) (fragments : ℕ → List ℕ) (spines : ℕ → Spot) (half phase : ℕ) (visit : Visit) → AreMarked colour visit
-    → (o : Option ℕ) → WhileCopying (CopyingStands nodes made owner colour fragments spines half) (after_seen heap visit.group visit.marked o)
+pub copies_seen : (heap : Heap) (nodes : ℕ → Node) (made : List Id) (owner : ℕ → Owner) (colour : ℕ → Colour) (fragments : ℕ → List ℕ) (spines : ℕ → Spot) (half phase : ℕ) (visit : Visit)
+    → AreMarked colour visit → (o : Option ℕ) → WhileCopying (CopyingStands nodes made owner colour fragments spines half) (after_seen heap visit.group visit.marked o)
 copies_seen heap nodes made owner colour fragments spines half phase visit marked =
     seen_cases heap phase visit.group visit.marked (WhileCopying (CopyingStands nodes made owner colour fragments spines half)) (λ more. tt) (λ last. tt) (λ place. marked)
 
@@ -56,7 +55,8 @@ module _ (heap : Heap) (state : State) (book : Book) (rule : Rule heap state boo
 
   -- of those that were to be visited at a place on from the next one, where the array that begins there stands in this half already
   pub arrays_behind : (visit : Visit)
-      → ((i : ℕ) → i < length book.made → head i ≡ visited visit → IsKept book.owner book.fragments i → (node_at (graph_of heap book.history) book.made i).array ≡ true → (book.spines i).half ≡ (next_spine heap state.words).half)
+      → ((i : ℕ) → i < length book.made → head i ≡ visited visit → IsKept book.owner book.fragments i → (node_at (graph_of heap book.history) book.made i).array ≡ true
+      → (book.spines i).half ≡ (next_spine heap state.words).half)
       → ArraysOr (IsToVisit visit) → ArraysOr (IsToVisit (record visit { place = visit.place + 1 }))
   arrays_behind visit here arrays i below kept an_array = elim (arrays i below kept an_array) [
     | inl there ↦ inl there
@@ -74,7 +74,8 @@ module _ (heap : Heap) (state : State) (book : Book) (rule : Rule heap state boo
 
     -- and which arrays it is to visit yet
     pub arrays_from : ArraysOr (AwaitsVisit from)
-    arrays_from = λ i below kept an_array. subst (λ stage. ((book.spines i).half ≡ (next_spine heap state.words).half) ⊎ AwaitsCopy state.collector.phase stage (head i)) was (rule.space.halves.arrays i below kept an_array)
+    arrays_from = λ i below kept an_array. subst (λ stage. ((book.spines i).half ≡ (next_spine heap state.words).half) ⊎ AwaitsCopy state.collector.phase stage (head i)) was
+        (rule.space.halves.arrays i below kept an_array)
 
     -- so the collector may go on there
     pub leads_seen : IsFree (stages.Copying from) → (visit : Visit) → AreMarked book.colour visit → ArraysOr (IsToVisit visit)

@@ -1,16 +1,12 @@
 -- A word is stored into the collector's copy: that keeps the rule.
-use Rattle.std.proofs.Common.{◌≡◌, ℕ, ◌+◌, List, [], ◌++◌, refl, sym, ap, ◌∙◌, arith}
+use Rattle.std.proofs.Common.{ℕ, ◌+◌, List, [], ◌++◌, sym, ap, arith}
 use Rattle.std.proofs.lemmas.List.{append-nil}
 use Rattle.heap_model.specs.declared.entry.Entry.{Entry}
-use Rattle.heap_model.specs.declared.heap.Heap.{Heap}
 use Rattle.core_machine.specs.collector.Copying.{after_copied}
 use Rattle.core_machine.specs.declared.collector.stage.Copying.TheVariants.{Storing}
 use Rattle.core_machine.specs.declared.collector.stage.SpineCopy.{SpineCopy}
 use Rattle.core_machine.specs.declared.collector.stage.Stage.TheVariants as stages
-use Rattle.core_machine.specs.machine.Machine.{State}
-use Rattle.core_rule.specs.Book.{Book}
 use Rattle.core_rule.specs.Budgets.{copying_words}
-use Rattle.core_rule.specs.Rule.{Rule}
 use Rattle.core_rule.proofs.copies.CopyStores.{to_copy, now, spot_same, budget_same, heap_copied, seat_copied, has_next}
 use Rattle.core_rule.proofs.copies.CopyWords.{copy_leads}
 use Rattle.core_rule.proofs.copies.CopyingStages.{LeadsBy, in_copying, after_marking, few_from, marks_copying, space_copying}

@@ -1,13 +1,11 @@
 -- The loads of the name of an array that a visit has found, and of the place of its spine, keep the rule.
-use Rattle.std.specs.Prelude.{if◌then◌else◌}
-use Rattle.std.proofs.Common.{◌≡◌, ◌≢◌, ℕ, ◌+◌, ◌==◌, ◌<◌, ◌≤◌, true, length, refl, sym, ap, ◌∙◌, subst, inl, inr, arith}
+use Rattle.std.proofs.Common.{◌≡◌, ◌≢◌, ℕ, ◌+◌, ◌<◌, true, length, refl, sym, ap, ◌∙◌, subst, inl, inr, arith}
 use Rattle.std.proofs.lemmas.Bool.Decides.{eqb_tells}
 use Rattle.heap_words.specs.declared.spot.Spot.{Spot}
 use Rattle.heap_words.specs.Spot.{spot_in}
 use Rattle.heap_model.specs.declared.heap.Heap.{Heap}
 use Rattle.heap_model.specs.account.Cycles.{graph_of}
-use Rattle.heap_model.specs.graph.Graph.{Graph, Node}
-use Rattle.core_machine.specs.collector.Copying.{left_half, next_half, visit_on, after_located}
+use Rattle.core_machine.specs.collector.Copying.{left_half, next_half, after_located}
 use Rattle.core_machine.specs.collector.CopyingTurns.{visited, sentinel_at}
 use Rattle.core_machine.specs.declared.collector.stage.ArrayAt.{ArrayAt}
 use Rattle.core_machine.specs.declared.collector.stage.Copying.TheVariants.{Naming, Locating, Claiming}
@@ -17,7 +15,7 @@ use Rattle.core_machine.specs.declared.table.address.Address.TheVariants.{Word}
 use Rattle.core_machine.specs.machine.Machine.{State}
 use Rattle.core_machine.specs.table.Decode.{id_of}
 use Rattle.core_machine.specs.table.Layout.{at, FitsSpot}
-use Rattle.core_rule.specs.Book.{Book, fragment_at, id_at}
+use Rattle.core_rule.specs.Book.{Book, fragment_at}
 use Rattle.core_rule.specs.Objects.{IsKept, node_at}
 use Rattle.core_rule.specs.Replicas.{AreMarked, BeginsArray, IsFound}
 use Rattle.core_rule.specs.Rule.{Rule}
@@ -43,7 +41,8 @@ module _ (heap : Heap) (state : State) (book : Book) (rule : Rule heap state boo
 -- the load of the name keeps the rule
 pub name_copy_keeps : (visit : Visit) (words : ℕ) → StageKeeps (stages.Copying (Naming visit words))
 name_copy_keeps visit words heap state book rule naming machine =
-    copying_loads heap state book rule (Naming visit words) naming (stages.Copying (Locating (named heap state book rule visit words naming))) (name_leads heap state book rule visit words naming) (Word (visited visit) 1) machine
+    copying_loads heap state book rule (Naming visit words) naming (stages.Copying (Locating (named heap state book rule visit words naming)))
+    (name_leads heap state book rule visit words naming) (Word (visited visit) 1) machine
 
 module _ (heap : Heap) (state : State) (book : Book) (rule : Rule heap state book) (array : ArrayAt) (locating : state.collector.stage ≡ stages.Copying (Locating array)) where
   abbrev from : Spot

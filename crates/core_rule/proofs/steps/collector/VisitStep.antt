@@ -1,5 +1,5 @@
 -- The load of a group's control word, which tells the marked fragments to be visited, keeps the rule.
-use Rattle.std.proofs.Common.{◌≡◌, ℕ, ◌*◌, ◌/◌, ◌%◌, ◌≤◌, inl, inr, refl, sym, arith}
+use Rattle.std.proofs.Common.{◌≡◌, ℕ, ◌/◌, ◌≤◌, inl, inr, refl, sym, arith}
 use Rattle.std.proofs.lemmas.Bool.{cases_lt}
 use Rattle.heap_model.specs.declared.heap.Heap.{Heap}
 use Rattle.core_machine.specs.collector.Copying.{marked_bits_of, after_visit}
