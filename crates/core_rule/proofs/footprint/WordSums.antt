@@ -132,7 +132,9 @@ module _ (heap : Heap) (words : List ℕ) (g : Graph) (made : List Id) (owner : 
   -- what was made since a graph has no more words than were granted since
   pub since_words : (earlier : Graph) (later : List Entry) → AcceptsAll earlier later → graph_after earlier later ≡ g → kept_sum heap (words_new earlier) owner ≤ words_granted later
   since_words earlier [] accepts same =
-      omega (arith, kept_none heap owner (words_new earlier) (λ f i is. let made_it : is_some (node earlier (id_at made i)) ≡ true = subst (λ h. IsMade h (id_at made i)) (sym same) (ids.in_graph i (objects.back f i 0 is).0) in rw made_it refl))
+      omega (arith, kept_none heap owner (words_new earlier) (λ f i is.
+          let there : is_some (node earlier (id_at made i)) ≡ true = subst (λ h. IsMade h (id_at made i)) (sym same) (ids.in_graph i (objects.back f i 0 is).0) in
+          rw there refl))
   since_words earlier (entry ∷ later) accepts same =
       let makes = makes_after earlier entry accepts.0 in
       let now : Graph = after_entry earlier entry in
@@ -171,7 +173,8 @@ module _ (heap : Heap) (words : List ℕ) (g : Graph) (made : List Id) (owner : 
         | inl same ↦
             let number : i ≡ object_number made x = sym (ids.distinct i below) ∙ ap (object_number made) same.1 in
             let has : words_of nodes i ≡ spine_words_at earlier x = words_in_node (node g (id_at made i)) ∙ ap (spine_words_at g) same.1 ∙ stay x (all x its) in
-            let here : (if i == object_number made x then spine_words_at earlier x else 0) ≡ spine_words_at earlier x = elim (eqb_tells i (object_number made x)) as (λ _. (if i == object_number made x then spine_words_at earlier x else 0) ≡ spine_words_at earlier x) [
+            let here : (if i == object_number made x then spine_words_at earlier x else 0) ≡ spine_words_at earlier x
+            = elim (eqb_tells i (object_number made x)) as (λ _. (if i == object_number made x then spine_words_at earlier x else 0) ≡ spine_words_at earlier x) [
               | inl one ↦ rw one.0 refl
               | inr apart ↦ absurd (apart.1 number)
             ] in
