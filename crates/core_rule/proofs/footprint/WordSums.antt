@@ -132,9 +132,12 @@ module _ (heap : Heap) (words : List ℕ) (g : Graph) (made : List Id) (owner : 
   -- what was made since a graph has no more words than were granted since
   pub since_words : (earlier : Graph) (later : List Entry) → AcceptsAll earlier later → graph_after earlier later ≡ g → kept_sum heap (words_new earlier) owner ≤ words_granted later
   since_words earlier [] accepts same =
-      omega (arith, kept_none heap owner (words_new earlier) (λ f i is.
-          let there : is_some (node earlier (id_at made i)) ≡ true = subst (λ h. IsMade h (id_at made i)) (sym same) (ids.in_graph i (objects.back f i 0 is).0) in
-          rw there refl))
+      omega (
+        arith,
+        kept_none heap owner (words_new earlier) (λ f i is.
+            let there : is_some (node earlier (id_at made i)) ≡ true = subst (λ h. IsMade h (id_at made i)) (sym same) (ids.in_graph i (objects.back f i 0 is).0) in
+            rw there refl),
+      )
   since_words earlier (entry ∷ later) accepts same =
       let makes = makes_after earlier entry accepts.0 in
       let now : Graph = after_entry earlier entry in

@@ -122,8 +122,8 @@ module _ (heap : Heap) (state : State) (book : Book) (rule : Rule heap state boo
         → ((part : ℕ) → part < 4 → at heap state.words (Word f part) ≡ newborn_word command (next_name number seat) seat.spine seat.body k part) → IsInHandOf state number half offset
     by_command (commands.New d fields) is made range placed within stored =
         let small : (i : ℕ) → i < length seat.body → get_or seat.body i 0 < 2 ^ 30 = λ i less.
-            let inside : get_or seat.body i 0 < 16 * heap.groups = (seat_fits rule number here).hand.body_within i 0 less in
-            omega (arith, inside, rule.machine.limits.groups_fit)
+        let inside : get_or seat.body i 0 < 16 * heap.groups = (seat_fits rule number here).hand.body_within i 0 less in
+        omega (arith, inside, rule.machine.limits.groups_fit)
         in
         let none : spine_words_in (at heap state.words (Word f 0)) ≡ 0
         = ap spine_words_in (stored 0 (omega arith)) ∙ newborn_no_spine seat.body small (next_name number seat) fields k (omega (arith, range.1.1)) in
