@@ -47,19 +47,7 @@ look_waits heap collector found other answer p waits = by_answer (has_answered_o
 waits_at : (heap : Heap) (collector : Collector) (stage : Stage) (found other answer p : ℕ) → collector.stage ≡ stage → (turn_at heap collector stage).answer found ≡ turns.Waits other answer p
     → Waiting collector ((turn_at heap collector stage).told found)
 waits_at heap collector stages.Looking found other answer p at_stage waits = record { looks = at_stage; stays = look_waits heap collector found other answer p waits }
-waits_at heap collector (stages.Passing group seen) found other answer p at_stage waits = absurd (cc waits)
-waits_at heap collector (stages.Scanning scan) found other answer p at_stage waits = absurd (cc waits)
-waits_at heap collector (stages.Shading scan target next) found other answer p at_stage waits = absurd (cc waits)
-waits_at heap collector (stages.Locating scan words) found other answer p at_stage waits = absurd (cc waits)
-waits_at heap collector (stages.Indexing scan) found other answer p at_stage waits = absurd (cc waits)
-waits_at heap collector (stages.Spreading scan target) found other answer p at_stage waits = absurd (cc waits)
-waits_at heap collector (stages.Blackening scan) found other answer p at_stage waits = absurd (cc waits)
-waits_at heap collector (stages.Sweeping group) found other answer p at_stage waits = absurd (cc waits)
-waits_at heap collector (stages.Examining group dead place) found other answer p at_stage waits = absurd (cc waits)
-waits_at heap collector (stages.Freeing group dead) found other answer p at_stage waits = absurd (cc waits)
-waits_at heap collector (stages.Clearing group kept) found other answer p at_stage waits = absurd (cc waits)
-waits_at heap collector (stages.Ending kept) found other answer p at_stage waits = absurd (cc waits)
-waits_at heap collector stages.Advancing found other answer p at_stage waits = absurd (cc waits)
+waits_at heap collector _ found other answer p at_stage waits = absurd (cc waits)
 
 -- while the collector looks at the seats, what is left doesn't hang on the words
 looking_left : (heap : Heap) (one two : List ℕ) (p looked : ℕ) (stage : Stage) → stage ≡ stages.Looking → turns_left_at heap one p looked stage ≡ turns_left_at heap two p looked stage
