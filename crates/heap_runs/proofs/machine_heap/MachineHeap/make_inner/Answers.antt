@@ -8,6 +8,11 @@ use Rattle.heap_runs.proofs.InnerCalls.{inner_facts, makes_inner}
 use Rattle.heap_runs.proofs.MachineCalls.{since, told_since}
 use Rattle.heap_runs.proofs.machine_heap.MachineHeap.make_inner.Goals as goal
 
+pub split_at-requires : goal.split_at-requires
+split_at-requires c =
+    let facts = inner_facts (the_view c.self.inside) _ c.room.new.self c.play_inner.new.self c.args.seat c.args.inner c.self.invariant.0 c.self.view_is c.requires.may c.room.ensures.same c.room.ensures.others c.play_inner.ensures.plays c.play_inner.ensures.spent in
+    rw (c.log-before.ensures, c.log.ensures) facts.longer
+
 pub note_all-requires : goal.note_all-requires
 note_all-requires c =
     let facts = inner_facts (the_view c.self.inside) _ c.room.new.self c.play_inner.new.self c.args.seat c.args.inner c.self.invariant.0 c.self.view_is c.requires.may c.room.ensures.same c.room.ensures.others c.play_inner.ensures.plays c.play_inner.ensures.spent in
