@@ -6,6 +6,7 @@ pub mod NoPlaces
 pub mod SpineFrames
 pub mod BudgetFrames
 pub mod SameBooks
+pub mod CopiesGo
 pub mod HalvesFrames
 pub mod StagesOn
 pub mod HalfSums
@@ -25,7 +26,6 @@ pub mod WeightSums
 pub mod BudgetSteps
 pub mod SpotClaims
 pub mod SpineStores
-pub mod CopiesGo
 pub mod SpineBirths
 pub mod ArrayBirths
 pub mod HalvesBirths

@@ -1,36 +1,28 @@
 -- In which half each spine stands stays so where a seat's step leaves the spine words, and where a turn leads to another stage.
-use Rattle.std.proofs.Common.{◌≡◌, ◌≢◌, ℕ, ◌+◌, ◌*◌, ◌%◌, ◌<◌, List, length, slice_set, refl, sym, ap, ◌∙◌, subst, inl, inr, Option, Some, None, slice_index_or, arith}
+use Rattle.std.proofs.Common.{◌≡◌, ◌≢◌, ℕ, ◌%◌, ◌<◌, List, length, slice_set, sym, ap, ◌∙◌, subst, inl, inr, Option, Some, None, slice_index_or, arith}
 use Rattle.std.specs.Prelude.{◌⊎◌, IfSome}
 use Rattle.std.proofs.lemmas.Bool.Decides.{eqb_tells}
 use Rattle.std.proofs.lemmas.List.{get_or-set_same, get_or-set_other}
 use Rattle.heap_words.specs.declared.spot.Spot.{Spot}
 use Rattle.heap_model.specs.declared.heap.Heap.{Heap}
 use Rattle.heap_model.specs.declared.id.Id.{Id}
-use Rattle.heap_model.specs.graph.Graph.{Node}
 use Rattle.heap_model.specs.account.Sweep.{HasSwung}
 use Rattle.heap_model.specs.PhasePlan.{barriers, copying as copying_phase}
 use Rattle.core_machine.specs.collector.Collector.{Collector}
-use Rattle.core_machine.specs.collector.CopyingTurns.{visited, sentinel_at}
-use Rattle.core_machine.specs.declared.collector.stage.ArrayAt.{ArrayAt}
-use Rattle.core_machine.specs.declared.collector.stage.Copying.{Copying}
-use Rattle.core_machine.specs.declared.collector.stage.Copying.TheVariants as copying
-use Rattle.core_machine.specs.declared.collector.stage.SpineCopy.{SpineCopy}
 use Rattle.core_machine.specs.declared.collector.stage.Stage.{Stage}
 use Rattle.core_machine.specs.declared.collector.stage.Stage.TheVariants as stages
-use Rattle.core_machine.specs.declared.collector.stage.Visit.{Visit}
 use Rattle.core_machine.specs.machine.Machine.{State, seat_at}
 use Rattle.core_machine.specs.seat.Seat.{Seat, absent_seat}
-use Rattle.core_machine.specs.table.Newborn.{spine_word}
-use Rattle.core_rule.specs.Book.{Book, Colour, fragment_at, id_at}
+use Rattle.core_rule.specs.Book.{Book, fragment_at, id_at}
 use Rattle.core_rule.specs.Budgets.{BudgetsStand, SweepCounts, words_of, nodes_in, returning, copying_words}
 use Rattle.core_rule.specs.Colours.{IsMarked, IsBetween}
 use Rattle.core_rule.specs.Halves.{HalvesStand, AwaitsCopy, IsBeforeNext, IsEarlyRange, IsLeaving, IsLeftBehind, WhileCopying, half_at}
 use Rattle.core_rule.specs.Objects.{IsKept}
-use Rattle.core_rule.specs.Owners.{SpineOwner}
-use Rattle.core_rule.specs.Replicas.{AreMarked, BeginsArray, IsFound, IsToCopy, CopyingStands, CopyInHand, copy_in}
+use Rattle.core_rule.specs.Owners.{Kept, SpineOwner}
+use Rattle.core_rule.specs.Replicas.{CopyingStands, CopyInHand, copy_in}
 use Rattle.core_rule.specs.Spines.{HasPlace, next_spine}
-use Rattle.core_rule.proofs.graph.SameNodes.{shape_words}
 use Rattle.core_rule.proofs.spines.BudgetFrames.{stepped, SameGrants, kept_same, dead_same, here_same}
+use Rattle.core_rule.proofs.spines.CopiesGo.{HeadStays, while_copies_go}
 use Rattle.core_rule.proofs.spines.NoneMade.{SameRange}
 use Rattle.core_rule.proofs.spines.OtherWords.{LeavesPlaces, LeavesSpines}
 use Rattle.core_rule.proofs.words.Addresses.{SameSpines}
@@ -69,50 +61,22 @@ module _ (heap : Heap) (book now : Book) (grants : SameGrants heap book now) whe
   pub owner_same : (half offset : ℕ) → now.spine_owner half offset ≡ book.spine_owner half offset
   owner_same half offset = ap (λ (owner : ℕ → ℕ → SpineOwner). owner half offset) grants.spine_owner
 
+  -- what is kept goes on with its name, its fragments and its spine
+  heads_same : (f i : ℕ) → book.owner f ≡ Kept i 0
+      → HeadStays (nodes_in heap book) (nodes_in heap now) book.made now.made now.owner book.fragments now.fragments book.spines now.spines f i
+  heads_same f i is = record {
+    kept = grants.kept.stays f i 0 is;
+    id = ap (λ (made : List Id). id_at made i) grants.made;
+    fragments_stay = ap (λ (fragments : ℕ → List ℕ). fragments i) grants.fragments;
+    spine = spine_same i;
+    shape = grants.shapes i;
+  }
+
   -- and copying has found what it had found, where what was marked is
-  module _ (marked : (f : ℕ) → IsMarked book.colour f → IsMarked now.colour f) where
-    abbrev begins_same : (f words : ℕ) → BeginsArray (nodes_in heap book) book.owner f words → BeginsArray (nodes_in heap now) now.owner f words
-    begins_same f words is = record {
-      index = is.index;
-      kept = grants.kept.stays f is.index 0 is.kept;
-      is_array = (grants.shapes is.index).kind ∙ is.is_array;
-      as_many = is.as_many ∙ sym (shape_words (nodes_in heap now is.index) (nodes_in heap book is.index) (grants.shapes is.index));
-    }
-
-    marked_same : (visit : Visit) → AreMarked book.colour visit → AreMarked now.colour visit
-    marked_same visit are place set = marked (16 * visit.group + place) (are place set)
-
-    abbrev found_same : (array : ArrayAt) → IsFound (nodes_in heap book) book.made book.owner book.colour array → IsFound (nodes_in heap now) now.made now.owner now.colour array
-    found_same array is = record {
-      marked = marked_same array.visit is.marked;
-      begins = begins_same (sentinel_at array) array.words is.begins;
-      named = is.named ∙ ap (λ (made : List Id). id_at made is.begins.index) (sym grants.made);
-    }
-
-    abbrev to_copy_same : (half : ℕ) (array : ArrayAt) (from : Spot) → IsToCopy (nodes_in heap book) book.made book.owner book.colour book.spines half array from
-        → IsToCopy (nodes_in heap now) now.made now.owner now.colour now.spines half array from
-    to_copy_same half array from is = record { found = found_same array is.found; own = is.own ∙ sym (spine_same is.found.begins.index); left = is.left }
-
-    pub copies_same : (half : ℕ) (stage : Copying) → CopyingStands (nodes_in heap book) book.made book.owner book.colour book.fragments book.spines half stage
-        → CopyingStands (nodes_in heap now) now.made now.owner now.colour now.fragments now.spines half stage
-    copies_same half (copying.Visiting group) is = tt
-    copies_same half (copying.Inspecting visit) is = marked_same visit is
-    copies_same half (copying.Naming visit words) is = (marked_same visit is.0, begins_same (visited visit) words is.1)
-    copies_same half (copying.Locating array) is = found_same array is
-    copies_same half (copying.Claiming array from) is = to_copy_same half array from is
-    copies_same half (copying.Loading copy) is = (to_copy_same half copy.array copy.from is.0, is.1)
-    copies_same half (copying.Storing copy word) is = (
-      to_copy_same half copy.array copy.from is.0,
-      is.1 ∙ ap (λ (fragments : ℕ → List ℕ). spine_word (fragment_at (fragments is.0.found.begins.index) (copy.index + 1))) (sym grants.fragments),
-      is.2,
-    )
-    copies_same half (copying.Swinging copy) is = (to_copy_same half copy.array copy.from is.0, is.1)
-
-    pub while_copies_same : (half : ℕ) (stage : Stage)
-        → WhileCopying (CopyingStands (nodes_in heap book) book.made book.owner book.colour book.fragments book.spines half) stage
-        → WhileCopying (CopyingStands (nodes_in heap now) now.made now.owner now.colour now.fragments now.spines half) stage
-    while_copies_same half (stages.Copying stage) is = copies_same half stage is
-    while_copies_same half _ is = tt
+  pub while_copies_same : ((f : ℕ) → IsMarked book.colour f → IsMarked now.colour f) → (half : ℕ) (stage : Stage)
+      → WhileCopying (CopyingStands (nodes_in heap book) book.made book.owner book.colour book.fragments book.spines half) stage
+      → WhileCopying (CopyingStands (nodes_in heap now) now.made now.owner now.colour now.fragments now.spines half) stage
+  while_copies_same marked = while_copies_go (nodes_in heap book) (nodes_in heap now) book.made now.made book.owner now.owner book.colour now.colour book.fragments now.fragments book.spines now.spines marked heads_same
 
 -- the copy in progress is right where the spine words are as before, and whose they are
 pub copy_same : (heap : Heap) (words now : List ℕ) (was later : ℕ → ℕ → SpineOwner) (stage : Stage) → SameSpines heap words now → ((half offset : ℕ) → later half offset ≡ was half offset)
