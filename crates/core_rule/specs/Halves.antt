@@ -1,15 +1,12 @@
 -- In which half of the spine space each spine stands: from a cycle's flip on they go over to the other one.
-use Rattle.std.specs.Prelude.{◌≡◌, ◌≢◌, ℕ, ◌+◌, ◌/◌, ◌%◌, ◌<◌, ◌≤◌, ◌==◌, ◌⊎◌, Bool, true, false, nat_lt, if◌then◌else◌, List, length}
+use Rattle.std.specs.Prelude.{◌≡◌, ◌≢◌, ℕ, ◌+◌, ◌/◌, ◌%◌, ◌<◌, ◌≤◌, ◌==◌, ◌⊎◌, Bool, true, false, nat_lt, if◌then◌else◌, length}
 use Rattle.std.specs.Int.{bit_at}
 use Rattle.heap_words.specs.declared.spot.Spot.{Spot}
-use Rattle.heap_model.specs.declared.entry.Entry.{Entry}
 use Rattle.heap_model.specs.declared.heap.Heap.{Heap}
-use Rattle.heap_model.specs.declared.id.Id.{Id}
 use Rattle.heap_model.specs.Limits.{group_fragments}
 use Rattle.heap_model.specs.PhasePlan.{cycle_phases, marking, copying as copying_phase, sweep}
 use Rattle.heap_model.specs.account.Cycles.{graph_of}
 use Rattle.heap_model.specs.account.Sweep.{HasSwung}
-use Rattle.heap_model.specs.graph.Graph.{Node}
 use Rattle.core_machine.specs.declared.collector.stage.Copying.{Copying}
 use Rattle.core_machine.specs.declared.collector.stage.Copying.TheVariants as copying
 use Rattle.core_machine.specs.declared.collector.stage.Stage.{Stage}
@@ -18,7 +15,7 @@ use Rattle.core_machine.specs.declared.collector.stage.Visit.{Visit}
 use Rattle.core_machine.specs.machine.Machine.{State, seat_at}
 use Rattle.core_rule.specs.Book.{Book, fragment_at, id_at}
 use Rattle.core_rule.specs.Objects.{IsKept, node_at}
-use Rattle.core_rule.specs.Owners.{SpineOwner, Open}
+use Rattle.core_rule.specs.Owners.{Open}
 use Rattle.core_rule.specs.Replicas.{CopyingStands, CopyInHand}
 use Rattle.core_rule.specs.Spines.{HasPlace, next_spine}
 

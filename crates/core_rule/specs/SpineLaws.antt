@@ -1,5 +1,5 @@
 -- The laws of the spine space, of any state and book that meet the rule, and over every run.
-use Rattle.std.specs.Prelude.{◌≡◌, ◌≢◌, ℕ, ◌+◌, ◌*◌, ◌<◌, ◌≤◌, List}
+use Rattle.std.specs.Prelude.{◌≡◌, ℕ, ◌+◌, ◌*◌, ◌<◌, ◌≤◌, List}
 use Rattle.heap_model.specs.declared.entry.Entry.{Entry}
 use Rattle.heap_model.specs.declared.heap.Heap.{Heap}
 use Rattle.heap_model.specs.Heap.{IsHeap}
@@ -12,8 +12,7 @@ use Rattle.core_machine.specs.machine.Machine.{State, seat_at, Event, Run, state
 use Rattle.core_machine.specs.machine.Opening.{IsOpening}
 use Rattle.core_machine.specs.seat.Seat.{spine_need}
 use Rattle.core_rule.specs.Book.{Book}
-use Rattle.core_rule.specs.Budgets.{granted, unreturned, returned_in_cycle, placed_words}
-use Rattle.core_rule.specs.Halves.{IsLeaving}
+use Rattle.core_rule.specs.Budgets.{granted, returned_in_cycle}
 use Rattle.core_rule.specs.Rule.{Rule}
 use Rattle.core_rule.specs.Spines.{next_spine}
 use Rattle.core_rule.specs.Stands.{Stands}

@@ -13,7 +13,7 @@ use Rattle.core_machine.specs.seat.Commands.{IsArray}
 use Rattle.core_machine.specs.seat.Seat.{Seat, spine_need}
 use Rattle.core_machine.specs.table.Layout.{at, spine_place}
 use Rattle.core_machine.specs.table.Newborn.{spine_word}
-use Rattle.core_rule.specs.Owners.{Owner, Kept, SpineOwner, Placed, Spined}
+use Rattle.core_rule.specs.Owners.{Owner, SpineOwner, Placed, Spined}
 use Rattle.core_rule.specs.Book.{fragment_at}
 use Rattle.core_rule.specs.Objects.{IsKept}
 use Rattle.core_rule.specs.Sweep.{DeadTell}

@@ -13,7 +13,6 @@ use Rattle.core_machine.specs.declared.collector.stage.Copying.TheVariants.{Stor
 use Rattle.core_machine.specs.declared.collector.stage.SpineCopy.{SpineCopy}
 use Rattle.core_machine.specs.declared.collector.stage.Stage.TheVariants as stages
 use Rattle.core_machine.specs.declared.table.address.Address.TheVariants as addresses
-use Rattle.core_machine.specs.declared.table.address.Address.TheVariants.{Word}
 use Rattle.core_machine.specs.machine.Machine.{State, seat_at}
 use Rattle.core_machine.specs.seat.Seat.{spine_need}
 use Rattle.core_machine.specs.table.Layout.{at, put, spine_place}

@@ -4,7 +4,6 @@ use Rattle.heap_model.specs.declared.heap.Heap.{Heap}
 use Rattle.core_machine.specs.collector.FitsTurns.{FitsStage, IsCopying, FitsCopying}
 use Rattle.core_machine.specs.declared.collector.stage.Copying.TheVariants as copying
 use Rattle.core_machine.specs.declared.collector.stage.SpineCopy.{SpineCopy}
-use Rattle.core_machine.specs.declared.place.Making.TheVariants.{Storing}
 use Rattle.core_machine.specs.machine.Machine.{State, seat_at}
 use Rattle.core_machine.specs.seat.Fits.{FitsPlace}
 use Rattle.core_machine.specs.seat.Seat.{Seat}

@@ -16,7 +16,6 @@ use Rattle.core_machine.specs.table.Layout.{at}
 use Rattle.core_rule.specs.Book.{fragment_at, object_number}
 use Rattle.core_rule.specs.Objects.{IsKept}
 use Rattle.core_rule.specs.Owners.{Owner, Kept}
-use Rattle.core_rule.specs.Registers.{Registers}
 use Rattle.core_rule.specs.Registers as regs
 use Rattle.core_rule.proofs.graph.GraphGrowth.{node_none, node_new, node_other, register_target, register_rest}
 use Rattle.core_rule.proofs.graph.IdsGrowth.{OneMore}

@@ -7,7 +7,6 @@ use Rattle.heap_model.specs.declared.command.Command.{Command}
 use Rattle.heap_model.specs.declared.command.Command.TheVariants.{Array}
 use Rattle.heap_model.specs.declared.heap.Heap.{Heap}
 use Rattle.heap_model.specs.Needs.{spine_need_of}
-use Rattle.heap_model.specs.account.PhaseCounts.{phase}
 use Rattle.core_machine.specs.collector.Collector.{next_half}
 use Rattle.core_machine.specs.collector.FitsTurns.{FitsStage, IsMarking}
 use Rattle.core_machine.specs.declared.collector.stage.Stage.TheVariants as stages

@@ -9,7 +9,6 @@ use Rattle.heap_model.specs.declared.id.Id.{Id}
 use Rattle.heap_model.specs.graph.Graph.{Node}
 use Rattle.core_machine.specs.collector.CopyingTurns.{sentinel_at}
 use Rattle.core_machine.specs.declared.collector.stage.ArrayAt.{ArrayAt}
-use Rattle.core_machine.specs.declared.collector.stage.Copying.{Copying}
 use Rattle.core_machine.specs.declared.collector.stage.Copying.TheVariants as copying
 use Rattle.core_machine.specs.declared.collector.stage.Stage.{Stage}
 use Rattle.core_machine.specs.declared.collector.stage.Stage.TheVariants as stages

@@ -1,6 +1,5 @@
 -- What stands of the heap and of the seats where the place of the next spine is written: all of it.
 use Rattle.std.proofs.Common.{◌≡◌, ℕ, ◌<◌, List, length, sym, ap, ◌∙◌, arith}
-use Rattle.heap_words.specs.declared.spot.Spot.{Spot}
 use Rattle.heap_words.specs.Spot.{spot_in, spot_word}
 use Rattle.heap_model.specs.declared.heap.Heap.{Heap}
 use Rattle.heap_model.specs.account.Cycles.{graph_of}

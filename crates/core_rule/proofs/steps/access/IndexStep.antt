@@ -1,5 +1,5 @@
 -- Loading the spine word that names a cell's fragment keeps the rule.
-use Rattle.std.proofs.Common.{ℕ, ◌+◌, ◌/◌, [], ◌++◌, refl, sym, subst}
+use Rattle.std.proofs.Common.{ℕ, ◌/◌, [], ◌++◌, refl, sym, subst}
 use Rattle.heap_model.specs.account.Cycles.{graph_of}
 use Rattle.heap_model.specs.graph.Graph.{Graph}
 use Rattle.core_machine.specs.declared.place.Access.{Access}
