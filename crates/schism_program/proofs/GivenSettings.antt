@@ -57,3 +57,15 @@ none_given before setting words rest (Some all) begins none = tt
 pub some_word : (words : List (Bor (List ℕ))) → (length words == 0) ≡ false → map (λ (w : Bor (List ℕ)). w.now) words ≢ []
 some_word [] none same = cc
 some_word (word ∷ words) some same = cc
+
+-- the same words give the same settings
+pub same_settings : (before all others : Settings) (words : List (List ℕ)) → Gives before words all → Gives before words others → all ≡ others
+same_settings before all others words gives gives' = by before gives.given gives'.given (sym gives.spelled ∙ gives'.spelled) gives.adds gives'.adds where
+  by : (before : Settings) (given given' : List Setting) → flat_map setting_words given ≡ flat_map setting_words given' → Adds before given all → Adds before given' others → all ≡ others
+  by before [] [] same adds adds' = adds ∙ sym adds'
+  by before [] (setting ∷ more) same adds adds' = absurd (never_nothing setting (flat_map setting_words more) (sym same))
+  by before (setting ∷ more) [] same adds adds' = absurd (never_nothing setting (flat_map setting_words more) same)
+  by before (setting ∷ more) (setting' ∷ more') same adds adds' =
+      let first = same_setting setting' setting (flat_map setting_words more') (flat_map setting_words more) (sym same) in
+      let goes : Adds before (setting ∷ more') others = subst (λ s. Adds before (s ∷ more') others) first.0 adds' in
+      by (with_setting before setting) more more' (sym first.1) adds.1 goes.1

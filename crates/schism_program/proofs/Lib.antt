@@ -1,2 +1,4 @@
 pub mod FirstLines
 pub mod OneStatus
+pub mod GivenSettings
+pub mod RangeNumbers

@@ -1,13 +1,16 @@
-ghost use Rattle.std.specs.Prelude.{◌≡◌, ◌≤◌, ◌↔◌, ℕ, Bool as ABool, decimal, codes, map, IfNone, IfSome, IsTrue};
-ghost use Rattle.schism_program.specs.Works.{AskFor, Completes, IsForm, IsMade, form_word, most_start, most_made_lines};
+ghost use Rattle.std.specs.Prelude.{◌≡◌, ◌≤◌, ℕ, Bool as ABool, decimal, codes, map, IfNone, IfSome};
+ghost use Rattle.schism_program.specs.Works.{most_bytes, form_word, AskFor, Completes, IsForm, IsWork, Reads};
 ghost use Rattle.schism_program.specs.declared.work.Work.TheVariants as works;
 
 use crate::setting::{Settings, first_word};
-use script_text::read_number;
+use heap_model::limits::MOST_SEATS;
+use script_text::{MOST_MADE_LINES, MOST_START, read_number};
 
-pub const MOST_START: u32 = 2_147_483_647;
-pub const MOST_MADE_LINES: u32 = 32_768;
-pub const MOST_SEATS: u8 = 16;
+/// The most bytes of a script that is played.
+pub const MOST_SCRIPT: usize = 1_048_576;
+
+/// The most bytes of a history that is checked.
+pub const MOST_HISTORY: usize = 16_777_216;
 
 /// What the program does.
 #[derive(Clone, Copy, Debug, PartialEq, Eq)]
@@ -90,6 +93,7 @@ impl Work {
     pub fn of(words: &[&str]) -> Option<Work>
         ensures some { IfSome result (AskFor (map (λ w. w.now) words.now)) }
         ensures none { IfNone result (¬ IsForm (map (λ w. w.now) words.now)) }
+        ensures range { IfSome result IsWork }
     {
         let Some((form, rest)) = first_word(words) else {
             return None;
@@ -99,6 +103,18 @@ impl Work {
             "check" => check_of(rest),
             "make" => make_of(rest),
             _ => None,
+        }
+    }
+
+    /// The most bytes of an input, where the work has one.
+    pub fn most_bytes(self) -> Option<usize>
+        ensures some { IfSome result (λ most. Reads self × (most ≡ most_bytes self)) }
+        ensures none { IfNone result (¬ Reads self) }
+    {
+        match self {
+            Work::Play { .. } => Some(MOST_SCRIPT),
+            Work::Check => Some(MOST_HISTORY),
+            Work::Make { .. } => None,
         }
     }
 }
