@@ -16,7 +16,7 @@ use Rattle.core_machine.proofs.call_lemmas.CallEnd.{StepsOn, steps_on, idle_from
 use Rattle.core_machine.proofs.call_lemmas.CallRoom.{log_of_seat}
 use Rattle.core_machine.proofs.call_lemmas.InnerCalls.{IsDone, InnerStage, InnerLeads, stage_first, inner_leads}
 use Rattle.core_machine.proofs.call_lemmas.Owes.{owes}
-use Rattle.core_machine.proofs.machine_lemmas.Runs.{Run-more, after_all-more, history-more, seat_at-set, machine_after}
+use Rattle.core_machine.proofs.machine_lemmas.Runs.{runs_on, seat_at-set, machine_after}
 use Rattle.core_machine.proofs.moves.Collect.{inner_stands}
 use Rattle.core_machine.proofs.seat_lemmas.Aside.{over_idle}
 
@@ -68,19 +68,17 @@ pub inner_more : (heap : Heap) (old now : State) (number : ℕ) (inner : Inner) 
     → PlayingInner heap old (state_after heap now (Steps number)) number inner
 inner_more heap old now number inner playing some =
     let events = inner_events number inner playing.steps in
-    let more = inner_events-more number inner playing.steps in
+    let runs = runs_on heap old now events _ (Steps number) playing.told (inner_events-more number inner playing.steps) (record { can = playing.can; ends = playing.ends; shows = playing.shows }) some in
     let machine = machine_after heap now (Steps number) playing.machine some in
     let seat = seat_at now number in
     record {
       steps = playing.steps + 1;
-      can = subst (Run heap old) (sym more) (Run-more heap old events (Steps number) playing.can (subst (λ (s : State). Can heap s (Steps number)) playing.ends some));
-      ends = ap (λ (s : State). state_after heap s (Steps number)) playing.ends ∙ sym (after_all-more heap old events (Steps number)) ∙ ap (state_after_all heap old) (sym more);
+      can = runs.can;
+      ends = runs.ends;
       machine = machine;
       within = omega (arith, playing.within, machine.seated, playing.machine.seated);
       told = playing.told ++ entries heap now (Steps number);
-      shows = ap (history heap old) more ∙ history-more heap old events (Steps number)
-          ∙ ap (λ (l : List Entry). l ++ entries heap (state_after_all heap old events) (Steps number)) playing.shows
-          ∙ ap (λ (s : State). playing.told ++ entries heap s (Steps number)) (sym playing.ends);
+      shows = runs.shows;
       resting = playing.resting;
       stage = inner_by heap old now number inner playing.told (next_move heap number seat) playing.within some
           (inner_leads heap old.words number (seat_at old number) playing.resting inner now.words playing.told seat seat.place (playing.machine.fit number playing.within).answer_at_place playing.stage);

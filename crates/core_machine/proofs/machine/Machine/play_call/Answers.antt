@@ -43,14 +43,14 @@ pub returns-clause-answer : goal.returns-clause-answer
 returns-clause-answer c =
     (call_ends c.loop-step.self c.loop-step.invariant.goes.playing c.loop-step.invariant.heap c.due_of_seat.ensures c.in_default.not-Some c.log.ensures c.last_reply.ensures c.in-Some-last_reply.is).answer
 
-pub returns-clause-array : goal.returns-clause-array
-returns-clause-array c =
-    (call_ends c.loop-step.self c.loop-step.invariant.goes.playing c.loop-step.invariant.heap c.due_of_seat.ensures c.in_default.not-Some c.log.ensures c.last_reply.ensures c.in-Some-last_reply.is).array
-
 pub unreachable-requires : goal.unreachable-requires
 unreachable-requires c =
     call_replies c.loop-step.self c.loop-step.invariant.goes.playing (none_left c.loop-step.self c.args.seat c.loop-step.invariant.heap c.due_of_seat.ensures c.in_default.not-Some)
     (ap last_reply_of (sym c.log.ensures) ∙ sym c.last_reply.ensures ∙ c.in-None.is)
+
+pub returns-clause-array : goal.returns-clause-array
+returns-clause-array c =
+    (call_ends c.loop-step.self c.loop-step.invariant.goes.playing c.loop-step.invariant.heap c.due_of_seat.ensures c.in_default.not-Some c.log.ensures c.last_reply.ensures c.in-Some-last_reply.is).array
 
 pub returns-clause-refused : goal.returns-clause-refused
 returns-clause-refused c =
