@@ -18,7 +18,7 @@ use Rattle.core_machine.specs.table.Layout.{FitsSpot}
 use Rattle.core_machine.specs.seat.Seat.{Seat, need, spine_need}
 use Rattle.core_machine.specs.seat.Making.{fragments_gathered, settled_place, after_gather, after_shortage, refusal_place, gather_next, after_budget, list_place, last_claimed, next_group_of}
 use Rattle.core_machine.specs.seat.Fits.{AreFragments, HasNoSpine, IsAtRest, MakesNext, SeatIsRefusing, HasBody, IsUnstored, IsListed, FitsMaking, OwnFits, Fits}
-use Rattle.core_machine.proofs.seat_lemmas.Aside.{IsAside, gone_aside, no_spot_fits}
+use Rattle.core_machine.proofs.seat_lemmas.Aside.{IsAside, gone_aside, no_spot_fits, aside_way}
 use Rattle.core_machine.proofs.table_lemmas.Owned.{within_group}
 
 -- an object has at least one fragment, and at most one and 1024
@@ -141,11 +141,7 @@ fits_settled heap seat is enough =
         body_within = used;
         spine_within = no_spine_fits seat.used seat.spine seat.listed is.no_spine;
       };
-      way = record {
-        reached_within = is.aside.reached_within;
-        address_within = is.aside.address_within;
-        loaded_within = is.aside.loaded_within;
-      };
+      way = aside_way heap seat is.aside;
       asked_small = is.aside.asked_small;
       way_at_place = is.aside.nowhere;
       answer_at_place = is.aside.silent;
@@ -177,11 +173,7 @@ fits_gathered heap seat place is at_place = record {
     body_within = rw is.no_body (All-nil (λ fragment. fragment < 16 * heap.groups));
     spine_within = no_spine_fits seat.used seat.spine seat.listed is.no_spine;
   };
-  way = record {
-    reached_within = is.aside.reached_within;
-    address_within = is.aside.address_within;
-    loaded_within = is.aside.loaded_within;
-  };
+  way = aside_way heap seat is.aside;
   asked_small = is.aside.asked_small;
   at_place = at_place;
   way_at_place = is.aside.nowhere;

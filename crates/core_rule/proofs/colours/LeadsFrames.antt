@@ -95,34 +95,30 @@ module _ (heap : Heap) (words : List ℕ) (a b n : ℕ) (within : a < 16 * heap.
   abbrev now : List ℕ
   now = put heap words (Word a b) n
 
-  -- each source leads where it led, but for the one that was written
-  pub leads_but : (f source g : ℕ) → WordPointsTo heap now f source g → WordPointsTo heap words f source g ⊎ ((f ≡ a) × (source ≡ b))
-  leads_but f source g leads = elim (cases_eq f a) as (λ _. WordPointsTo heap words f source g ⊎ ((f ≡ a) × (source ≡ b))) [
-    | inr apart ↦ inl (leads_same heap words now f (same_beside heap words a b n within below f apart) source g leads)
-    | inl same ↦ elim (cases_eq source b) as (λ _. WordPointsTo heap words f source g ⊎ ((f ≡ a) × (source ≡ b))) [
+  -- what is so of a source of another fragment, and of another one of this, is so of each source but for the one that was written
+  but_written : (P : ℕ → ℕ → Type 0) (f source : ℕ) → (f ≢ a → P f source) → (f ≡ a → source ≢ b → P f source) → P f source ⊎ ((f ≡ a) × (source ≡ b))
+  but_written P f source beside other = elim (cases_eq f a) as (λ _. P f source ⊎ ((f ≡ a) × (source ≡ b))) [
+    | inr apart ↦ inl (beside apart)
+    | inl same ↦ elim (cases_eq source b) as (λ _. P f source ⊎ ((f ≡ a) × (source ≡ b))) [
       | inl here ↦ inr (same, here)
-      | inr other ↦ inl (other_word source g other same leads)
+      | inr away ↦ inl (other same away)
     ]
   ]
-    where
-      other_word : (source g : ℕ) → source ≢ b → f ≡ a → WordPointsTo heap now f source g → WordPointsTo heap words f source g
-      other_word source g other same leads =
-          let first = word_alone heap now f (subst (HasNoSpine heap now) (sym same) after) source g leads in
-          word_leads heap words f source g leads.within first (ap (pointer_in source) (sym (part_other heap words n a b f source other same)) ∙ lead_of_word heap now f source g first leads)
+
+  -- each source leads where it led, but for that one
+  pub leads_but : (f source g : ℕ) → WordPointsTo heap now f source g → WordPointsTo heap words f source g ⊎ ((f ≡ a) × (source ≡ b))
+  leads_but f source g leads = but_written (λ x y. WordPointsTo heap words x y g) f source
+      (λ apart. leads_same heap words now f (same_beside heap words a b n within below f apart) source g leads)
+      (λ same other.
+      let first = word_alone heap now f (subst (HasNoSpine heap now) (sym same) after) source g leads in
+      word_leads heap words f source g leads.within first (ap (pointer_in source) (sym (part_other heap words n a b f source other same)) ∙ lead_of_word heap now f source g first leads))
 
   pub but_leads : (f source g : ℕ) → WordPointsTo heap words f source g → WordPointsTo heap now f source g ⊎ ((f ≡ a) × (source ≡ b))
-  but_leads f source g leads = elim (cases_eq f a) as (λ _. WordPointsTo heap now f source g ⊎ ((f ≡ a) × (source ≡ b))) [
-    | inr apart ↦ inl (same_leads heap words now f (same_beside heap words a b n within below f apart) source g leads)
-    | inl same ↦ elim (cases_eq source b) as (λ _. WordPointsTo heap now f source g ⊎ ((f ≡ a) × (source ≡ b))) [
-      | inl here ↦ inr (same, here)
-      | inr other ↦ inl (other_word source g other same leads)
-    ]
-  ]
-    where
-      other_word : (source g : ℕ) → source ≢ b → f ≡ a → WordPointsTo heap words f source g → WordPointsTo heap now f source g
-      other_word source g other same leads =
-          let first = word_alone heap words f (subst (HasNoSpine heap words) (sym same) before) source g leads in
-          word_leads heap now f source g leads.within first (ap (pointer_in source) (part_other heap words n a b f source other same) ∙ lead_of_word heap words f source g first leads)
+  but_leads f source g leads = but_written (λ x y. WordPointsTo heap now x y g) f source
+      (λ apart. same_leads heap words now f (same_beside heap words a b n within below f apart) source g leads)
+      (λ same other.
+      let first = word_alone heap words f (subst (HasNoSpine heap words) (sym same) before) source g leads in
+      word_leads heap now f source g leads.within first (ap (pointer_in source) (part_other heap words n a b f source other same) ∙ lead_of_word heap words f source g first leads))
 
   -- so each lead is an old one or the new word's
   pub leads_put : length words ≡ table_length heap → (f source g : ℕ) → WordPointsTo heap now f source g → WordPointsTo heap words f source g ⊎ ((f ≡ a) × (source ≡ b) × (pointer_in b n ≡ Some g))

@@ -1,5 +1,5 @@
 -- The budget at the steps that change it: spine words are asked for, taken back, get their place, and become an array's.
-use Rattle.std.proofs.Common.{◌≡◌, ℕ, ◌+◌, ◌-◌, ◌%◌, ◌^◌, ◌<◌, ◌≤◌, List, length, sym, ◌∙◌, subst, arith}
+use Rattle.std.proofs.Common.{◌≡◌, ℕ, ◌+◌, ◌-◌, ◌%◌, ◌^◌, ◌<◌, ◌≤◌, List, length, refl, sym, ◌∙◌, subst, arith}
 use Rattle.heap_model.specs.declared.entry.Entry.{Entry}
 use Rattle.heap_model.specs.declared.heap.Heap.{Heap}
 use Rattle.heap_model.specs.account.Space.{words_granted, words_returned}
@@ -88,10 +88,11 @@ module _ (heap : Heap) (state : State) (book : Book) (number : ℕ) (here : numb
     counts = keeps.counts old.counts;
   }
 
--- it stands where no more than words change, but not the budget's nor that of the next spine's place
-pub budgets_words : (heap : Heap) (state : State) (book : Book) (words : List ℕ) → at heap words addresses.Spot ≡ at heap state.words addresses.Spot
-    → at heap words addresses.Budget ≡ at heap state.words addresses.Budget → BudgetsStand heap state book → BudgetsStand heap (record state { words = words }) book
-budgets_words heap state book words spot budget old = record {
+-- it stands where no more changes than words, but not the budget's nor that of the next spine's place, than the collector's entries, and than the owners of spine words
+budgets_beside : (heap : Heap) (state : State) (book : Book) (words : List ℕ) (log : List Entry) (spine_owner : ℕ → ℕ → SpineOwner)
+    → at heap words addresses.Spot ≡ at heap state.words addresses.Spot → at heap words addresses.Budget ≡ at heap state.words addresses.Budget → BudgetsStand heap state book
+    → BudgetsStand heap (record state { words = words; collector = record state.collector { log = log } }) (record book { spine_owner = spine_owner })
+budgets_beside heap state book words log spine_owner spot budget old = record {
   level = rw spot old.level;
   leaving = rw spot old.leaving;
   word = budget ∙ old.word;
@@ -102,18 +103,16 @@ budgets_words heap state book words spot budget old = record {
   counts = old.counts;
 }
 
--- and whatever becomes of the owners of spine words
+pub budgets_words : (heap : Heap) (state : State) (book : Book) (words : List ℕ) → at heap words addresses.Spot ≡ at heap state.words addresses.Spot
+    → at heap words addresses.Budget ≡ at heap state.words addresses.Budget → BudgetsStand heap state book → BudgetsStand heap (record state { words = words }) book
+budgets_words heap state book words spot budget old = budgets_beside heap state book words state.collector.log book.spine_owner spot budget old
+
 pub budgets_owners : (heap : Heap) (state : State) (book : Book) (spine_owner : ℕ → ℕ → SpineOwner) → BudgetsStand heap state book → BudgetsStand heap state (record book { spine_owner = spine_owner })
-budgets_owners heap state book spine_owner old = record {
-  level = old.level;
-  leaving = old.leaving;
-  word = old.word;
-  told = old.told;
-  low = old.low;
-  returned = old.returned;
-  early = old.early;
-  counts = old.counts;
-}
+budgets_owners heap state book spine_owner old = budgets_beside heap state book state.words state.collector.log spine_owner refl refl old
+
+pub budgets_told : (heap : Heap) (state : State) (book : Book) (log : List Entry) → BudgetsStand heap state book
+    → BudgetsStand heap (record state { collector = record state.collector { log = log } }) book
+budgets_told heap state book log old = budgets_beside heap state book state.words log book.spine_owner refl refl old
 
 -- the budget word is far below 2^64
 pub budget_small : (heap : Heap) (state : State) (book : Book) → IsMachine heap state → BudgetsStand heap state book → at heap state.words addresses.Budget ≤ 32768

@@ -1,7 +1,6 @@
 -- The collector frees the dead fragments of a group: that keeps the rule.
 use Rattle.std.proofs.Common.{◌≡◌, ℕ, zero, suc, ◌%◌, ◌≤◌, List, [], ◌∷◌, ◌++◌, length, count_ones, inl, inr, refl, sym, ap, ◌∙◌, subst, arith}
 use Rattle.std.proofs.lemmas.Bool.Decides.{eqb_tells}
-use Rattle.std.proofs.lemmas.List.Elements.{filter-append}
 use Rattle.std.proofs.lemmas.Nat.{zero_from_ones}
 use Rattle.heap_model.specs.declared.entry.Entry.TheVariants.{Frees}
 use Rattle.heap_model.specs.declared.heap.Heap.{Heap}
@@ -16,13 +15,12 @@ use Rattle.core_machine.specs.machine.Sums.{sum_upto}
 use Rattle.core_machine.specs.machine.Value.{IsMachine}
 use Rattle.core_rule.specs.Book.{Book}
 use Rattle.core_rule.specs.Budgets.{SweepCounts, dead_sum, words_of, nodes_in, returning}
-use Rattle.core_rule.specs.Counts.{is_collectors}
 use Rattle.core_rule.specs.Marking.{AfterMarking, MarkingStands}
 use Rattle.core_rule.specs.Sweep.{AreFreed, AreDead, SweepStands}
 use Rattle.core_rule.specs.Objects.{node_at}
 use Rattle.core_rule.specs.Phases.{CollectorAgrees}
 use Rattle.core_rule.specs.Rule.{Rule}
-use Rattle.core_rule.proofs.entries.PhaseEntries.{phase_stays, answered_stays, left_stays}
+use Rattle.core_rule.proofs.entries.ToldTurns.{agrees_told}
 use Rattle.core_rule.proofs.footprint.BookGoing.{owners_go}
 use Rattle.core_rule.proofs.footprint.OwnersGo.{free_goes}
 use Rattle.core_rule.proofs.frames.Freeing.{words_freed, book_freed, graph_freed, same, leaves_spines, told_freed, heap_freed, seat_freed}
@@ -69,15 +67,7 @@ module _ (heap : Heap) (state : State) (book : Book) (rule : Rule heap state boo
   freed n = record state.collector { stage = after_freed heap group counted; log = state.collector.log ++ Frees n ∷ [] }
 
   agrees : CollectorAgrees heap (freed (length (set_in group dead))) now.history
-  agrees =
-      let entry = Frees (length (set_in group dead)) in
-      let stands = rule.collector_stands in
-      record {
-        log = rw (filter-append is_collectors book.history (entry ∷ []), stands.log) refl;
-        phase_told = stands.phase_told ∙ sym (phase_stays book.history entry refl);
-        looked = λ number less below present.
-            answered_stays book.history entry number refl ∙ stands.looked number less below (sym (left_stays book.history entry number refl) ∙ present) ∙ sym (phase_stays book.history entry refl);
-      }
+  agrees = agrees_told heap book.history state.collector (after_freed heap group counted) (Frees (length (set_in group dead))) refl refl refl (λ number. refl) rule.collector_stands
 
   marks : MarkingStands heap words now.owner book.colour book.fragments state.collector.phase (after_freed heap group counted)
   marks = freed_further heap words now.owner book.colour book.fragments state.collector.phase fits.sweeps.for_sweep
