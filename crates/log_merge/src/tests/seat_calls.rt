@@ -1,4 +1,4 @@
-ghost use Rattle.std.specs.Prelude.{◌≡◌, ◌+◌, ◌<◌, ◌≤◌, ◌^◌, false, length, IsTrue};
+ghost use Rattle.std.specs.Prelude.{◌≡◌, ◌+◌, ◌*◌, ◌<◌, ◌≤◌, ◌^◌, false, length, IsTrue};
 ghost use Rattle.heap_model.specs.calls.SeatCalls.{IsReady};
 ghost use Rattle.heap_model.specs.calls.SeatState.{own_graph_seat};
 

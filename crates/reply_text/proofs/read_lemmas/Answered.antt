@@ -91,18 +91,18 @@ collecting-again _ h = absurd h
 
 -- a reply to a command
 pub answer_at-words : (command : Command) (reply : Reply) → IsReply command reply → answer_at command (reply_words reply) ≡ Some (reply, [])
-answer_at-words (New d fields) = making-again
-answer_at-words (Array d cells) = arraying-again
-answer_at-words (Get d r i) = getting-again
-answer_at-words (Set r i v) = setting-again
-answer_at-words (Num d n) = done-again
-answer_at-words (Nil d) = done-again
-answer_at-words (Copy d r) = done-again
-answer_at-words (Same a b) = comparing-again
-answer_at-words (Len r) = measuring-again
-answer_at-words Poll = polling-again
-answer_at-words Collect = collecting-again
-answer_at-words Leave = done-again
+answer_at-words (New d fields) reply h = making-again reply h
+answer_at-words (Array d cells) reply h = arraying-again reply h
+answer_at-words (Get d r i) reply h = getting-again reply h
+answer_at-words (Set r i v) reply h = setting-again reply h
+answer_at-words (Num d n) reply h = done-again reply h
+answer_at-words (Nil d) reply h = done-again reply h
+answer_at-words (Copy d r) reply h = done-again reply h
+answer_at-words (Same a b) reply h = comparing-again reply h
+answer_at-words (Len r) reply h = measuring-again reply h
+answer_at-words Poll reply h = polling-again reply h
+answer_at-words Collect reply h = collecting-again reply h
+answer_at-words Leave reply h = done-again reply h
 
 -- a reply of the collector
 pub turning_at-words : (n : ℕ) (reply : TurnReply) → IsTurnReply (commands.Turns n) reply → turning_at (turn_reply_words reply) ≡ Some (reply, [])

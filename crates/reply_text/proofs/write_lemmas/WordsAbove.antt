@@ -127,18 +127,18 @@ collecting-above (replies.Waits seat answered phase) h = waits-above seat answer
 collecting-above _ h = absurd h
 
 reply-above : (command : Command) (reply : Reply) → IsReply command reply → AreWords (reply_words reply)
+reply-above (Num d n) = done-above
+reply-above (Nil d) = done-above
+reply-above (Copy d r) = done-above
+reply-above Leave = done-above
 reply-above (New d fields) = making-above
 reply-above (Array d cells) = arraying-above
 reply-above (Get d r i) = getting-above
 reply-above (Set r i v) = setting-above
-reply-above (Num d n) = done-above
-reply-above (Nil d) = done-above
-reply-above (Copy d r) = done-above
 reply-above (Same a b) = comparing-above
 reply-above (Len r) = measuring-above
 reply-above Poll = polling-above
 reply-above Collect = collecting-above
-reply-above Leave = done-above
 
 turn_reply-above : (command : TurnCommand) (reply : TurnReply) → IsTurnReply command reply → AreWords (turn_reply_words reply)
 turn_reply-above command turns.Done h = (IsAbove-from_test 32 (codes "done") refl, tt)
