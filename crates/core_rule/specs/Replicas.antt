@@ -70,8 +70,8 @@ abbrev pub AddressStands : Heap → List ℕ → (ℕ → Node) → (ℕ → Own
 AddressStands heap words nodes owner fragments spines spine_owner seat place = WhileLoaded (ReadsSpine heap words nodes owner fragments spines spine_owner seat) place
 
 -- the marked fragments of a visit are marked
-abbrev pub AreMarked : (ℕ → Colour) → Visit → Type 0
-AreMarked colour visit = (place : ℕ) → bit_at visit.marked place ≡ 1 → IsMarked colour (group_fragments * visit.group + place)
+abbrev pub VisitIsMarked : (ℕ → Colour) → Visit → Type 0
+VisitIsMarked colour visit = (place : ℕ) → bit_at visit.marked place ≡ 1 → IsMarked colour (group_fragments * visit.group + place)
 
 -- a kept array of so many spine words begins with the fragment
 pub record BeginsArray (nodes : ℕ → Node) (owner : ℕ → Owner) (f words : ℕ) : Type 0 where
@@ -81,23 +81,23 @@ pub record BeginsArray (nodes : ℕ → Node) (owner : ℕ → Owner) (f words :
   pub as_many : words ≡ spine_words_of (nodes index)
 
 -- the array that a visit has found, by its number and name
-pub record IsFound (nodes : ℕ → Node) (made : List Id) (owner : ℕ → Owner) (colour : ℕ → Colour) (array : ArrayAt) : Type 0 where
-  pub marked : AreMarked colour array.visit
+pub record HasFoundArray (nodes : ℕ → Node) (made : List Id) (owner : ℕ → Owner) (colour : ℕ → Colour) (array : ArrayAt) : Type 0 where
+  pub marked : VisitIsMarked colour array.visit
   pub begins : BeginsArray nodes owner (sentinel_at array) array.words
   pub named : array.id ≡ id_at made begins.index
 
 -- its spine stands there, in the half that was left
 pub record IsToCopy (nodes : ℕ → Node) (made : List Id) (owner : ℕ → Owner) (colour : ℕ → Colour) (spines : ℕ → Spot) (half : ℕ) (array : ArrayAt) (from : Spot) : Type 0 where
-  pub found : IsFound nodes made owner colour array
+  pub found : HasFoundArray nodes made owner colour array
   pub own : from ≡ spines found.begins.index
   pub left : from.half ≢ half
 
 -- what copying has found at each of its stages; a copy has its place in this half
 abbrev pub CopyingStands : (ℕ → Node) → List Id → (ℕ → Owner) → (ℕ → Colour) → (ℕ → List ℕ) → (ℕ → Spot) → ℕ → Copying → Type 0
 CopyingStands nodes made owner colour fragments spines half (copying.Visiting group) = Unit {0}
-CopyingStands nodes made owner colour fragments spines half (copying.Inspecting visit) = AreMarked colour visit
-CopyingStands nodes made owner colour fragments spines half (copying.Naming visit words) = AreMarked colour visit × BeginsArray nodes owner (visited visit) words
-CopyingStands nodes made owner colour fragments spines half (copying.Locating array) = IsFound nodes made owner colour array
+CopyingStands nodes made owner colour fragments spines half (copying.Inspecting visit) = VisitIsMarked colour visit
+CopyingStands nodes made owner colour fragments spines half (copying.Naming visit words) = VisitIsMarked colour visit × BeginsArray nodes owner (visited visit) words
+CopyingStands nodes made owner colour fragments spines half (copying.Locating array) = HasFoundArray nodes made owner colour array
 CopyingStands nodes made owner colour fragments spines half (copying.Claiming array from) = IsToCopy nodes made owner colour spines half array from
 CopyingStands nodes made owner colour fragments spines half (copying.Loading copy) = IsToCopy nodes made owner colour spines half copy.array copy.from × (copy.to.half ≡ half)
 CopyingStands nodes made owner colour fragments spines half (copying.Storing copy word) =

@@ -15,7 +15,7 @@ use Rattle.core_machine.specs.declared.place.Access.TheVariants.{LoadingMeta}
 use Rattle.core_machine.specs.declared.place.Making.TheVariants.{Granting}
 use Rattle.core_machine.specs.declared.seat.register.Register.{Register}
 use Rattle.core_machine.specs.declared.seat.register.Register.TheVariants as registers
-use Rattle.core_machine.specs.seat.Commands.{IsRecord, IsServed, object_of}
+use Rattle.core_machine.specs.seat.Commands.{IsRecordCall, IsServed, object_of}
 use Rattle.core_machine.specs.machine.Machine.{call_start}
 use Rattle.core_machine.specs.seat.Access.{access_start}
 use Rattle.core_machine.specs.seat.Registers.{register_in}
@@ -110,7 +110,7 @@ module _ (g : Graph) (nodes : ℕ → Node) (made : List Id) (owner : ℕ → Ow
   opened_starts seat (registers.Object head id) value holds is = record { own = at_place seat _ _ _; awaits = refl; way = sets_out seat head id value holds is; fresh = tt; bare = tt }
 
   -- any other call stands at its first step
-  pub starts_other : (heap : Heap) (seat : Seat) (command : Command) → (IsRecord command → ⊥) → IsServed command → seat.command ≡ command
+  pub starts_other : (heap : Heap) (seat : Seat) (command : Command) → (IsRecordCall command → ⊥) → IsServed command → seat.command ≡ command
       → ((r : ℕ) → (value : Value) × HoldsValue made owner fragments (register_in seat.registers r) value) → Starts seat (call_start heap seat command)
   starts_other heap seat (commands.Get d r i) other served is holds = opened_starts seat (register_in seat.registers r) (holds r).0 (holds r).1 (ap (λ c. register_in seat.registers (object_of c)) (sym is))
   starts_other heap seat (commands.Set r i v) other served is holds = opened_starts seat (register_in seat.registers r) (holds r).0 (holds r).1 (ap (λ c. register_in seat.registers (object_of c)) (sym is))

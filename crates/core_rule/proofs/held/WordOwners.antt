@@ -15,7 +15,7 @@ use Rattle.heap_model.specs.graph.Sizes.{spine_words_of}
 use Rattle.core_machine.specs.declared.collector.stage.SpineCopy.{SpineCopy}
 use Rattle.core_machine.specs.declared.table.address.Address.TheVariants.{Word}
 use Rattle.core_machine.specs.machine.Machine.{State, seat_at}
-use Rattle.core_machine.specs.seat.Commands.{IsArray, MakesObject}
+use Rattle.core_machine.specs.seat.Commands.{IsArrayCall, MakesObject}
 use Rattle.core_machine.specs.seat.Making.{newborn_word, newborn_word_of, next_name}
 use Rattle.core_machine.specs.seat.Seat.{Seat, spine_need}
 use Rattle.core_machine.specs.table.Decode.{spine_words_in}
@@ -122,10 +122,10 @@ module _ (heap : Heap) (state : State) (book : Book) (rule : Rule heap state boo
     here : number < heap.seats
     here = (borne_by_seat heap state book rule number f bears).0
 
-    in_hand : IsAmong seat.spine (spine_need seat) half offset → (IsArray seat.command → HasPlace seat seat.place) → IsArray seat.command → IsInHandOf state number half offset
+    in_hand : IsAmong seat.spine (spine_need seat) half offset → (IsArrayCall seat.command → HasPlace seat seat.place) → IsArrayCall seat.command → IsInHandOf state number half offset
     in_hand among placed an_array = record { has = placed an_array; among = among }
 
-    by_command : (command : Command) → seat.command ≡ command → MakesObject command → IsCommand command → (IsArray command → HasPlace seat seat.place) → k < length seat.body
+    by_command : (command : Command) → seat.command ≡ command → MakesObject command → IsCommand command → (IsArrayCall command → HasPlace seat seat.place) → k < length seat.body
         → ((part : ℕ) → part < 4 → at heap state.words (Word f part) ≡ newborn_word command (next_name number seat) seat.spine seat.body k part) → IsInHandOf state number half offset
     by_command (commands.New d fields) is made range placed within stored =
         let small : (i : ℕ) → i < length seat.body → get_or seat.body i 0 < 2 ^ 30 = λ i less.
