@@ -1,6 +1,6 @@
 -- The next command of a seat may be called, and what its call comes to.
-use Rattle.std.proofs.Common.{◌≡◌, ◌≢◌, ℕ, ◌+◌, ◌==◌, ◌<◌, ◌≤◌, true, false, List, [], ◌∷◌, ◌++◌, length, Some, inl, inr, refl, sym, ap, subst, ◌∙◌, arith}
-use Rattle.std.specs.Prelude.{slice_set, slice_get}
+use Rattle.std.proofs.Common.{◌≡◌, ◌≢◌, ℕ, ◌+◌, ◌==◌, ◌<◌, ◌≤◌, true, false, List, [], ◌∷◌, ◌++◌, length, refl, sym, ap, subst, ◌∙◌, arith}
+use Rattle.std.specs.Prelude.{slice_set}
 use Rattle.std.proofs.lemmas.Bool.{eq-eqb, or_left, or_right}
 use Rattle.std.proofs.lemmas.List.Folds.{list_any-append}
 use Rattle.std.proofs.lemmas.Option.{slice_get_within, get_or_from_slice_get}
@@ -20,7 +20,7 @@ use Rattle.core_rule.proofs.parties.OneSeat.{after_call}
 use Rattle.locked_heap.specs.declared.progress.Progress.{Progress}
 use Rattle.locked_heap.specs.Given.{Given, IsOfScript, IsScript, script_of}
 use Rattle.locked_heap.specs.Locked.{AllHaveCome, IsNext}
-use Rattle.locked_heap.specs.Progress.{progress_at, IsPaid, HasCome}
+use Rattle.locked_heap.specs.Progress.{progress_at, IsPaid}
 use Rattle.locked_heap.specs.Recorded.{Recorded, IsReached, MakesCall}
 use Rattle.locked_heap.specs.Told.{waits_told}
 use Rattle.locked_heap.proofs.Coming.{come_next, come_left, all_come}

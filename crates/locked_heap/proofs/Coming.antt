@@ -1,21 +1,18 @@
 -- How far the seats have come after a call, an inner call or a turn.
-use Rattle.std.proofs.Common.{◌≡◌, ◌≢◌, ℕ, ◌+◌, ◌-◌, ◌*◌, ◌^◌, ◌<◌, ◌≤◌, ◌⊎◌, true, false, List, [], ◌∷◌, ◌++◌, length, take, Some, inl, inr, refl, sym, ap, subst, ◌∙◌, append_assoc, arith}
+use Rattle.std.proofs.Common.{◌≡◌, ◌≢◌, ℕ, ◌+◌, ◌-◌, ◌*◌, ◌^◌, ◌<◌, ◌≤◌, ◌⊎◌, true, false, List, [], ◌∷◌, ◌++◌, length, take, Some, inl, inr, refl, sym, ap, subst, ◌∙◌, arith}
 use Rattle.std.specs.Prelude.{slice_set, slice_get, slice_index_or}
-use Rattle.std.specs.List.{AllByRecursion}
 use Rattle.std.proofs.lemmas.Bool.Decides.{eqb_tells}
 use Rattle.std.proofs.lemmas.List.{append-nil, take_more, get_or-set_same, get_or-set_other, length-set}
 use Rattle.std.proofs.lemmas.Option.{slice_get_within, get_or_from_slice_get, slice_get_read}
-use Rattle.heap_model.specs.declared.calls.collect.CollectReply.{CollectReply}
-use Rattle.heap_model.specs.declared.calls.collect.CollectReply.TheVariants as notes
 use Rattle.heap_model.specs.declared.command.Command.{Command}
-use Rattle.heap_model.specs.declared.command.Command.TheVariants.{Collect, Leave}
+use Rattle.heap_model.specs.declared.command.Command.TheVariants.{Leave}
 use Rattle.heap_model.specs.declared.entry.Entry.{Entry}
 use Rattle.core_machine.specs.machine.Machine.{State, seat_at}
 use Rattle.core_machine.specs.seat.Seat.{Seat}
 use Rattle.core_rule.proofs.parties.OneSeat.{SameBut}
 use Rattle.locked_heap.specs.declared.progress.Progress.{Progress}
 use Rattle.locked_heap.specs.Given.{Given, script_of}
-use Rattle.locked_heap.specs.Locked.{AllHaveCome, IsNext, IsGone, KeepsGone}
+use Rattle.locked_heap.specs.Locked.{AllHaveCome}
 use Rattle.locked_heap.specs.Progress.{at_begin, progress_at, leave_told, IsPaid, HasCome}
 use Rattle.locked_heap.specs.Told.{commands_told, waits_told}
 use Rattle.locked_heap.proofs.TellsNone.{TellsNone, TellsOne, commands_more, waits_more}
@@ -98,20 +95,6 @@ module _ (given : Given) (told after : List Entry) (number : ℕ) (seat now : Se
         grown = omega (arith, paid, come.grown, finds);
       }
 
--- it has begun a collect
-pub come_begun : (given : Given) (told : List Entry) (number : ℕ) (seat : Seat) (progress next : Progress) → HasCome given told number seat progress → next.place ≡ progress.place → next.gone ≡ progress.gone
-    → next.paid ≡ seat.looks.waits → HasCome given told number seat next
-come_begun given told number seat progress next come place gone paid = record {
-  within = omega (arith, place, come.within);
-  commands = come.commands ∙ ap (λ (n : ℕ). take n (script_of given number) ++ leave_told progress.gone) (sym place) ∙ ap (λ b. take next.place (script_of given number) ++ leave_told b) (sym gone);
-  through = λ left. place ∙ come.through (sym gone ∙ left);
-  leaves = come.leaves ∙ sym gone;
-  few_objects = λ there. omega (arith, place, come.few_objects (sym gone ∙ there));
-  few_sets = λ there. omega (arith, place, come.few_sets (sym gone ∙ there));
-  paid = paid_still given.patience (waits_told number told) progress.paid next.paid (omega (arith, paid, come.grown)) come.paid;
-  grown = omega (arith, paid);
-}
-
 module _ (given : Given) (told after : List Entry) (old new : State) (seats : List Progress) (number : ℕ) (all : AllHaveCome given told old seats) (below : number < given.heap.seats) where
   -- one seat has come further, and the others are as they were
   pub all_come : (next : Progress) (added : List Entry) → SameBut number old new → after ≡ told ++ added → ((other : ℕ) → other ≢ number → TellsNone other added)
@@ -123,19 +106,6 @@ module _ (given : Given) (told after : List Entry) (old new : State) (seats : Li
           (subst (HasCome given after number (seat_at new number)) (sym (get_or-set_same seats number next at_begin (omega (arith, below, all.seated)))) own)
       | inr apart ↦ subst (HasCome given after other (seat_at new other)) (sym (get_or-set_other seats number other next at_begin apart.1))
           (come_still given told after other (seat_at old other) (seat_at new other) (progress_at seats other) (all.each other under) added grown (none other apart.1) (same_stays (seat_at old other) (seat_at new other) (others.others other apart.1)))
-    ];
-  }
-
-  -- one seat has begun a collect
-  pub all_begun : (next : Progress) → next.place ≡ (progress_at seats number).place → next.gone ≡ (progress_at seats number).gone → next.paid ≡ (seat_at old number).looks.waits
-      → AllHaveCome given told old (slice_set seats number next)
-  all_begun next place gone paid = record {
-    seated = length-set seats number next ∙ all.seated;
-    each = λ other under. elim (eqb_tells other number) as (λ _. HasCome given told other (seat_at old other) (progress_at (slice_set seats number next) other)) [
-      | inl same ↦ subst (λ (n : ℕ). HasCome given told n (seat_at old n) (progress_at (slice_set seats number next) n)) (sym same.1)
-          (subst (HasCome given told number (seat_at old number)) (sym (get_or-set_same seats number next at_begin (omega (arith, below, all.seated))))
-          (come_begun given told number (seat_at old number) (progress_at seats number) next (all.each number below) place gone paid))
-      | inr apart ↦ subst (HasCome given told other (seat_at old other)) (sym (get_or-set_other seats number other next at_begin apart.1)) (all.each other under)
     ];
   }
 
@@ -161,17 +131,32 @@ all_turned given told added old new seats all same none = record {
       (same_stays (seat_at old other) (seat_at new other) (ap (λ (l : List Seat). seat_at (record old { seats = l }) other) same));
 }
 
--- who has left stays so where one that is there comes further, or leaves
-pub gone_still : (seats : List Progress) (number : ℕ) (next : Progress) → number < length seats → (progress_at seats number).gone ≡ false ⊎ next.gone ≡ true → KeepsGone seats (slice_set seats number next)
-gone_still seats number next below there other gone = elim (eqb_tells other number) as (λ _. IsGone (slice_set seats number next) other) [
-  | inl same ↦ subst (λ (n : ℕ). IsGone (slice_set seats number next) n) (sym same.1) (subst (λ (p : Progress). p.gone ≡ true) (sym (get_or-set_same seats number next at_begin below))
-      (by there (subst (λ (n : ℕ). IsGone seats n) same.1 gone)))
-  | inr apart ↦ subst (λ (p : Progress). p.gone ≡ true) (sym (get_or-set_other seats number other next at_begin apart.1)) gone
-]
-  where
-    by : (progress_at seats number).gone ≡ false ⊎ next.gone ≡ true → IsGone seats number → next.gone ≡ true
-    by (inl stays) gone_now = absurd (cc (stays, gone_now))
-    by (inr left) gone_now = left
+-- it has begun a collect
+come_begun : (given : Given) (told : List Entry) (number : ℕ) (seat : Seat) (progress next : Progress) → HasCome given told number seat progress → next.place ≡ progress.place → next.gone ≡ progress.gone
+    → next.paid ≡ seat.looks.waits → HasCome given told number seat next
+come_begun given told number seat progress next come place gone paid = record {
+  within = omega (arith, place, come.within);
+  commands = come.commands ∙ ap (λ (n : ℕ). take n (script_of given number) ++ leave_told progress.gone) (sym place) ∙ ap (λ b. take next.place (script_of given number) ++ leave_told b) (sym gone);
+  through = λ left. place ∙ come.through (sym gone ∙ left);
+  leaves = come.leaves ∙ sym gone;
+  few_objects = λ there. omega (arith, place, come.few_objects (sym gone ∙ there));
+  few_sets = λ there. omega (arith, place, come.few_sets (sym gone ∙ there));
+  paid = paid_still given.patience (waits_told number told) progress.paid next.paid (omega (arith, paid, come.grown)) come.paid;
+  grown = omega (arith, paid);
+}
+
+-- and all others are where they were
+pub all_begun : (given : Given) (told : List Entry) (state : State) (seats : List Progress) (number : ℕ) (next : Progress) → AllHaveCome given told state seats → number < given.heap.seats
+    → next.place ≡ (progress_at seats number).place → next.gone ≡ (progress_at seats number).gone → next.paid ≡ (seat_at state number).looks.waits → AllHaveCome given told state (slice_set seats number next)
+all_begun given told state seats number next all below place gone paid = record {
+  seated = length-set seats number next ∙ all.seated;
+  each = λ other under. elim (eqb_tells other number) as (λ _. HasCome given told other (seat_at state other) (progress_at (slice_set seats number next) other)) [
+    | inl same ↦ subst (λ (n : ℕ). HasCome given told n (seat_at state n) (progress_at (slice_set seats number next) n)) (sym same.1)
+        (subst (HasCome given told number (seat_at state number)) (sym (get_or-set_same seats number next at_begin (omega (arith, below, all.seated))))
+        (come_begun given told number (seat_at state number) (progress_at seats number) next (all.each number below) place gone paid))
+    | inr apart ↦ subst (HasCome given told other (seat_at state other)) (sym (get_or-set_other seats number other next at_begin apart.1)) (all.each other under)
+  ];
+}
 
 -- a progress that was read is the seat's
 pub read_is : (seats : List Progress) (number : ℕ) (read : Progress) → number < length seats → read ≡ slice_index_or seats number read → progress_at seats number ≡ read

@@ -1,9 +1,9 @@
 -- At the opening no seat has begun its script.
 use Rattle.std.specs.Prelude.{replicate}
-use Rattle.std.proofs.Common.{◌≡◌, ℕ, ◌+◌, ◌*◌, ◌<◌, ◌≤◌, false, List, [], length, inl, refl, sym, ap, subst, ◌∙◌, arith}
+use Rattle.std.proofs.Common.{◌≡◌, List, [], inl, refl, arith}
 use Rattle.std.proofs.lemmas.List.{get_or-replicate, length-replicate}
 use Rattle.heap_model.specs.declared.entry.Entry.{Entry}
-use Rattle.core_machine.specs.machine.Machine.{State, seat_at}
+use Rattle.core_machine.specs.machine.Machine.{State}
 use Rattle.core_machine.specs.seat.Seat.{Seat}
 use Rattle.core_rule.proofs.parties.OpenedSeats.{opening_seats}
 use Rattle.locked_heap.specs.declared.progress.Progress.{Progress}

@@ -1,5 +1,5 @@
 -- A run all of whose seats have left, and whose last cycle has ended.
-use Rattle.std.proofs.Common.{◌≡◌, ℕ, ◌+◌, ◌-◌, ◌<◌, ◌≤◌, true, false, List, [], ◌∷◌, ◌++◌, length, map, take, sym, ap, subst, ◌∙◌, append_assoc, arith}
+use Rattle.std.proofs.Common.{◌≡◌, ℕ, ◌<◌, true, false, List, [], ◌∷◌, ◌++◌, map, take, sym, ap, subst, ◌∙◌, append_assoc, arith}
 use Rattle.std.specs.List.{range_with_len}
 use Rattle.std.proofs.lemmas.List.{take_all}
 use Rattle.heap_model.specs.declared.command.Command.{Command}
@@ -10,8 +10,7 @@ use Rattle.heap_model.specs.declared.heap.Heap.{Heap}
 use Rattle.heap_model.specs.account.Account.{IsLegal}
 use Rattle.heap_model.specs.account.PhaseCounts.{has_left}
 use Rattle.heap_model.specs.account.Space.{fragments_gained, fragments_lost, fragments_used, words_granted, words_returned, words_used}
-use Rattle.heap_model.specs.account.Windows.{up_to_cycle}
-use Rattle.core_machine.specs.machine.Machine.{State, seat_at, state_after_all}
+use Rattle.core_machine.specs.machine.Machine.{State, seat_at}
 use Rattle.core_rule.specs.Laws.{EveryRunKeeps, WordsAreUsed}
 use Rattle.core_rule.specs.SweepLaws.{EachLastCycleEmpties}
 use Rattle.core_rule.proofs.parties.Standing.{none_short, words_used as words_told}

@@ -9,7 +9,7 @@ use Rattle.heap_model.specs.account.Account.{IsLegal}
 use Rattle.heap_model.specs.account.PhaseCounts.{has_left}
 use Rattle.heap_model.specs.account.Space.{fragments_gained, fragments_lost, words_granted, words_returned}
 use Rattle.heap_model.specs.account.Windows.{up_to_cycle}
-use Rattle.core_machine.specs.machine.Machine.{State, seat_at, Event, Run, state_after_all, history}
+use Rattle.core_machine.specs.machine.Machine.{seat_at, Event, Run, state_after_all, history}
 use Rattle.locked_heap.specs.declared.ran.LockedRan.{LockedRan}
 use Rattle.locked_heap.specs.Given.{Given, script_of}
 use Rattle.locked_heap.specs.Progress.{IsPaid}

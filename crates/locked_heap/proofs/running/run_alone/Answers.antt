@@ -1,4 +1,4 @@
-use Rattle.std.proofs.Common.{List, map, ◌∙◌}
+use Rattle.std.proofs.Common.{◌∙◌}
 use Rattle.std.proofs.lemmas.List.{length-map}
 use Rattle.std.proofs.lemmas.List.Elements.{All-map}
 use Rattle.locked_heap.specs.Given.{IsScript}

@@ -1,4 +1,4 @@
-use Rattle.std.proofs.Common.{◌≡◌, ◌+◌, ◌<◌, List, length, refl, sym, ap, subst, arith}
+use Rattle.std.proofs.Common.{◌+◌, sym, ap, subst, arith}
 use Rattle.locked_heap.specs.declared.progress.Progress.{Progress}
 use Rattle.locked_heap.specs.Locked.{LockedValue, IsNext}
 use Rattle.locked_heap.proofs.Calling.{can_call, called_on}

@@ -1,4 +1,4 @@
-use Rattle.std.proofs.Common.{◌≡◌, ◌≤◌, ◌*◌, ◌++◌, List, ap, subst, ◌∙◌, arith}
+use Rattle.std.proofs.Common.{ap, subst, ◌∙◌, arith}
 use Rattle.heap_model.specs.declared.calls.collector_calls.Turn.{Turn}
 use Rattle.heap_model.specs.account.PhaseCounts.{phase}
 use Rattle.locked_heap.specs.Locked.{LockedValue}

@@ -1,4 +1,4 @@
-use Rattle.std.proofs.Common.{◌≡◌, ◌+◌, ◌<◌, ◌^◌, List, length, refl, sym, ap, subst, arith}
+use Rattle.std.proofs.Common.{◌+◌, sym, ap, subst, arith}
 use Rattle.heap_model.specs.declared.command.Command.TheVariants.{Collect}
 use Rattle.core_machine.specs.declared.seat.looks.Looks.{Looks}
 use Rattle.locked_heap.specs.declared.progress.Progress.{Progress}

@@ -2,7 +2,7 @@ use Rattle.std.proofs.Common.{◌≡◌, List, ◌++◌, length, ap, subst, ◌�
 use Rattle.heap_model.specs.declared.entry.Entry.{Entry}
 use Rattle.core_machine.specs.machine.Value.{MachineValue}
 use Rattle.locked_heap.specs.contracts.recorder.Recorder.{the_view}
-use Rattle.locked_heap.specs.Recorded.{Recorded, IsReached, MakesCall}
+use Rattle.locked_heap.specs.Recorded.{Recorded, MakesCall}
 use Rattle.locked_heap.proofs.Calls.{since, told_since, call_facts, makes_call}
 use Rattle.locked_heap.proofs.recorder.Recorder.call.Goals as goal
 
