@@ -13,12 +13,14 @@ use Rattle.core_machine.specs.machine.Machine.{State, seat_at}
 use Rattle.core_machine.specs.machine.Value.{MachineValue, log_of, spare_of, SpendsRoom}
 use Rattle.core_machine.specs.seat.Commands.{IsRecordCall, IsArrayCall}
 use Rattle.core_rule.specs.Laws.{EveryRunKeeps}
+use Rattle.core_rule.proofs.parties.Logs.{log_longer}
+use Rattle.core_rule.proofs.parties.OneSeat.{after_call}
+use Rattle.core_rule.proofs.parties.Standing.{gone_is, phase_near}
 use Rattle.heap_runs.specs.MachineHeap.{MachineHeapValue, play_state_of, IsBetweenCalls, CallsOnce}
 use Rattle.heap_runs.specs.PlayHeap.{MayCall}
-use Rattle.heap_runs.proofs.OneSeat.{after_call}
-use Rattle.heap_runs.proofs.Standing.{stands, gone_is, phase_near}
+use Rattle.heap_runs.proofs.Standing.{stands}
 use Rattle.heap_runs.proofs.Calling.{between_more}
-use Rattle.heap_runs.proofs.Noting.{Called, called, log_longer}
+use Rattle.heap_runs.proofs.Noting.{Called, called}
 
 -- what the log of the seat has more
 abbrev pub since : MachineValue → MachineValue → ℕ → List Entry
