@@ -18,6 +18,7 @@ pub mod Noting
 pub mod OneSeat
 pub mod Opened
 pub mod Runs
+pub mod Slacking
 pub mod Standing
 pub mod Told
 pub mod TurnFacts

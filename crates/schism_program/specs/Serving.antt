@@ -1,5 +1,5 @@
 -- What an input is that is played, or refused.
-use Rattle.std.specs.Prelude.{◌≡◌, ℕ, List, Some}
+use Rattle.std.specs.Prelude.{◌≡◌, ℕ, false, List, Some}
 use Rattle.script_text.specs.declared.cause.Cause.{Cause}
 use Rattle.script_text.specs.declared.script.Form.TheVariants as forms
 use Rattle.script_text.specs.declared.script.Script.{Script}
@@ -14,12 +14,12 @@ use Rattle.heap_runs.specs.Play.{IsPlay}
 abbrev pub IsPlayable : List ℕ → Type 0
 IsPlayable input = (script : Script) × IsScript forms.Play input script
 
--- the text is that of a play of the input's script
+-- the text is that of a play of the input's script without a pace
 pub record Plays (input text : List ℕ) : Type 0 where
   pub script : Script
   pub history : History
   pub spelled : IsScript forms.Play input script
-  pub played : IsPlay script history
+  pub played : IsPlay false script history
   pub rendered : text ≡ text_of (history_lines history)
 
 -- the first fault of the script is this line's cause

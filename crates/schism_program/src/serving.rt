@@ -35,7 +35,7 @@ fn played_text(alloc: Global, input: &[u8]) -> Result<Vec<u8>, WorkFault>
 {
     let script = script_of(alloc, input)?;
     let whole = MachineHeap::make(alloc, script.heap)?;
-    let history = play(alloc, whole, script.heap, &script)?;
+    let history = play(alloc, whole, script.heap, &script, None)?;
     let text = render_history(alloc, &history)?;
     Ok(text)
 }
