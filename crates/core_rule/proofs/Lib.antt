@@ -15,6 +15,7 @@ pub mod lists
 pub mod looks
 pub mod objects
 pub mod owners
+pub mod parties
 pub mod runs
 pub mod spines
 pub mod steps

@@ -21,12 +21,12 @@ use Rattle.core_machine.specs.seat.Commands.{IsServed}
 use Rattle.core_machine.specs.seat.Making.{next_object_id}
 use Rattle.core_machine.specs.seat.Seat.{Seat}
 use Rattle.core_rule.specs.Laws.{OneCallAtATime, StandsFor, FreeIsUnused, WordsAreUsed}
+use Rattle.core_rule.proofs.parties.MoreEvents.{Run-append, OneCall-append, after_all-append, history-append}
+use Rattle.core_rule.proofs.parties.OneSeat.{after_call, call_alone}
+use Rattle.core_rule.proofs.parties.Standing.{words_used, own_reserve, answered_last, gone_is, made_is, phase_near, number_left}
 use Rattle.heap_runs.specs.MachineHeap.{MachineHeapValue, play_state_of, WholeCalls, IsBetweenCalls, CallsOnce}
 use Rattle.heap_runs.specs.PlayHeap.{MayCall, AnswersOnce, IsEnough, seat_state_of}
 use Rattle.heap_runs.proofs.ArrayCalls.{answers_array}
-use Rattle.heap_runs.proofs.OneSeat.{after_call, call_alone}
-use Rattle.heap_runs.proofs.Runs.{Run-append, OneCall-append, after_all-append, history-append}
-use Rattle.heap_runs.proofs.Standing.{words_used, own_reserve, answered_last, gone_is, made_is, phase_near, number_left}
 
 -- every command but a collect is served
 served_once : (command : Command) → command ≢ commands.Collect → IsServed command

@@ -27,9 +27,9 @@ use Rattle.core_machine.specs.table.Layout.{at}
 use Rattle.heap_runs.specs.Collecting.{MakesInner, IsPresent, GoesOn, EndsFor}
 use Rattle.heap_runs.specs.MachineHeap.{MachineHeapValue, play_state_of, MovesOn, MovesAll, CollectsMachine, TurnsMachine}
 use Rattle.heap_runs.specs.PlayHeap.{TellsInCollect, TakesTurn, collector_state_of}
-use Rattle.heap_runs.proofs.Collectors.{all_collectors}
-use Rattle.heap_runs.proofs.OneSeat.{after_inner}
 use Rattle.heap_runs.proofs.TurnFacts.{added_is, none_is, wait_shows}
+use Rattle.core_rule.proofs.parties.Collectors.{all_collectors}
+use Rattle.core_rule.proofs.parties.OneSeat.{after_inner}
 
 -- moves after moves
 pub moves_then : (n m : ℕ) (heap : Heap) (number : ℕ) (old now new : State) (first next : List Entry) → MovesAll m heap number old now first → MovesAll n heap number now new next

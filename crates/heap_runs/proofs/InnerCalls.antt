@@ -7,29 +7,18 @@ use Rattle.heap_model.specs.declared.calls.collect.Inner.TheVariants as inners
 use Rattle.heap_model.specs.declared.entry.Entry.{Entry}
 use Rattle.heap_model.specs.declared.heap.Heap.{Heap}
 use Rattle.core_machine.specs.declared.place.Place.TheVariants.{Idle}
-use Rattle.core_machine.specs.declared.table.address.Address.TheVariants.{Phase}
 use Rattle.core_machine.specs.machine.InnerCalls.{PlaysInner, inner_entries, inner_events}
 use Rattle.core_machine.specs.machine.Machine.{State, seat_at}
 use Rattle.core_machine.specs.machine.Value.{MachineValue, log_of, spare_of, SpendsRoom}
 use Rattle.core_machine.specs.seat.Seat.{Seat}
-use Rattle.core_machine.specs.table.Layout.{at}
 use Rattle.core_rule.specs.Laws.{NotesNow}
+use Rattle.core_rule.proofs.parties.InnerTold.{few_told}
+use Rattle.core_rule.proofs.parties.Logs.{log_of_seat}
+use Rattle.core_rule.proofs.parties.OneSeat.{after_inner, inner_alone}
 use Rattle.heap_runs.specs.Collecting.{MayGoOn, MakesInner}
 use Rattle.heap_runs.specs.MachineHeap.{MachineHeapValue, IsBetweenCalls}
 use Rattle.heap_runs.proofs.Calling.{whole_with}
 use Rattle.heap_runs.proofs.MachineCalls.{since}
-use Rattle.heap_runs.proofs.Noting.{log_of_seat}
-use Rattle.heap_runs.proofs.OneSeat.{after_inner, inner_alone}
-
--- it tells one entry at most
-few_told : (heap : Heap) (words : List ℕ) (number answered : ℕ) (inner : Inner) → length (inner_entries heap words number answered inner) ≤ 1
-few_told heap words number answered inners.Look = omega arith
-few_told heap words number answered inners.Answer = elim (eqb_tells (at heap words Phase) answered) [
-  | inl same ↦ rw same.0 (omega arith)
-  | inr apart ↦ rw apart.0 (omega arith)
-]
-few_told heap words number answered (inners.Behind other) = omega arith
-few_told heap words number answered (inners.Note reply) = omega arith
 
 -- the machine is between calls again
 between_inner : (heap : Heap) (old new : State) (told : List Entry) (number : ℕ) (inner : Inner) → (plays : PlaysInner heap old new number inner) → NotesNow heap old inner → IsBetweenCalls heap old told

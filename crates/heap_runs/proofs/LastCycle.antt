@@ -2,9 +2,8 @@
 use Rattle.std.proofs.Common.{◌≡◌, ◌≢◌, ℕ, zero, suc, ◌+◌, ◌%◌, ◌==◌, ◌<◌, ◌||◌, Bool, true, false, ◌⊎◌, List, [], ◌∷◌, ◌++◌, inl, inr, refl, sym, ap, subst, ◌∙◌, append_assoc, arith}
 use Rattle.std.specs.List.{AllByRecursion, list_any}
 use Rattle.std.proofs.Math.Bool.{or-false}
-use Rattle.std.proofs.lemmas.Bool.{eq-eqb, ne_eqb, cond-true, or_right, or_left}
+use Rattle.std.proofs.lemmas.Bool.{eq-eqb, ne_eqb, or_right}
 use Rattle.std.proofs.lemmas.List.{append-nil}
-use Rattle.std.proofs.lemmas.List.Folds.{list_any-append}
 use Rattle.heap_model.specs.PhasePlan.{cycle_phases, rest}
 use Rattle.heap_model.specs.declared.calls.collector_calls.Turn.{Turn}
 use Rattle.heap_model.specs.declared.calls.collector_calls.Turn.TheVariants as turns
@@ -13,10 +12,11 @@ use Rattle.heap_model.specs.declared.entry.Entry.TheVariants as entries
 use Rattle.heap_model.specs.declared.reply.TurnReply.{TurnReply}
 use Rattle.heap_model.specs.declared.reply.TurnReply.TheVariants as replies
 use Rattle.heap_model.specs.declared.heap.Heap.{Heap}
-use Rattle.heap_model.specs.account.PhaseCounts.{phase, has_left, is_leave_of}
-use Rattle.heap_model.specs.account.Windows.{begins_cycle, up_to_last}
+use Rattle.heap_model.specs.account.PhaseCounts.{phase, has_left}
+use Rattle.heap_model.specs.account.Windows.{begins_cycle}
 use Rattle.heap_model.specs.calls.CollectorCalls.{StepsTo}
 use Rattle.heap_model.proofs.account_lemmas.Windows.{any-more}
+use Rattle.core_rule.proofs.parties.LeftStill.{left_still}
 use Rattle.heap_runs.specs.Play.{tells_step, EndsCycle}
 use Rattle.heap_runs.specs.PlayHeap.{PlayState, TakesTurn}
 use Rattle.heap_runs.specs.Playing.{AllGone, NotesCycle, NotesLastCycle}
@@ -125,16 +125,6 @@ comes_to_end old new cycle kept reply came =
     begun : (first now : ℕ) (some : Bool) → Begins first now some → now % cycle_phases ≡ 6 → some ≡ (first % cycle_phases == rest)
     begun first now some (inl none) last = absurd (omega (arith, none.0, last))
     begun first now some (inr there) last = there.1
-
--- who has left stays so
-pub left_still : (number : ℕ) (front behind : List Entry) → has_left number front ≡ true → has_left number (front ++ behind) ≡ true
-left_still number front behind left = list_any-append (is_leave_of number) front behind ∙ or_left _ _ left
-
--- up to the last entry that passes a test, which is one of the later ones
-pub up_to_last_later : (test : Entry → Bool) (front behind : List Entry) → list_any test behind ≡ true → up_to_last test (front ++ behind) ≡ front ++ up_to_last test behind
-up_to_last_later test [] behind some = refl
-up_to_last_later test (entry ∷ front) behind some =
-    cond-true _ _ [] (list_any-append test (entry ∷ front) behind ∙ or_right _ _ some) ∙ ap (λ es. entry ∷ es) (up_to_last_later test front behind some)
 
 -- once every seat has left no turn waits, so the cycle ends
 pub unhindered : (old new : PlayState) (reply : TurnReply) → AllGone old → ServesCycle old new reply → ComesToEnd old new

@@ -16,11 +16,11 @@ use Rattle.heap_model.specs.account.PhaseCounts.{has_left, is_leave_of}
 use Rattle.heap_model.specs.calls.SeatCalls.{leave_entries, last_gives}
 use Rattle.heap_model.specs.calls.SeatLaws.{EachCallCounts, EachCallSparesOthers}
 use Rattle.script_text.specs.declared.script.Line.{Line}
+use Rattle.core_rule.proofs.parties.LeftStill.{left_still}
 use Rattle.heap_runs.specs.PlayHeap.{PlayState}
 use Rattle.heap_runs.specs.Playing.{NotesCall, HasAnsweredLines, HaveLeft}
 use Rattle.heap_runs.proofs.Answering.{still_there}
 use Rattle.heap_runs.proofs.Following.{follows_call}
-use Rattle.heap_runs.proofs.LastCycle.{left_still}
 
 -- one number more
 range_more : (n : ℕ) → range_with_len 0 (n + 1) ≡ range_with_len 0 n ++ n ∷ []

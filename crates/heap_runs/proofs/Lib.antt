@@ -4,7 +4,6 @@ pub mod Beside
 pub mod Bounds
 pub mod Calling
 pub mod Collecting
-pub mod Collectors
 pub mod Following
 pub mod Growing
 pub mod InnerCalls
@@ -15,9 +14,7 @@ pub mod MachineTurns
 pub mod NextLine
 pub mod Noted
 pub mod Noting
-pub mod OneSeat
 pub mod Opened
-pub mod Runs
 pub mod Standing
 pub mod Told
 pub mod TurnFacts

@@ -1,59 +1,14 @@
 -- What a turn of the machine, noted, comes to.
-use Rattle.std.proofs.Common.{◌≡◌, ℕ, ◌+◌, ◌≤◌, List, [], ◌∷◌, ◌++◌, length, drop, filter, None, inl, inr, refl, sym, ap, ◌∙◌, length-append, arith}
-use Rattle.std.proofs.Math.Seq.{drop-append_seam}
-use Rattle.std.proofs.lemmas.List.Elements.{filter-append}
+use Rattle.std.proofs.Common.{◌≡◌, ℕ, List, length, drop, sym, ap, ◌∙◌}
 use Rattle.heap_model.specs.declared.heap.Heap.{Heap}
 use Rattle.heap_model.specs.declared.entry.Entry.{Entry}
-use Rattle.heap_model.specs.declared.entry.Entry.TheVariants.{Ends}
-use Rattle.heap_model.specs.account.Noting.{is_collectors}
-use Rattle.heap_model.specs.account.PhaseCounts.{phase}
-use Rattle.heap_model.specs.declared.calls.collector_calls.Turn.{Turn}
 use Rattle.heap_model.specs.declared.calls.collector_calls.Turn.TheVariants as turns
-use Rattle.heap_model.specs.calls.CollectorCalls.{CollectorState, ComesTo}
-use Rattle.core_machine.specs.machine.Machine.{State, Turns, Can, state_after, entries}
+use Rattle.core_machine.specs.machine.Machine.{Turns, Can, state_after, entries}
 use Rattle.core_machine.specs.machine.Value.{MachineValue, log_of}
-use Rattle.core_rule.specs.Laws.{StandsFor, EachEventKeeps, EveryRunKeeps, EachTurnComesTo}
+use Rattle.core_rule.specs.Laws.{EachEventKeeps, EveryRunKeeps, EachTurnComesTo}
+use Rattle.core_rule.proofs.parties.TurnLogs.{TurnFacts, turn_facts}
 use Rattle.heap_runs.specs.MachineHeap.{MachineHeapValue, IsBetweenCalls}
-use Rattle.heap_runs.proofs.Collectors.{all_collectors}
-use Rattle.heap_runs.proofs.Noting.{log_of_collector}
 use Rattle.heap_runs.proofs.Standing.{stands}
-
--- a turn adds one entry at most
-few_added : (old new : CollectorState) (turn : Turn) → ComesTo old new turn → length new.log ≤ length old.log + 1
-few_added old new turns.Stepped (inl none) = omega (arith, ap (length {A = Entry}) none.0)
-few_added old new turns.Stepped (inr steps) = omega (arith, ap (length {A = Entry}) steps.2, length-append old.log (steps.0 ∷ []))
-few_added old new (turns.Waits number answer p) comes = omega (arith, ap (length {A = Entry}) comes.0.0)
-few_added old new (turns.Ended cycle kept) comes = omega (arith, ap (length {A = Entry}) comes.0, length-append old.log (Ends cycle kept ∷ []))
-
--- the log has the turn's entries more, and these are one at most
-pub record TurnFacts (one two : MachineValue) (party : ℕ) : Type 0 where
-  pub longer : length (log_of one party) ≤ length (log_of two party)
-  pub told : drop (length (log_of one party)) (log_of two party) ≡ entries one.heap one.state Turns
-  pub few : length (entries one.heap one.state Turns) ≤ 1
-  pub many : length (log_of two (length one.state.seats)) ≡ length (log_of one (length one.state.seats)) + length (entries one.heap one.state Turns)
-
-pub turn_facts : EachEventKeeps → EachTurnComesTo → (one two : MachineValue) (told : List Entry) (party : ℕ) → StandsFor one.heap one.state [] told → Can one.heap one.state Turns
-    → two.state ≡ state_after one.heap one.state Turns → party ≡ length one.state.seats → TurnFacts one two party
-turn_facts keeps each one two told party s can after is =
-    let added = entries one.heap one.state Turns in
-    let next = keeps one.heap one.state s.book Turns s.stands can in
-    let old : CollectorState = record { log = one.state.collector.log; spare = 0; phase = phase s.book.history; turns = 0; last_turn = None } in
-    let new : CollectorState = record { log = two.state.collector.log; spare = 0; phase = phase (s.book.history ++ added); turns = 0; last_turn = None } in
-    let log_is : two.state.collector.log ≡ filter is_collectors (s.book.history ++ added)
-    = ap (λ (t : State). t.collector.log) after ∙ next.stands.rule.collector_stands.log ∙ ap (filter is_collectors) next.grown in
-    let comes = each one.heap one.state s.book old new s.stands can (record { log_told = s.stands.rule.collector_stands.log; phase_told = refl }) (record { log_told = log_is; phase_told = refl }) in
-    let more : two.state.collector.log ≡ one.state.collector.log ++ added
-    = log_is ∙ filter-append is_collectors s.book.history added ∙ ap (λ es. filter is_collectors s.book.history ++ es) (all_collectors added comes.0) ∙ ap (λ es. es ++ added) (sym s.stands.rule.collector_stands.log) in
-    let one_log = log_of_collector one party is in
-    let two_log = log_of_collector two party (is ∙ ap (λ (t : State). length t.seats) (sym after)) in
-    let logs : log_of two party ≡ log_of one party ++ added = two_log ∙ more ∙ ap (λ es. es ++ added) (sym one_log) in
-    let many = ap (length {A = Entry}) more ∙ length-append one.state.collector.log added in
-    record {
-      longer = omega (arith, ap (length {A = Entry}) logs, length-append (log_of one party) added);
-      told = rw logs (drop-append_seam (log_of one party) added);
-      few = omega (arith, few_added old new _ comes.1, many);
-      many = rw (log_of_collector two (length one.state.seats) (ap (λ (t : State). length t.seats) (sym after)), log_of_collector one (length one.state.seats) refl) many;
-    }
 
 -- the turn's facts where whole calls and turns led to the machine, whose heap is this one
 pub noted_turn : EveryRunKeeps → EachEventKeeps → EachTurnComesTo → (whole : MachineHeapValue) (two : MachineValue) (heap : Heap) → IsBetweenCalls whole.machine.heap whole.machine.state whole.entries

@@ -21,12 +21,12 @@ use Rattle.core_machine.specs.seat.Seat.{Seat}
 use Rattle.core_machine.specs.table.Layout.{at}
 use Rattle.core_rule.specs.Laws.{StandsFor}
 use Rattle.core_rule.specs.Looks.{WasSeen}
+use Rattle.core_rule.proofs.parties.OneSeat.{after_inner}
+use Rattle.core_rule.proofs.parties.Standing.{word_is, answer_word_is}
 use Rattle.heap_runs.specs.Collecting.{MayGoOn, MakesInner, IsPresent, ComesTo, EndsFor, EndsWholeFor, seen_by}
 use Rattle.heap_runs.specs.MachineHeap.{MachineHeapValue, IsBetweenCalls, CollectsMachine, play_state_of}
 use Rattle.heap_runs.specs.PlayHeap.{AnswersCollect, TellsTurn}
 use Rattle.heap_runs.proofs.Collecting.{goes_then, machine_then, machine_inner}
-use Rattle.heap_runs.proofs.OneSeat.{after_inner}
-use Rattle.heap_runs.proofs.Standing.{word_is, answer_word_is}
 
 -- a seat is there after an inner call
 pub present_still : (old new : MachineHeapValue) (number : ℕ) (inner : Inner) → MakesInner old new number inner → IsPresent old number → IsPresent new number

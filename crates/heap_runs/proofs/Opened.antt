@@ -1,26 +1,17 @@
 -- A machine that has just been opened.
-use Rattle.std.proofs.Common.{◌≡◌, ℕ, ◌<◌, List, [], length, refl, sym, ap, subst, ◌∙◌, arith}
-use Rattle.std.proofs.lemmas.List.FromFn.{length-map-range_with_len, get_or-map-range_with_len}
+use Rattle.std.proofs.Common.{◌≡◌, List, [], refl}
 use Rattle.heap_model.specs.declared.heap.Heap.{Heap}
 use Rattle.heap_model.specs.declared.entry.Entry.{Entry}
 use Rattle.heap_model.specs.Heap.{IsHeap}
-use Rattle.core_machine.specs.declared.place.Place.TheVariants.{Idle}
-use Rattle.core_machine.specs.machine.Machine.{State, seat_at}
-use Rattle.core_machine.specs.machine.Opening.{IsOpening, opening_seat}
-use Rattle.core_machine.specs.seat.Seat.{Seat, absent_seat}
+use Rattle.core_machine.specs.machine.Machine.{State}
+use Rattle.core_machine.specs.machine.Opening.{IsOpening}
+use Rattle.core_rule.proofs.parties.OpenedSeats.{idle_opened}
 use Rattle.heap_runs.specs.MachineHeap.{IsBetweenCalls}
-
--- each of its seats is as at the opening
-opening_seats : (heap : Heap) (state : State) → IsOpening heap state → (P : Seat → Type 0) → (number : ℕ) → number < heap.seats → P (opening_seat heap number) → P (seat_at state number)
-opening_seats heap state opens P number below holds =
-    subst (λ (seats : List Seat). P (seat_at (record state { seats = seats }) number)) (sym opens.seats_open)
-    (subst P (sym (get_or-map-range_with_len (opening_seat heap) 0 heap.seats number number absent_seat below (omega arith))) holds)
 
 -- nothing was called yet
 pub between_none : (heap : Heap) (state : State) (told : List Entry) → IsHeap heap → IsOpening heap state → told ≡ [] → IsBetweenCalls heap state told
 between_none heap state told limits opens none =
-    let seats : length state.seats ≡ heap.seats = ap (length {A = Seat}) opens.seats_open ∙ length-map-range_with_len (opening_seat heap) 0 heap.seats in
     rw none (record {
       calls = record { limits = limits; opening = state; opens = opens; events = []; run = tt; whole = tt; ends = refl; shown = refl };
-      all_idle = λ number below. opening_seats heap state opens (λ (t : Seat). t.place ≡ Idle) number (omega (arith, below, seats)) refl;
+      all_idle = idle_opened heap state opens;
     })

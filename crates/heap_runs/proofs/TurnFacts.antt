@@ -15,7 +15,7 @@ use Rattle.heap_model.specs.account.Turned.{is_of_heap}
 use Rattle.heap_model.specs.calls.CollectorCalls.{ComesTo, StepsTo}
 use Rattle.heap_runs.specs.PlayHeap.{PlayState, TakesTurn, collector_state_of}
 use Rattle.heap_runs.specs.Turning.{IsStep, TakesTurns, HasTurned, HasComeTo}
-use Rattle.heap_runs.proofs.Collectors.{all_collectors}
+use Rattle.core_rule.proofs.parties.Collectors.{all_collectors}
 
 -- an entry of the collector that isn't what one of its commands was answered
 abbrev pub IsOwnStep : Entry → Type 0

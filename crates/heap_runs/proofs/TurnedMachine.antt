@@ -14,10 +14,10 @@ use Rattle.heap_model.specs.calls.CollectorCalls.{ComesTo}
 use Rattle.core_machine.specs.machine.Machine.{State, Turns, Can, Event, Run, next_turn, found_by, state_after, state_after_all, entries, history}
 use Rattle.core_rule.specs.Laws.{OneCallAtATime, StandsFor, EachTurnComesTo, EachWaitIsBehind, IsToldBy}
 use Rattle.core_rule.specs.TurnsLeft.{EachTurnLeavesFewer}
+use Rattle.core_rule.proofs.parties.Collectors.{all_collectors}
+use Rattle.core_rule.proofs.parties.MoreEvents.{Run-append, OneCall-append, after_all-append, history-append}
 use Rattle.heap_runs.specs.MachineHeap.{MachineHeapValue, play_state_of, IsBetweenCalls, TurnsMachine}
 use Rattle.heap_runs.specs.PlayHeap.{TakesTurn, WaitsRightly, collector_state_of}
-use Rattle.heap_runs.proofs.Collectors.{all_collectors}
-use Rattle.heap_runs.proofs.Runs.{Run-append, OneCall-append, after_all-append, history-append}
 
 module _ (heap : Heap) (state : State) (told : List Entry) where
   pub between_turned : IsBetweenCalls heap state told → Can heap state Turns → IsBetweenCalls heap (state_after heap state Turns) (told ++ entries heap state Turns)

@@ -18,11 +18,11 @@ use Rattle.core_machine.specs.seat.Seat.{Seat}
 use Rattle.core_machine.specs.table.Layout.{at}
 use Rattle.core_rule.specs.Laws.{StandsFor}
 use Rattle.core_rule.specs.TurnsLeft.{turns_left, turns_left_at}
+use Rattle.core_rule.proofs.parties.OneSeat.{after_inner}
+use Rattle.core_rule.proofs.parties.Standing.{word_is, answered_last, phase_near}
 use Rattle.heap_runs.specs.Collecting.{MakesInner, IsPresent}
 use Rattle.heap_runs.specs.MachineHeap.{MachineHeapValue, IsBetweenCalls, TurnsMachine, play_state_of}
 use Rattle.heap_runs.specs.PlayHeap.{TakesTurn}
-use Rattle.heap_runs.proofs.OneSeat.{after_inner}
-use Rattle.heap_runs.proofs.Standing.{word_is, answered_last, phase_near}
 
 -- how many phases the seat is behind, which is one at most, and how many turns are left
 abbrev pub behind_by : MachineHeapValue → ℕ → ℕ

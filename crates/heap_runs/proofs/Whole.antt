@@ -17,12 +17,12 @@ use Rattle.script_text.specs.declared.script.Script.{Script}
 use Rattle.reply_text.specs.declared.history.History.{History}
 use Rattle.reply_text.specs.declared.history.SpaceMark.{SpaceMark}
 use Rattle.log_merge.specs.Legal.{ShowsUse, ShowsCounts}
+use Rattle.core_rule.proofs.parties.LeftStill.{left_still, up_to_last_later}
 use Rattle.heap_runs.specs.Play.{lines_answered, IsLastCycle, IsPlay}
 use Rattle.heap_runs.specs.PlayHeap.{PlayState, IsPlayed}
 use Rattle.heap_runs.specs.Playing.{Follows, HasAnsweredLines, HaveLeft, NotesLastCycle}
 use Rattle.heap_runs.proofs.Bounds.{returned_within}
 use Rattle.heap_runs.proofs.Following.{follows_cycle}
-use Rattle.heap_runs.proofs.LastCycle.{left_still, up_to_last_later}
 
 -- what is in use by the heap's entries is so by the history
 shows_use : TurnedCountNothing → (heap : Heap) (state : PlayState) (history : List Entry) (used : ℕ) → Follows heap state history → ShowsUse state.entries used → ShowsUse history used

@@ -26,7 +26,7 @@ use Rattle.core_machine.specs.machine.Value.{MachineValue, IsMachine, log_of, sp
 use Rattle.core_machine.proofs.call_lemmas.Saying.{Says, IsOver}
 use Rattle.core_machine.proofs.call_lemmas.Stages.{ComesDue, Answered, Stage}
 use Rattle.core_machine.specs.seat.Awaiting.{entries_awaited_at}
-use Rattle.core_machine.specs.seat.Commands.{IsRecord, IsArray}
+use Rattle.core_machine.specs.seat.Commands.{IsRecordCall, IsArrayCall}
 use Rattle.core_machine.proofs.call_lemmas.Calling.{Playing, playing_more}
 use Rattle.core_machine.proofs.call_lemmas.CallRoom.{log_of_seat, step_room, spends_on}
 use Rattle.core_machine.proofs.call_lemmas.Owes.{owes, steps_left}
@@ -187,8 +187,8 @@ pub record CallOver (heap : Heap) (old now : State) (number : ℕ) (command : Co
   pub steps : PlaysCall heap old now number command reply
   pub counts : CountsCall (seat_at old number) (seat_at now number) command
   pub leave : command ≡ Leave → TellsLeave old now number
-  pub answer : IsRecord command → AnswersNew heap old now number command reply
-  pub array : IsArray command → AnswersArray heap old now number command reply
+  pub answer : IsRecordCall command → AnswersNew heap old now number command reply
+  pub array : IsArrayCall command → AnswersArray heap old now number command reply
   pub refused : IsPlaceRefusal reply → LeavesAll old now number
 
 pub call_over : {heap : Heap} {old : State} (now : MachineValue) {number : ℕ} {command : Command} {reply : Reply} → Playing heap old now.state number command

@@ -10,7 +10,7 @@ use Rattle.core_machine.specs.machine.Value.{IsMachine}
 use Rattle.core_machine.specs.seat.Seat.{Seat}
 use Rattle.core_machine.specs.table.Layout.{at}
 use Rattle.core_rule.specs.Book.{Book}
-use Rattle.core_rule.specs.Budgets.{BudgetsStand, SweepCounts, of_seats, granted, granted_at, placed_at, refused_at, kept_sum, dead_sum, words_of, words_in_half, nodes_in, placed_words, unreturned, returned_in_cycle}
+use Rattle.core_rule.specs.Budgets.{BudgetsStand, SweepCounts, of_seats, granted, granted_at, placed_at, refused_at, kept_sum, dead_sum, words_of_object, words_in_half, nodes_in, placed_words, unreturned, returned_in_cycle}
 use Rattle.core_rule.specs.Owners.{SpineOwner}
 use Rattle.core_rule.specs.Spines.{next_spine}
 use Rattle.core_rule.proofs.spines.BudgetFrames.{stepped, seats_change, SameGrants, kept_same, dead_same, here_same, counts_same}
@@ -31,10 +31,10 @@ pub record TellsBorn (history now : List Entry) (given : ℕ) : Type 0 where
 
 -- it keeps an array with so many words, of which so many are in this half, and what is to be freed is as before
 pub record KeepsBorn (heap : Heap) (book now : Book) (stage : Stage) (half given placed : ℕ) : Type 0 where
-  pub kept : kept_sum heap (words_of (nodes_in heap now)) now.owner ≡ kept_sum heap (words_of (nodes_in heap book)) book.owner + given
+  pub kept : kept_sum heap (words_of_object (nodes_in heap now)) now.owner ≡ kept_sum heap (words_of_object (nodes_in heap book)) book.owner + given
   pub in_half : kept_sum heap (words_in_half half (nodes_in heap now) now.spines) now.owner ≡ kept_sum heap (words_in_half half (nodes_in heap book) book.spines) book.owner + placed
-  pub dead : dead_sum heap (words_of (nodes_in heap now)) now.owner ≡ dead_sum heap (words_of (nodes_in heap book)) book.owner
-  pub counts : SweepCounts (words_of (nodes_in heap book)) book.owner stage → SweepCounts (words_of (nodes_in heap now)) now.owner stage
+  pub dead : dead_sum heap (words_of_object (nodes_in heap now)) now.owner ≡ dead_sum heap (words_of_object (nodes_in heap book)) book.owner
+  pub counts : SweepCounts (words_of_object (nodes_in heap book)) book.owner stage → SweepCounts (words_of_object (nodes_in heap now)) now.owner stage
 
 module _ (heap : Heap) (state : State) (book : Book) (number : ℕ) (here : number < heap.seats) (seated : length state.seats ≡ heap.seats) (words : List ℕ) (seat : Seat)
     (given placed refused : ℕ) (was : HasWeights (next_spine heap state.words).half (seat_at state number) given placed refused)

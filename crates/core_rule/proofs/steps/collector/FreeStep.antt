@@ -14,7 +14,7 @@ use Rattle.core_machine.specs.machine.Machine.{State}
 use Rattle.core_machine.specs.machine.Sums.{sum_upto}
 use Rattle.core_machine.specs.machine.Value.{IsMachine}
 use Rattle.core_rule.specs.Book.{Book}
-use Rattle.core_rule.specs.Budgets.{SweepCounts, dead_sum, words_of, nodes_in, returning}
+use Rattle.core_rule.specs.Budgets.{SweepCounts, dead_sum, words_of_object, nodes_in, returning}
 use Rattle.core_rule.specs.Marking.{AfterMarking, MarkingStands}
 use Rattle.core_rule.specs.Sweep.{AreFreed, AreDead, SweepStands}
 use Rattle.core_rule.specs.Objects.{node_at}
@@ -75,7 +75,7 @@ module _ (heap : Heap) (state : State) (book : Book) (rule : Rule heap state boo
       (owners.freed_further book.owner group dead fits.dead_within told.1 told.0)
 
   abbrev spine_words : ℕ → ℕ
-  spine_words = words_of (nodes_in heap book)
+  spine_words = words_of_object (nodes_in heap book)
 
   -- the spine words of what is freed are returned next
   counts : counted ≡ sum_upto 16 (at_place heap spine_words book.owner group dead told.1)
@@ -106,14 +106,14 @@ module _ (heap : Heap) (state : State) (book : Book) (rule : Rule heap state boo
       let history = told_freed heap state book rule group dead fits.sweeps.group_within fits.dead_within told.1 in
       let none : returning state.collector.stage ≡ 0 = rw freeing refl in
       let less = dead_less heap spine_words book.owner group dead fits.sweeps.group_within fits.dead_within told.1 in
-      let same_graph = ap (λ (g : Graph). dead_sum heap (words_of (node_at g book.made)) now.owner) (graph_freed heap state book rule group dead fits.sweeps.group_within fits.dead_within told.1) in
+      let same_graph = ap (λ (g : Graph). dead_sum heap (words_of_object (node_at g book.made)) now.owner) (graph_freed heap state book rule group dead fits.sweeps.group_within fits.dead_within told.1) in
       record {
         less = omega (arith, none, less, same_graph, counts, returns_next);
         budget = omega (arith, leaves.budget);
         granted = history.granted;
         told = omega (arith, history.returned);
         in_cycle = omega (arith, history.in_cycle);
-        counts = after_freed_either (SweepCounts (words_of (nodes_in heap now)) now.owner) heap group counted (after_swept_either (SweepCounts (words_of (nodes_in heap now)) now.owner) heap group tt (λ last. tt)) tt;
+        counts = after_freed_either (SweepCounts (words_of_object (nodes_in heap now)) now.owner) heap group counted (after_swept_either (SweepCounts (words_of_object (nodes_in heap now)) now.owner) heap group tt (λ last. tt)) tt;
       }
 
   keeps : IsMachine heap (after_turn state words (freed (length (set_in group dead))))

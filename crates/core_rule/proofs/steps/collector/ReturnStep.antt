@@ -22,7 +22,7 @@ use Rattle.core_machine.specs.machine.Machine.{State, seat_at}
 use Rattle.core_machine.specs.table.Layout.{at}
 use Rattle.core_machine.proofs.table_lemmas.Addresses.{at-put_same}
 use Rattle.core_rule.specs.Book.{Book}
-use Rattle.core_rule.specs.Budgets.{SweepCounts, dead_sum, words_of, nodes_in, returning}
+use Rattle.core_rule.specs.Budgets.{SweepCounts, dead_sum, words_of_object, nodes_in, returning}
 use Rattle.core_rule.specs.Marking.{MarkingStands}
 use Rattle.core_rule.specs.Objects.{node_at}
 use Rattle.core_rule.specs.Phases.{CollectorAgrees}
@@ -126,14 +126,14 @@ module _ (heap : Heap) (state : State) (book : Book) (rule : Rule heap state boo
       (same_kept book.owner) counted
   sweeps_on =
       let none = next (λ stage. returning stage ≡ 0) refl refl in
-      let same = ap (λ (g : Graph). dead_sum heap (words_of (node_at g book.made)) book.owner) graph in
+      let same = ap (λ (g : Graph). dead_sum heap (words_of_object (node_at g book.made)) book.owner) graph in
       record {
         less = omega (arith, about, none, same);
         budget = fallen;
         granted = none_granted_by book.history entry refl;
         told = total-more (λ e. e.returned) book.history entry;
         in_cycle = ap words_returned (after_last-no begins_cycle book.history entry refl) ∙ total-more (λ e. e.returned) (since_cycle book.history) entry;
-        counts = next (SweepCounts (words_of (nodes_in heap later)) book.owner) tt tt;
+        counts = next (SweepCounts (words_of_object (nodes_in heap later)) book.owner) tt tt;
       }
 
 pub return_keeps : (group counted : ℕ) → StageKeeps (stages.Returning group counted)

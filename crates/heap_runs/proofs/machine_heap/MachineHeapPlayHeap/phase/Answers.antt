@@ -2,9 +2,10 @@ use Rattle.std.proofs.Common.{◌≤◌, length, filter, ap, subst, ◌∙◌}
 use Rattle.heap_model.specs.account.Noting.{is_collectors}
 use Rattle.heap_model.specs.account.PhaseCounts.{phase}
 use Rattle.heap_runs.specs.MachineHeap.{MachineHeapValue}
-use Rattle.heap_runs.proofs.Collectors.{phases_told}
-use Rattle.heap_runs.proofs.Standing.{stands, word_is}
+use Rattle.heap_runs.proofs.Standing.{stands}
 use Rattle.heap_runs.proofs.machine_heap.MachineHeapPlayHeap.phase.Goals as goal
+use Rattle.core_rule.proofs.parties.Collectors.{phases_told}
+use Rattle.core_rule.proofs.parties.Standing.{word_is}
 
 pub returns-clause-phase : goal.returns-clause-phase
 returns-clause-phase c =

@@ -1,0 +1,24 @@
+-- The seats of a machine that has just been opened.
+use Rattle.std.proofs.Common.{◌≡◌, ℕ, ◌<◌, List, length, refl, sym, ap, subst, ◌∙◌, arith}
+use Rattle.std.proofs.lemmas.List.FromFn.{length-map-range_with_len, get_or-map-range_with_len}
+use Rattle.heap_model.specs.declared.heap.Heap.{Heap}
+use Rattle.core_machine.specs.declared.place.Place.TheVariants.{Idle}
+use Rattle.core_machine.specs.machine.Machine.{State, seat_at}
+use Rattle.core_machine.specs.machine.Opening.{IsOpening, opening_seat}
+use Rattle.core_machine.specs.seat.Seat.{Seat, absent_seat}
+use Rattle.core_rule.specs.Laws.{AllIdle}
+
+-- each of its seats is as at the opening
+pub opening_seats : (heap : Heap) (state : State) → IsOpening heap state → (P : Seat → Type 0) → (number : ℕ) → number < heap.seats → P (opening_seat heap number) → P (seat_at state number)
+opening_seats heap state opens P number below holds =
+    subst (λ (seats : List Seat). P (seat_at (record state { seats = seats }) number)) (sym opens.seats_open)
+    (subst P (sym (get_or-map-range_with_len (opening_seat heap) 0 heap.seats number number absent_seat below (omega arith))) holds)
+
+-- there are the heap's
+pub seats_opened : (heap : Heap) (state : State) → IsOpening heap state → length state.seats ≡ heap.seats
+seats_opened heap state opens = ap (length {A = Seat}) opens.seats_open ∙ length-map-range_with_len (opening_seat heap) 0 heap.seats
+
+-- none has a call in flight
+pub idle_opened : (heap : Heap) (state : State) → IsOpening heap state → AllIdle state
+idle_opened heap state opens number below =
+    opening_seats heap state opens (λ (t : Seat). t.place ≡ Idle) number (omega (arith, below, seats_opened heap state opens)) refl

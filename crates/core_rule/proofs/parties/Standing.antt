@@ -1,0 +1,87 @@
+-- What the rule says of a machine whose seat has no call in flight, by the entries so far.
+use Rattle.std.proofs.Common.{◌≡◌, ℕ, ◌+◌, ◌<◌, ◌≤◌, false, List, [], length, refl, sym, ap, subst, ◌∙◌, inl, inr, arith}
+use Rattle.heap_model.specs.declared.heap.Heap.{Heap}
+use Rattle.heap_model.specs.declared.command.Command.{Command}
+use Rattle.heap_model.specs.declared.command.Command.TheVariants as commands
+use Rattle.heap_model.specs.declared.entry.Entry.{Entry}
+use Rattle.heap_model.specs.account.Cycles.{graph_of}
+use Rattle.heap_model.specs.account.PhaseCounts.{phase, last_answer, has_left}
+use Rattle.heap_model.specs.account.Space.{fragments_gained, fragments_lost, taken_of, spent_of, words_granted, words_returned}
+use Rattle.heap_model.specs.calls.SeatCalls.{HasNumber}
+use Rattle.heap_model.specs.graph.Objects.{graph_seat}
+use Rattle.core_machine.specs.declared.place.Place.TheVariants.{Idle}
+use Rattle.core_machine.specs.declared.table.address.Address.TheVariants.{Phase, Answer, Budget}
+use Rattle.core_machine.specs.machine.Calls.{IsPhaseNear}
+use Rattle.core_machine.specs.machine.Machine.{State, seat_at}
+use Rattle.core_machine.specs.seat.Fits.{IsAtRest, FitsPlace}
+use Rattle.core_machine.specs.seat.Seat.{Seat, HasNumberLeft}
+use Rattle.core_machine.specs.table.Layout.{at}
+use Rattle.core_rule.specs.Laws.{StandsFor, AllIdle, WordsAreUsed}
+use Rattle.core_rule.specs.Holding.{fragments_in_hand}
+use Rattle.core_rule.specs.Phases.{answer_word}
+
+module _ (heap : Heap) (state : State) (told : List Entry) (s : StandsFor heap state [] told) where
+  -- the phase word is the phase
+  pub word_is : at heap state.words Phase ≡ phase told
+  word_is = s.stands.rule.heap_stands.cycle.word ∙ ap phase s.grown
+
+  -- no more fragments were lost than gained
+  pub none_short : fragments_lost told ≤ fragments_gained told
+  none_short = subst (λ es. fragments_lost es ≤ fragments_gained es) s.grown (omega (arith, s.stands.rule.heap_stands.used))
+
+  -- the budget word is the spine words in use
+  pub words_used : WordsAreUsed → AllIdle state → (at heap state.words Budget + words_returned told ≡ words_granted told) × (at heap state.words Budget ≤ heap.spine)
+  words_used words idle =
+      subst (λ es. (at heap state.words Budget + words_returned es ≡ words_granted es) × (at heap state.words Budget ≤ heap.spine)) s.grown (words heap state s.book s.stands.rule idle)
+
+  pub seated : length state.seats ≡ heap.seats
+  seated = s.stands.rule.machine.seated
+
+  module _ (number : ℕ) (below : number < heap.seats) (idle : (seat_at state number).place ≡ Idle) where
+    abbrev seat : Seat
+    seat = seat_at state number
+
+    -- what it has of its own is its reserve
+    pub own_reserve : spent_of number told + length seat.reserve ≡ taken_of number told
+    own_reserve =
+        let rest : IsAtRest seat = subst (FitsPlace heap seat) idle (s.stands.rule.machine.fit number (rw seated below)).at_place in
+        let unborn = (s.stands.rule.seats_stand number below).told.counts.unborn in
+        let none : length (fragments_in_hand seat.hand seat.body) ≡ 0 = rw (rest.no_body, rest.empty_hand) refl in
+        subst (λ es. spent_of number es + length seat.reserve ≡ taken_of number es) s.grown (omega (arith, unborn, none))
+
+    pub answered_last : seat.answered ≡ last_answer number told
+    answered_last = sym (s.stands.rule.seats_stand number below).cycle.answers_told.told ∙ ap (last_answer number) s.grown
+
+    pub gone_is : (graph_seat (graph_of heap told) number).left ≡ seat.left
+    gone_is = ap (λ es. (graph_seat (graph_of heap es) number).left) (sym s.grown) ∙ (s.stands.rule.seats_stand number below).told.counts.leaves
+
+    pub made_is : seat.made ≡ length (graph_seat (graph_of heap told) number).objects
+    made_is = (s.stands.rule.seats_stand number below).told.counts.numbered ∙ ap (λ es. length (graph_seat (graph_of heap es) number).objects) s.grown
+
+    pub sets_are : seat.sets ≡ (graph_seat (graph_of heap told) number).sets
+    sets_are = (s.stands.rule.seats_stand number below).told.counts.stamped ∙ ap (λ es. (graph_seat (graph_of heap es) number).sets) s.grown
+
+    -- the phase word is the phase that the seat answered last, or the next
+    pub phase_near : seat.left ≡ false → IsPhaseNear heap state number
+    phase_near present = elim ((s.stands.rule.seats_stand number below).cycle.answers_told.near present) [
+      | inl same ↦ inl (word ∙ sym same)
+      | inr next ↦ inr (word ∙ sym next)
+    ]
+      where
+        word : at heap state.words Phase ≡ phase s.book.history
+        word = s.stands.rule.heap_stands.cycle.word
+
+    pub number_left : (command : Command) → HasNumber (record { heap = heap; number = number; mine = told; spare = 0 }) command → HasNumberLeft seat.made seat.sets command
+    number_left (commands.New d fields) has = rw made_is has
+    number_left (commands.Array d cells) has = rw made_is has
+    number_left (commands.Set r i v) has = rw sets_are has
+    number_left _ has = tt
+
+-- the word of a seat that hasn't left is its last answer
+pub answer_word_is : (heap : Heap) (state : State) (told : List Entry) → StandsFor heap state [] told → (number answer : ℕ) → number < heap.seats → has_left number told ≡ false → last_answer number told ≡ answer
+    → at heap state.words (Answer number) ≡ answer
+answer_word_is heap state told s number answer below there last =
+    let agree = (s.stands.rule.seats_stand number below).cycle.answers_told in
+    let stays : (seat_at state number).left ≡ false = sym agree.leaves ∙ ap (has_left number) s.grown ∙ there in
+    let gave : (seat_at state number).answered ≡ answer = sym agree.told ∙ ap (last_answer number) s.grown ∙ last in
+    agree.word ∙ ap (λ b. answer_word b (seat_at state number).answered) stays ∙ gave

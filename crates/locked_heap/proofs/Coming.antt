@@ -1,0 +1,163 @@
+-- How far the seats have come after a call, an inner call or a turn.
+use Rattle.std.proofs.Common.{◌≡◌, ◌≢◌, ℕ, ◌+◌, ◌-◌, ◌*◌, ◌^◌, ◌<◌, ◌≤◌, ◌⊎◌, true, false, List, [], ◌∷◌, ◌++◌, length, take, Some, inl, inr, refl, sym, ap, subst, ◌∙◌, arith}
+use Rattle.std.specs.Prelude.{slice_set, slice_get, slice_index_or}
+use Rattle.std.proofs.lemmas.Bool.Decides.{eqb_tells}
+use Rattle.std.proofs.lemmas.List.{append-nil, take_more, get_or-set_same, get_or-set_other, length-set}
+use Rattle.std.proofs.lemmas.Option.{slice_get_within, get_or_from_slice_get, slice_get_read}
+use Rattle.heap_model.specs.declared.command.Command.{Command}
+use Rattle.heap_model.specs.declared.command.Command.TheVariants.{Leave}
+use Rattle.heap_model.specs.declared.entry.Entry.{Entry}
+use Rattle.core_machine.specs.machine.Machine.{State, seat_at}
+use Rattle.core_machine.specs.seat.Seat.{Seat}
+use Rattle.core_rule.proofs.parties.OneSeat.{SameBut}
+use Rattle.locked_heap.specs.declared.progress.Progress.{Progress}
+use Rattle.locked_heap.specs.Given.{Given, script_of}
+use Rattle.locked_heap.specs.Locked.{AllHaveCome}
+use Rattle.locked_heap.specs.Progress.{at_begin, progress_at, leave_told, IsPaid, HasCome}
+use Rattle.locked_heap.specs.Told.{commands_told, waits_told}
+use Rattle.locked_heap.proofs.TellsNone.{TellsNone, TellsOne, commands_more, waits_more}
+
+-- the seat is where it was with its objects and sets, and has found another one behind as often at least
+pub record StaysOn (seat now : Seat) : Type 0 where
+  pub left_same : now.left ≡ seat.left
+  pub made_same : now.made ≡ seat.made
+  pub sets_same : now.sets ≡ seat.sets
+  pub finds : seat.looks.waits ≤ now.looks.waits
+
+pub same_stays : (seat now : Seat) → now ≡ seat → StaysOn seat now
+same_stays seat now is = subst (StaysOn seat) (sym is) (record { left_same = refl; made_same = refl; sets_same = refl; finds = omega arith })
+
+-- a paid reply stays so, with as many finds or more
+pub paid_still : (patience replies finds more : ℕ) → finds ≤ more → IsPaid patience replies finds → IsPaid patience replies more
+paid_still patience replies finds more on (inl enough) = inl (omega (arith, enough, on))
+paid_still patience replies finds more on (inr last) = inr (omega (arith, last, on))
+
+-- one reply more is paid where there were enough finds more
+pub paid_more : (patience replies finds more : ℕ) → (finds + patience ≤ more) ⊎ (2 ^ 64 - 1 ≤ more) → finds ≤ more → IsPaid patience replies finds → IsPaid patience (replies + 1) more
+paid_more patience replies finds more (inl enough) on (inl paid) = inl (let each : patience * (replies + 1) ≡ patience * replies + patience = grind arith in omega (arith, enough, paid, each))
+paid_more patience replies finds more (inr last) on paid = inr last
+paid_more patience replies finds more (inl enough) on (inr last) = inr (omega (arith, last, on))
+
+module _ (given : Given) (told after : List Entry) (number : ℕ) (seat now : Seat) (progress : Progress) (come : HasCome given told number seat progress) (added : List Entry) (grown : after ≡ told ++ added) where
+  -- where nothing is told of it, it stays as far
+  pub come_still : TellsNone number added → StaysOn seat now → HasCome given after number now progress
+  come_still none stays = record {
+    within = come.within;
+    commands = ap (commands_told number) grown ∙ commands_more number told added ∙ ap (λ (l : List Command). commands_told number told ++ l) none.commands ∙ append-nil (commands_told number told) ∙ come.commands;
+    through = come.through;
+    leaves = stays.left_same ∙ come.leaves;
+    few_objects = λ there. omega (arith, stays.made_same, come.few_objects there);
+    few_sets = λ there. omega (arith, stays.sets_same, come.few_sets there);
+    paid = subst (λ (n : ℕ). IsPaid given.patience n progress.paid) (sym (ap (waits_told number) grown ∙ omega (arith, waits_more number told added, none.waits))) come.paid;
+    grown = omega (arith, stays.finds, come.grown);
+  }
+
+  -- a seat that is there has told no leave
+  there_told : progress.gone ≡ false → commands_told number told ≡ take progress.place (script_of given number)
+  there_told there = come.commands ∙ ap (λ b. take progress.place (script_of given number) ++ leave_told b) there ∙ append-nil (take progress.place (script_of given number))
+
+  -- it has answered its next command
+  pub come_next : (command : Command) (waits : ℕ) (next : Progress) → slice_get (script_of given number) progress.place ≡ Some command → progress.gone ≡ false → TellsOne number command waits added
+      → now.left ≡ seat.left → now.made ≤ seat.made + 1 → now.sets ≤ seat.sets + 1 → next.place ≡ progress.place + 1 → next.gone ≡ progress.gone
+      → IsPaid given.patience (waits_told number told + waits) next.paid → next.paid ≤ now.looks.waits → HasCome given after number now next
+  come_next command waits next here there one left made sets place gone paid finds =
+      let script : List Command = script_of given number in
+      let within : progress.place < length script = slice_get_within script progress.place command here in
+      let further : take next.place script ≡ take progress.place script ++ command ∷ []
+      = ap (λ (n : ℕ). take n script) place ∙ take_more script progress.place command within ∙ ap (λ (c : Command). take progress.place script ++ c ∷ []) (get_or_from_slice_get script progress.place command command here) in
+      record {
+        within = omega (arith, place, within);
+        commands = ap (commands_told number) grown ∙ commands_more number told added ∙ ap (λ (l : List Command). commands_told number told ++ l) one.commands
+            ∙ ap (λ (l : List Command). l ++ command ∷ []) (there_told there) ∙ sym further ∙ sym (append-nil (take next.place script)) ∙ ap (λ b. take next.place script ++ leave_told b) (sym (gone ∙ there));
+        through = λ left. absurd (cc (left, gone, there));
+        leaves = left ∙ come.leaves ∙ sym gone;
+        few_objects = λ still. omega (arith, made, come.few_objects there, place);
+        few_sets = λ still. omega (arith, sets, come.few_sets there, place);
+        paid = subst (λ (n : ℕ). IsPaid given.patience n next.paid) (sym (ap (waits_told number) grown ∙ omega (arith, waits_more number told added, one.counted))) paid;
+        grown = finds;
+      }
+
+  -- it has left
+  pub come_left : (next : Progress) → progress.place ≡ length (script_of given number) → progress.gone ≡ false → TellsOne number Leave 0 added → now.left ≡ true
+      → next.place ≡ progress.place → next.gone ≡ true → next.paid ≡ progress.paid → seat.looks.waits ≤ now.looks.waits → HasCome given after number now next
+  come_left next at_end there one left place gone paid finds =
+      let script : List Command = script_of given number in
+      record {
+        within = omega (arith, place, come.within);
+        commands = ap (commands_told number) grown ∙ commands_more number told added ∙ ap (λ (l : List Command). commands_told number told ++ l) one.commands
+            ∙ ap (λ (l : List Command). l ++ Leave ∷ []) (there_told there ∙ ap (λ (n : ℕ). take n script) (sym place)) ∙ ap (λ b. take next.place script ++ leave_told b) (sym gone);
+        through = λ _. place ∙ at_end;
+        leaves = left ∙ sym gone;
+        few_objects = λ still. absurd (cc (still, gone));
+        few_sets = λ still. absurd (cc (still, gone));
+        paid = subst (λ (n : ℕ). IsPaid given.patience n next.paid) (sym (ap (waits_told number) grown ∙ omega (arith, waits_more number told added, one.counted)))
+            (subst (λ (n : ℕ). IsPaid given.patience (waits_told number told) n) (sym paid) come.paid);
+        grown = omega (arith, paid, come.grown, finds);
+      }
+
+module _ (given : Given) (told after : List Entry) (old new : State) (seats : List Progress) (number : ℕ) (all : AllHaveCome given told old seats) (below : number < given.heap.seats) where
+  -- one seat has come further, and the others are as they were
+  pub all_come : (next : Progress) (added : List Entry) → SameBut number old new → after ≡ told ++ added → ((other : ℕ) → other ≢ number → TellsNone other added)
+      → HasCome given after number (seat_at new number) next → AllHaveCome given after new (slice_set seats number next)
+  all_come next added others grown none own = record {
+    seated = length-set seats number next ∙ all.seated;
+    each = λ other under. elim (eqb_tells other number) as (λ _. HasCome given after other (seat_at new other) (progress_at (slice_set seats number next) other)) [
+      | inl same ↦ subst (λ (n : ℕ). HasCome given after n (seat_at new n) (progress_at (slice_set seats number next) n)) (sym same.1)
+          (subst (HasCome given after number (seat_at new number)) (sym (get_or-set_same seats number next at_begin (omega (arith, below, all.seated)))) own)
+      | inr apart ↦ subst (HasCome given after other (seat_at new other)) (sym (get_or-set_other seats number other next at_begin apart.1))
+          (come_still given told after other (seat_at old other) (seat_at new other) (progress_at seats other) (all.each other under) added grown (none other apart.1) (same_stays (seat_at old other) (seat_at new other) (others.others other apart.1)))
+    ];
+  }
+
+-- one seat has found something, and all are as far as they were
+pub all_stay : (given : Given) (told after added : List Entry) (old new : State) (seats : List Progress) (number : ℕ) → AllHaveCome given told old seats → SameBut number old new → after ≡ told ++ added → ((other : ℕ) → TellsNone other added) → StaysOn (seat_at old number) (seat_at new number) → AllHaveCome given after new seats
+all_stay given told after added old new seats number all others grown none stays = record {
+  seated = all.seated;
+  each = λ other under. come_still given told after other (seat_at old other) (seat_at new other) (progress_at seats other) (all.each other under) added grown (none other) (seat_stays other);
+}
+  where
+    seat_stays : (other : ℕ) → StaysOn (seat_at old other) (seat_at new other)
+    seat_stays other = elim (eqb_tells other number) [
+      | inl same ↦ subst (λ (n : ℕ). StaysOn (seat_at old n) (seat_at new n)) (sym same.1) stays
+      | inr apart ↦ same_stays (seat_at old other) (seat_at new other) (others.others other apart.1)
+    ]
+
+-- after a turn of the collector all are as far as they were
+pub all_turned : (given : Given) (told added : List Entry) (old new : State) (seats : List Progress) → AllHaveCome given told old seats → new.seats ≡ old.seats → ((other : ℕ) → TellsNone other added)
+    → AllHaveCome given (told ++ added) new seats
+all_turned given told added old new seats all same none = record {
+  seated = all.seated;
+  each = λ other under. come_still given told (told ++ added) other (seat_at old other) (seat_at new other) (progress_at seats other) (all.each other under) added refl (none other)
+      (same_stays (seat_at old other) (seat_at new other) (ap (λ (l : List Seat). seat_at (record old { seats = l }) other) same));
+}
+
+-- it has begun a collect
+come_begun : (given : Given) (told : List Entry) (number : ℕ) (seat : Seat) (progress next : Progress) → HasCome given told number seat progress → next.place ≡ progress.place → next.gone ≡ progress.gone
+    → next.paid ≡ seat.looks.waits → HasCome given told number seat next
+come_begun given told number seat progress next come place gone paid = record {
+  within = omega (arith, place, come.within);
+  commands = come.commands ∙ ap (λ (n : ℕ). take n (script_of given number) ++ leave_told progress.gone) (sym place) ∙ ap (λ b. take next.place (script_of given number) ++ leave_told b) (sym gone);
+  through = λ left. place ∙ come.through (sym gone ∙ left);
+  leaves = come.leaves ∙ sym gone;
+  few_objects = λ there. omega (arith, place, come.few_objects (sym gone ∙ there));
+  few_sets = λ there. omega (arith, place, come.few_sets (sym gone ∙ there));
+  paid = paid_still given.patience (waits_told number told) progress.paid next.paid (omega (arith, paid, come.grown)) come.paid;
+  grown = omega (arith, paid);
+}
+
+-- and all others are where they were
+pub all_begun : (given : Given) (told : List Entry) (state : State) (seats : List Progress) (number : ℕ) (next : Progress) → AllHaveCome given told state seats → number < given.heap.seats
+    → next.place ≡ (progress_at seats number).place → next.gone ≡ (progress_at seats number).gone → next.paid ≡ (seat_at state number).looks.waits → AllHaveCome given told state (slice_set seats number next)
+all_begun given told state seats number next all below place gone paid = record {
+  seated = length-set seats number next ∙ all.seated;
+  each = λ other under. elim (eqb_tells other number) as (λ _. HasCome given told other (seat_at state other) (progress_at (slice_set seats number next) other)) [
+    | inl same ↦ subst (λ (n : ℕ). HasCome given told n (seat_at state n) (progress_at (slice_set seats number next) n)) (sym same.1)
+        (subst (HasCome given told number (seat_at state number)) (sym (get_or-set_same seats number next at_begin (omega (arith, below, all.seated))))
+        (come_begun given told number (seat_at state number) (progress_at seats number) next (all.each number below) place gone paid))
+    | inr apart ↦ subst (HasCome given told other (seat_at state other)) (sym (get_or-set_other seats number other next at_begin apart.1)) (all.each other under)
+  ];
+}
+
+-- a progress that was read is the seat's
+pub read_is : (seats : List Progress) (number : ℕ) (read : Progress) → number < length seats → read ≡ slice_index_or seats number read → progress_at seats number ≡ read
+read_is seats number read below is = get_or_from_slice_get seats number read at_begin (slice_get_read seats (length seats) number read refl below is)

@@ -1,0 +1,138 @@
+-- How often a seat has found another one behind never falls.
+use Rattle.std.specs.Prelude.{if◌then◌else◌, nat_lt}
+use Rattle.std.proofs.Common.{◌≡◌, ℕ, zero, suc, ◌+◌, ◌^◌, ◌<◌, ◌≤◌, ◌==◌, Bool, true, false, Option, Some, None, length, replicate, refl, sym, ap, subst, arith}
+use Rattle.std.proofs.lemmas.List.{get_or-set_same, length-set}
+use Rattle.heap_model.specs.declared.command.Command.{Command}
+use Rattle.heap_model.specs.declared.command.Command.TheVariants as commands
+use Rattle.heap_model.specs.declared.heap.Heap.{Heap}
+use Rattle.heap_model.specs.declared.reply.Reply.{Reply}
+use Rattle.core_machine.specs.declared.place.Access.TheVariants.{LoadingMeta, Walking, Locating, Indexing, Getting, Naming, LoadingOld, ShadingOld, ShadingNew, Swapping}
+use Rattle.core_machine.specs.declared.place.Collecting.TheVariants.{Looking, Asking, Comparing, Noting}
+use Rattle.core_machine.specs.declared.place.Leaving.TheVariants.{Emptying, Parting}
+use Rattle.core_machine.specs.declared.place.Making.TheVariants.{Granting, Withdrawing, Gathering, Returning, Refusing, Placing, Listing, Storing, Bearing}
+use Rattle.core_machine.specs.declared.place.Place.{Place}
+use Rattle.core_machine.specs.declared.place.Place.TheVariants as places
+use Rattle.core_machine.specs.declared.place.Polling.TheVariants as polling
+use Rattle.core_machine.specs.machine.Calls.{PlaysCall}
+use Rattle.core_machine.specs.machine.Machine.{State, seat_at, found_by, Steps, Begins, after_begin, state_after_due, state_after, state_after_all}
+use Rattle.core_machine.specs.Moves.{Move, move_at, is_last_birth, last_birth_move, birth_move}
+use Rattle.core_machine.specs.table.Decode.{head_of, array_length_of}
+use Rattle.core_machine.specs.seat.Access.{meta_reply_of, after_meta, after_get, after_old_load}
+use Rattle.core_machine.specs.seat.Handshake.{answer_next, polling_over}
+use Rattle.core_machine.specs.declared.seat.looks.FoundBehind.{FoundBehind}
+use Rattle.core_machine.specs.declared.seat.looks.Looks.{Looks}
+use Rattle.core_machine.specs.seat.Looks.{found_behind}
+use Rattle.core_machine.specs.seat.Seat.{Seat, absent_seat}
+use Rattle.core_rule.proofs.looks.Ways.{StaysFound, stays_claim, stays_budget, stays_walk, stays_length, begin_stays}
+
+-- the seat has found as often at least
+abbrev pub FindsOn : Seat → Seat → Type 0
+FindsOn seat now = seat.looks.waits ≤ now.looks.waits
+
+stays_on : (seat now : Seat) → StaysFound seat now → FindsOn seat now
+stays_on seat now stays = omega (arith, ap (λ (l : Looks). l.waits) stays.looks)
+
+same_on : (seat : Seat) → FindsOn seat seat
+same_on seat = omega arith
+
+-- so it is after a move
+abbrev pub MovesOn : Seat → Option Move → Type 0
+MovesOn seat None = (found : ℕ) → FindsOn seat seat
+MovesOn seat (Some move) = (found : ℕ) → FindsOn seat (move.told found)
+
+one_more_on : (b : Bool) (n : ℕ) → n ≤ (if b then n + 1 else n)
+one_more_on true n = omega arith
+one_more_on false n = omega arith
+
+-- so it is where another seat was compared
+pub compared_on : (b : Bool) (found : FoundBehind) (looks : Looks) → looks.waits ≤ (if b then found_behind found looks else record looks { behind = None }).waits
+compared_on true found looks = one_more_on (nat_lt (looks.waits + 1) (2 ^ 64)) looks.waits
+compared_on false found looks = omega arith
+
+module _ (heap : Heap) (number : ℕ) (seat : Seat) where
+  bears : (last : Bool) → MovesOn seat (Some (if last then last_birth_move number seat else birth_move seat))
+  bears true found = same_on seat
+  bears false found = same_on seat
+
+  metas : (found : ℕ) (reply : Option Reply) → FindsOn seat (after_meta seat found reply)
+  metas found None = stays_on seat _ (stays_length seat found (array_length_of found))
+  metas found (Some reply) = same_on seat
+
+  gets : (found : ℕ) (head : Option ℕ) → FindsOn seat (after_get seat found head)
+  gets found None = same_on seat
+  gets found (Some head) = same_on seat
+
+  olds : (found : ℕ) (head : Option ℕ) → FindsOn seat (after_old_load (record seat { loaded = found }) head)
+  olds found None = same_on seat
+  olds found (Some head) = same_on seat
+
+  over : (command : Command) (answered : ℕ) → FindsOn seat (polling_over command (record seat { answered = answered }))
+  over commands.Collect answered = same_on seat
+  over _ answered = same_on seat
+
+  polls : (b : Bool) (p : ℕ) → FindsOn seat (if b then polling_over seat.command seat else answer_next (record seat { asked = p }))
+  polls true p = over seat.command seat.answered
+  polls false p = same_on seat
+
+  moves_on : (place : Place) → MovesOn seat (move_at heap number seat place)
+  moves_on places.Idle = λ found. same_on seat
+  moves_on (places.Making Granting) = λ found. stays_on seat _ (stays_budget heap seat found)
+  moves_on (places.Making Withdrawing) = λ found. same_on seat
+  moves_on (places.Making Gathering) = λ found. stays_on seat _ (stays_claim heap seat found)
+  moves_on (places.Making Returning) = λ found. same_on seat
+  moves_on (places.Making Refusing) = λ found. same_on seat
+  moves_on (places.Making Placing) = λ found. same_on seat
+  moves_on (places.Making Listing) = λ found. same_on seat
+  moves_on (places.Making Storing) = λ found. same_on seat
+  moves_on (places.Making Bearing) = λ found. bears (is_last_birth seat) found
+  moves_on places.Local = λ found. same_on seat
+  moves_on (places.Access LoadingMeta) = λ found. metas found (meta_reply_of seat.command found)
+  moves_on (places.Access Walking) = λ found. stays_on seat _ (stays_walk seat found)
+  moves_on (places.Access Locating) = λ found. same_on seat
+  moves_on (places.Access Indexing) = λ found. same_on seat
+  moves_on (places.Access Getting) = λ found. gets found (head_of found)
+  moves_on (places.Access Naming) = λ found. same_on seat
+  moves_on (places.Access LoadingOld) = λ found. olds found (head_of found)
+  moves_on (places.Access ShadingOld) = λ found. same_on seat
+  moves_on (places.Access ShadingNew) = λ found. same_on seat
+  moves_on (places.Access Swapping) = λ found. same_on seat
+  moves_on (places.Polling polling.Asking) = λ found. polls (found == seat.answered) found
+  moves_on (places.Polling polling.Shading) = λ found. same_on seat
+  moves_on (places.Polling polling.Answering) = λ found. over seat.command seat.asked
+  moves_on (places.Collecting Looking) = λ found. same_on seat
+  moves_on (places.Collecting (Asking other)) = λ found. same_on seat
+  moves_on (places.Collecting (Comparing other p)) = λ found. compared_on (nat_lt found p) (record { seat = other; answered = found; phase = p }) seat.looks
+  moves_on (places.Collecting (Noting reply)) = λ found. same_on seat
+  moves_on (places.Leaving Emptying) = λ found. same_on seat
+  moves_on (places.Leaving Parting) = λ found. same_on seat
+
+-- by a due move
+due_on : (heap : Heap) (state : State) (number : ℕ) → number < length state.seats → (move : Option Move) → MovesOn (seat_at state number) move
+    → FindsOn (seat_at state number) (seat_at (state_after_due heap state number move) number)
+due_on heap state number within None on = same_on (seat_at state number)
+due_on heap state number within (Some move) on =
+    subst (λ (s : Seat). FindsOn (seat_at state number) s) (sym (get_or-set_same state.seats number _ absent_seat within)) (on (found_by heap state move.step))
+
+due_seats : (heap : Heap) (state : State) (number : ℕ) (move : Option Move) → length (state_after_due heap state number move).seats ≡ length state.seats
+due_seats heap state number None = refl
+due_seats heap state number (Some move) = length-set state.seats number _
+
+-- by steps
+steps_on : (heap : Heap) (number steps : ℕ) (state : State) → number < length state.seats → FindsOn (seat_at state number) (seat_at (state_after_all heap state (replicate steps (Steps number))) number)
+steps_on heap number zero state within = same_on (seat_at state number)
+steps_on heap number (suc steps) state within =
+    let seat : Seat = seat_at state number in
+    let one = due_on heap state number within (move_at heap number seat seat.place) (moves_on heap number seat seat.place) in
+    let rest = steps_on heap number steps (state_after heap state (Steps number)) (omega (arith, within, due_seats heap state number (move_at heap number seat seat.place))) in
+    omega (arith, one, rest)
+
+-- by a call
+pub finds_on : (heap : Heap) (old new : State) (number : ℕ) (command : Command) (reply : Reply) → PlaysCall heap old new number command reply → FindsOn (seat_at old number) (seat_at new number)
+finds_on heap old new number command reply call =
+    let seat : Seat = seat_at old number in
+    let within : number < length old.seats = call.can.0.0 in
+    let begun : State = state_after heap old (Begins number command) in
+    let is : seat_at begun number ≡ after_begin heap seat command = get_or-set_same old.seats number _ absent_seat within in
+    let first : FindsOn seat (seat_at begun number) = subst (λ (s : Seat). FindsOn seat s) (sym is) (stays_on seat _ (begin_stays heap seat command call.can.0.1.idle)) in
+    let rest = steps_on heap number call.steps begun (omega (arith, within, length-set old.seats number (after_begin heap seat command))) in
+    subst (λ (t : State). FindsOn seat (seat_at t number)) (sym call.ends) (omega (arith, first, rest))

@@ -1,0 +1,12 @@
+pub mod Reached
+pub mod Calls
+pub mod Inners
+pub mod MachineTurns
+pub mod FindsOn
+pub mod TellsNone
+pub mod Coming
+pub mod LastCycle
+pub mod Opened
+pub mod Calling
+pub mod InnerCalls
+pub mod Whole

@@ -1,0 +1,18 @@
+use Rattle.std.proofs.Common.{List, ap, subst, sym}
+use Rattle.heap_model.specs.declared.entry.Entry.{Entry}
+use Rattle.core_machine.specs.machine.Machine.{State, Turns, entries}
+use Rattle.locked_heap.specs.Locked.{AllHaveCome}
+use Rattle.locked_heap.proofs.Coming.{all_turned}
+use Rattle.locked_heap.proofs.TellsNone.{none_collectors}
+use Rattle.locked_heap.proofs.locked.Locked.turn.Goals as goal
+
+pub invariant_of-self : goal.invariant_of-self
+invariant_of-self g c =
+    let inside = c.self.inside in
+    let makes = c.turn.ensures.makes in
+    let added = entries inside.recorder.machine.heap inside.recorder.machine.state Turns in (
+      subst (λ (l : List Entry). AllHaveCome g.N.Handed.given l c.turn.new.self.machine.state inside.seats.items) (sym makes.noted)
+          (all_turned g.N.Handed.given inside.recorder.history added inside.recorder.machine.state c.turn.new.self.machine.state inside.seats.items c.self.invariant.0 (ap (λ (s : State). s.seats) makes.after)
+          (λ other. none_collectors other added makes.own)),
+      c.self.invariant.1,
+    )

@@ -1,0 +1,12 @@
+use Rattle.std.proofs.Common.{map}
+use Rattle.locked_heap.proofs.running.run_alone.Given as goal
+
+abbrev pub ghosts-run_named : goal.ghosts-run_named
+ghosts-run_named g a = record {
+  given = record {
+    heap = a.machine.heap;
+    opening = a.machine.state;
+    scripts = map (λ script. script.items) a.scripts.now;
+    patience = a.patience;
+  };
+}

@@ -1,0 +1,6 @@
+pub mod Given
+pub mod Recorded
+pub mod Told
+pub mod Progress
+pub mod Locked
+pub mod Ran

@@ -1,0 +1,37 @@
+-- How far a seat has come with its script.
+use Rattle.std.specs.Prelude.{◌≡◌, ℕ, ◌-◌, ◌*◌, ◌^◌, ◌≤◌, ◌⊎◌, Bool, true, false, if◌then◌else◌, List, [], ◌∷◌, ◌++◌, length, take, slice_index_or, None}
+use Rattle.heap_model.specs.declared.command.Command.{Command}
+use Rattle.heap_model.specs.declared.command.Command.TheVariants.{Leave}
+use Rattle.heap_model.specs.declared.entry.Entry.{Entry}
+use Rattle.core_machine.specs.seat.Seat.{Seat}
+use Rattle.locked_heap.specs.declared.progress.Progress.{Progress}
+use Rattle.locked_heap.specs.Given.{Given, script_of}
+use Rattle.locked_heap.specs.Told.{commands_told, waits_told}
+
+-- the seat has begun nothing
+abbrev pub at_begin : Progress
+at_begin = record { place = 0; gone = false; target = None; paid = 0 }
+
+-- how far the seat of this number has come
+abbrev pub progress_at : List Progress → ℕ → Progress
+progress_at seats number = slice_index_or seats number at_begin
+
+-- the leave of a seat that has left
+abbrev pub leave_told : Bool → List Command
+leave_told gone = if gone then Leave ∷ [] else []
+
+-- so many finds stand behind each of that many replies, or the finds are as many as are counted
+abbrev pub IsPaid : ℕ → ℕ → ℕ → Type 0
+IsPaid patience replies finds = (patience * replies ≤ finds) ⊎ (2 ^ 64 - 1 ≤ finds)
+
+-- the history tells just the commands up to the place, and then the leave of a seat that has left; a seat that is there has made no more objects and done no more sets,
+-- and for each of its replies that it waits it has found another seat behind often enough
+pub record HasCome (given : Given) (told : List Entry) (number : ℕ) (seat : Seat) (progress : Progress) : Type 0 where
+  pub within : progress.place ≤ length (script_of given number)
+  pub commands : commands_told number told ≡ take progress.place (script_of given number) ++ leave_told progress.gone
+  pub through : progress.gone ≡ true → progress.place ≡ length (script_of given number)
+  pub leaves : seat.left ≡ progress.gone
+  pub few_objects : progress.gone ≡ false → seat.made ≤ progress.place
+  pub few_sets : progress.gone ≡ false → seat.sets ≤ progress.place
+  pub paid : IsPaid given.patience (waits_told number told) progress.paid
+  pub grown : progress.paid ≤ seat.looks.waits

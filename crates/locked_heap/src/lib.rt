@@ -1,0 +1,13 @@
+//! The machine behind one lock, on which the seats of a run work in threads of their own.
+#![tactic(auto)]
+
+mod handed;
+mod locked;
+mod note;
+mod progress;
+mod ran;
+mod recorder;
+mod running;
+
+pub use ran::LockedRan;
+pub use running::run_alone;

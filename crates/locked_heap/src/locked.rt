@@ -1,0 +1,135 @@
+ghost use Rattle.std.specs.Prelude.{◌≡◌, ◌≢◌, ◌≤◌, ◌<◌, false, OnOk, length};
+ghost use Rattle.heap_model.specs.declared.command.Command.TheVariants.{Collect};
+ghost use Rattle.heap_model.specs.account.PhaseCounts.{phase};
+ghost use Rattle.locked_heap.specs.Given.{IsGiven, script_of};
+ghost use Rattle.locked_heap.specs.Locked.{AllHaveCome, IsNext, KeepsGone};
+ghost use Rattle.locked_heap.specs.Progress.{progress_at};
+ghost use Rattle.locked_heap.specs.Recorded.{IsReached, StandsStill, MakesTurn};
+
+use crate::handed::Handed;
+use crate::progress::Progress;
+use crate::recorder::Recorder;
+use core_machine::Machine;
+use core_rule::law_every_run;
+use heap_model::{Command, Memory, Turn};
+use std::alloc::Global;
+use std::marker::Model;
+
+mod collecting;
+mod finishing;
+
+/// The heap under the lock of a run: the machine with its history, and how far each seat has come with its script. No seat has a call in flight.
+#[derive(Drop)]
+pub struct Locked<N: Handed> {
+    recorder: Recorder<N>,
+    seats: Vec<Progress>,
+    patience: u32,
+    /// How many fragments were claimed since the collector last made its slack.
+    owed: u64,
+}
+
+impl<N: Handed> Model for Locked<N> {
+    ghost use Rattle.std.specs.Prelude.{◌≡◌};
+    ghost use Rattle.locked_heap.specs.Locked.{LockedValue, AllHaveCome};
+
+    ghost Value = { LockedValue };
+
+    ghost view = { λ l. record { recorded = l.recorder; seats = l.seats.items } };
+
+    ghost invariant = { λ l. AllHaveCome N.given l.recorder.history l.recorder.machine.state l.seats.items × (l.patience ≡ N.given.patience) };
+}
+
+impl<N: Handed> Locked<N> {
+    /// The heap as it was given: no seat has begun its script.
+    pub fn new(alloc: Global, machine: Machine, patience: u32) -> Result<Locked<N>, Memory>
+        requires given { IsGiven N.given }
+        requires heap { machine.heap ≡ N.given.heap }
+        requires opening { machine.state ≡ N.given.opening }
+        requires patience { patience ≡ N.given.patience }
+    {
+        let seats = machine.heap().seats as usize;
+        let begin = Progress {
+            place: 0,
+            gone: false,
+            target: None,
+            paid: 0,
+        };
+        Ok(Locked {
+            recorder: Recorder::new(alloc, machine),
+            seats: vec![in alloc; begin; seats]?,
+            patience,
+            owed: 0,
+        })
+    }
+
+    /// What is true of every one.
+    pub fn known(&self)
+        ensures reached { IsReached N.given self.now.recorded.machine.heap self.now.recorded.machine.state self.now.recorded.history }
+        ensures come { AllHaveCome N.given self.now.recorded.history self.now.recorded.machine.state self.now.seats }
+    {
+        self.recorder.known();
+    }
+
+    /// How far the seat has come.
+    pub fn progress(&self, seat: u8) -> Progress
+        requires { seat < N.given.heap.seats }
+        ensures { result ≡ progress_at self.now.seats seat }
+    {
+        self.seats[seat as usize]
+    }
+
+    /// Makes the seat's next command, which is no collect.
+    fn call(&mut self, seat: u8, command: &Command) -> Result<(), Memory>
+        requires next { IsNext N.given self.old.seats seat command.now }
+        requires once { command.now ≢ Collect }
+        ensures gone { KeepsGone self.old.seats self.new.seats }
+    {
+        law_every_run();
+        self.recorder.known();
+        let claimed = self.recorder.call(seat, command)?;
+        self.owed = self.owed.saturating_add(claimed);
+        let progress = self.seats[seat as usize];
+        self.seats[seat as usize] = Progress {
+            place: progress.place + 1,
+            ..progress
+        };
+        Ok(())
+    }
+
+    /// Lets the seat leave, all of whose commands are answered.
+    fn leave(&mut self, seat: u8) -> Result<(), Memory>
+        requires within { seat < N.given.heap.seats }
+        requires there { (progress_at self.old.seats seat).gone ≡ false }
+        requires through { (progress_at self.old.seats seat).place ≡ length (script_of N.given seat) }
+        ensures gone { KeepsGone self.old.seats self.new.seats }
+    {
+        law_every_run();
+        self.recorder.known();
+        self.recorder.call(seat, &Command::Leave)?;
+        let progress = self.seats[seat as usize];
+        self.seats[seat as usize] = Progress {
+            gone: true,
+            ..progress
+        };
+        Ok(())
+    }
+
+    /// Makes a turn of the collector.
+    pub fn turn(&mut self) -> Turn
+        requires room { 2 ≤ self.old.recorded.spare }
+        ensures makes { MakesTurn self.old.recorded self.new.recorded result }
+        ensures seats { self.new.seats ≡ self.old.seats }
+    {
+        self.recorder.turn()
+    }
+
+    /// Makes room for at least `n` more entries of the collector.
+    pub fn room(&mut self, n: usize) -> Result<(), Memory>
+        ensures still { StandsStill self.old.recorded self.new.recorded }
+        ensures more { self.old.recorded.spare ≤ self.new.recorded.spare }
+        ensures room { OnOk result (n ≤ self.new.recorded.spare) }
+        ensures seats { self.new.seats ≡ self.old.seats }
+    {
+        self.recorder.room(n)
+    }
+}

@@ -1,0 +1,186 @@
+ghost use Rattle.std.specs.Prelude.{◌≡◌, ◌≤◌, ◌<◌, ◌↔◌, IsTrue, [], None, length, OnOk, OnErr};
+ghost use Rattle.heap_model.specs.account.PhaseCounts.{phase};
+ghost use Rattle.core_machine.specs.machine.Machine.{Begins, BeginsInner, Can, seat_at};
+ghost use Rattle.locked_heap.specs.Given.{IsGiven};
+ghost use Rattle.locked_heap.specs.Recorded.{IsReached, collector_of, StandsStill, MakesCall, MakesInner, MakesTurn};
+
+use crate::handed::Handed;
+use crate::note::{claimed, note_all};
+use core_machine::{Looks, Machine};
+use core_rule::law_every_run;
+use heap_model::{Command, Entry, Heap, Inner, Memory, Turn, seat_laws};
+use std::alloc::Global;
+use std::marker::{Model, PhantomData};
+
+/// A machine with the history of all that was done to it since its opening.
+#[derive(Drop)]
+pub struct Recorder<N: Handed> {
+    machine: Machine,
+    history: Vec<Entry>,
+    spare: usize,
+    turns: u64,
+    last_turn: Option<Turn>,
+    name: PhantomData<N>,
+}
+
+impl<N: Handed> Model for Recorder<N> {
+    ghost use Rattle.std.specs.Prelude.{◌-◌, vec_len, vec_capacity};
+    ghost use Rattle.locked_heap.specs.Recorded.{Recorded, IsReached, HasRoom};
+
+    ghost Value = { Recorded };
+
+    ghost view = { λ r. record {
+      machine = r.machine;
+      history = r.history.items;
+      spare = r.spare;
+      turns = r.turns;
+      last_turn = r.last_turn;
+    } };
+
+    ghost invariant = { λ r. IsReached N.given r.machine.heap r.machine.state r.history.items
+        × HasRoom r.machine (vec_capacity r.history - vec_len r.history) r.spare };
+}
+
+impl<N: Handed> Recorder<N> {
+    /// Nothing was done yet.
+    pub fn new(alloc: Global, machine: Machine) -> Recorder<N>
+        requires given { IsGiven N.given }
+        requires heap { machine.heap ≡ N.given.heap }
+        requires opening { machine.state ≡ N.given.opening }
+        ensures { result ≡ record { machine = machine; history = []; spare = 0; turns = 0; last_turn = None } }
+    {
+        Recorder {
+            machine,
+            history: Vec::new(alloc),
+            spare: 0,
+            turns: 0,
+            last_turn: None,
+            name: PhantomData,
+        }
+    }
+
+    /// What is true of every one.
+    pub fn known(&self)
+        ensures { IsReached N.given self.now.machine.heap self.now.machine.state self.now.history }
+    {
+        let _ = &self.history;
+    }
+
+    /// The heap whose machine it is.
+    pub fn heap(&self) -> Heap
+        ensures { result ≡ self.now.machine.heap }
+    {
+        self.machine.heap()
+    }
+
+    /// Makes a whole call of the seat, and answers how many fragments it has claimed.
+    pub fn call(&mut self, seat: u8, command: &Command) -> Result<u64, Memory>
+        requires can { Can self.old.machine.heap self.old.machine.state (Begins seat command.now) }
+        ensures makes { OnOk result (MakesCall self.old self.new seat command.now) }
+        ensures still { OnErr result (StandsStill self.old self.new) }
+    {
+        law_every_run();
+        seat_laws();
+        let room = 2 * command.need() as usize + 4;
+        self.machine.room(seat, room)?;
+        self.history.reserve(room)?;
+        let before = self.machine.log(seat).len();
+        self.machine.play_call(seat, command);
+        let (_, told) = self.machine.log(seat).split_at(before);
+        self.spare = self.spare.saturating_sub(told.len());
+        note_all(&mut self.history, told);
+        Ok(claimed(told))
+    }
+
+    /// Whether the seat may make the inner call now.
+    pub fn may_make(&self, seat: u8, inner: &Inner) -> bool
+        ensures { IsTrue result ↔ Can self.now.machine.heap self.now.machine.state (BeginsInner seat inner.now) }
+    {
+        self.machine.may_begin_inner(seat, inner)
+    }
+
+    /// Makes a whole inner call of the seat's collect.
+    pub fn inner(&mut self, seat: u8, inner: Inner) -> Result<(), Memory>
+        requires can { Can self.old.machine.heap self.old.machine.state (BeginsInner seat inner) }
+        ensures makes { OnOk result (MakesInner self.old self.new seat inner) }
+        ensures still { OnErr result (StandsStill self.old self.new) }
+    {
+        law_every_run();
+        self.machine.room(seat, 4)?;
+        self.history.reserve(4)?;
+        let before = self.machine.log(seat).len();
+        self.machine.play_inner(seat, inner);
+        let (_, told) = self.machine.log(seat).split_at(before);
+        self.spare = self.spare.saturating_sub(told.len());
+        note_all(&mut self.history, told);
+        Ok(())
+    }
+
+    /// Makes a turn of the collector, for which there is room.
+    pub fn turn(&mut self) -> Turn
+        requires room { 2 ≤ self.old.spare }
+        ensures makes { MakesTurn self.old self.new result }
+    {
+        law_every_run();
+        let collector = self.machine.heap().seats;
+        let before = self.machine.log(collector).len();
+        let turn = self.machine.play_turn();
+        let (_, told) = self.machine.log(collector).split_at(before);
+        self.spare = self.spare.saturating_sub(told.len());
+        note_all(&mut self.history, told);
+        self.turns = self.turns.saturating_add(1);
+        self.last_turn = Some(turn);
+        turn
+    }
+
+    /// Makes room for at least `n` more entries of the collector.
+    pub fn room(&mut self, n: usize) -> Result<(), Memory>
+        ensures still { StandsStill self.old self.new }
+        ensures more { self.old.spare ≤ self.new.spare }
+        ensures room { OnOk result (n ≤ self.new.spare) }
+        ensures memory { OnErr result (self.new.spare ≡ self.old.spare) }
+    {
+        let collector = self.machine.heap().seats;
+        self.machine.room(collector, n)?;
+        self.history.reserve(n)?;
+        self.spare = self.spare.max(n);
+        Ok(())
+    }
+
+    /// For how many more entries of the collector there is room.
+    pub fn spare(&self) -> usize
+        ensures { result ≡ self.now.spare }
+    {
+        self.spare
+    }
+
+    pub fn phase(&self) -> u64
+        ensures phase { result ≡ phase self.now.history }
+        ensures logged { result ≤ length (collector_of self.now).log }
+    {
+        law_every_run();
+        self.machine.phase()
+    }
+
+    /// The number of turns that were made, or the last number of its type.
+    pub fn turns(&self) -> u64
+        ensures { result ≡ self.now.turns }
+    {
+        self.turns
+    }
+
+    /// What the seat has found out by the inner calls of its collects.
+    pub fn looks(&self, seat: u8) -> Looks
+        requires { seat < length self.now.machine.state.seats }
+        ensures { result ≡ (seat_at self.now.machine.state seat).looks }
+    {
+        self.machine.looks(seat)
+    }
+
+    /// The history alone.
+    pub fn into_history(self) -> Vec<Entry>
+        ensures { result.items ≡ self.history }
+    {
+        self.history
+    }
+}

@@ -1,0 +1,46 @@
+-- How many turns a pace asks for, and what it is to make them.
+use Rattle.std.specs.Prelude.{◌≡◌, ℕ, zero, suc, ◌+◌, ◌-◌, ◌*◌, ◌^◌, min, Option, Some, None}
+use Rattle.heap_model.specs.declared.calls.collector_calls.Turn.{Turn}
+use Rattle.heap_model.specs.declared.calls.collector_calls.Turn.TheVariants.{Waits}
+use Rattle.heap_model.specs.calls.CollectorCalls.{CollectorState, Turns}
+
+-- the most turns that a pace asks for at once
+abbrev pub most_slack_turns : ℕ
+most_slack_turns = 4096
+
+-- the room for entries with which that many turns are made
+abbrev pub slack_room : ℕ
+slack_room = most_slack_turns + 2
+
+-- sixteen turns, and eight more for each fragment claimed, up to the most
+abbrev pub steady_turns : ℕ → ℕ
+steady_turns claimed = min most_slack_turns (16 + 8 * claimed)
+
+-- the turn doesn't wait
+abbrev pub GoesOnward : Turn → Type 0
+GoesOnward (Waits seat answered phase) = ⊥
+GoesOnward _ = Unit {0}
+
+-- so many turns were made, one after another, and none of them waited
+abbrev pub MakesOnward : ℕ → CollectorState → CollectorState → Type 0
+MakesOnward zero old new = new ≡ old
+MakesOnward (suc n) old new = (now : CollectorState) × (turn : Turn) × MakesOnward n old now × Turns now new turn × GoesOnward turn
+
+-- so many turns were made, one after another, and none but the last of them waited
+abbrev pub MakesTurns : ℕ → CollectorState → CollectorState → Type 0
+MakesTurns zero old new = new ≡ old
+MakesTurns (suc n) old new = (now : CollectorState) × (turn : Turn) × MakesOnward n old now × Turns now new turn
+
+-- the number of turns rose by so many, or it stands at its last value
+abbrev pub CountsTurns : ℕ → CollectorState → CollectorState → Type 0
+CountsTurns made old new = min new.turns (2 ^ 64 - 1) ≡ min (old.turns + made) (2 ^ 64 - 1)
+
+-- what the last of so many turns answered, if any was made
+abbrev pub last_made : ℕ → CollectorState → Option Turn
+last_made zero new = None
+last_made (suc n) new = new.last_turn
+
+-- the last turn waited
+abbrev pub HasWaited : Option Turn → Type 0
+HasWaited (Some (Waits seat answered phase)) = Unit {0}
+HasWaited _ = ⊥

@@ -1,0 +1,13 @@
+//! How many turns a collector makes between the commands of the seats.
+#![tactic(auto)]
+
+mod pace;
+mod steady;
+mod turning;
+
+pub use pace::{MOST_SLACK_TURNS, Pace, Paces};
+pub use steady::Steady;
+pub use turning::{SlackDone, slack};
+
+#[cfg(test)]
+mod tests;
