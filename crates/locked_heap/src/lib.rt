@@ -12,3 +12,6 @@ mod working;
 
 pub use ran::LockedRan;
 pub use running::run_locked;
+
+#[cfg(test)]
+mod tests;
