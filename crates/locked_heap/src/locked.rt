@@ -1,10 +1,9 @@
-ghost use Rattle.std.specs.Prelude.{◌≡◌, ◌≢◌, ◌≤◌, ◌<◌, false, OnOk, length};
+ghost use Rattle.std.specs.Prelude.{◌≡◌, ◌≢◌, ◌<◌, false, length};
 ghost use Rattle.heap_model.specs.declared.command.Command.TheVariants.{Collect};
-ghost use Rattle.heap_model.specs.account.PhaseCounts.{phase};
 ghost use Rattle.locked_heap.specs.Given.{IsGiven, script_of};
 ghost use Rattle.locked_heap.specs.Locked.{AllHaveCome, IsNext, KeepsGone};
 ghost use Rattle.locked_heap.specs.Progress.{progress_at};
-ghost use Rattle.locked_heap.specs.Recorded.{IsReached, StandsStill, MakesTurn};
+ghost use Rattle.locked_heap.specs.Recorded.{IsReached};
 
 use crate::handed::Handed;
 use crate::progress::Progress;

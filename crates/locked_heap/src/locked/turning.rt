@@ -1,4 +1,4 @@
-ghost use Rattle.std.specs.Prelude.{◌≡◌, ◌≤◌, length, OnOk, OnErr};
+ghost use Rattle.std.specs.Prelude.{◌≡◌, ◌≤◌, OnOk, OnErr};
 ghost use Rattle.heap_model.specs.calls.CollectorCalls.{Turns};
 ghost use Rattle.locked_heap.specs.Recorded.{collector_of, StandsStill, MakesTurn};
 
