@@ -16,12 +16,17 @@ use Rattle.std.proofs.Common.{ℕ, ◌<◌, refl}
 use Rattle.std.specs.Prelude.{IfSome}
 use Rattle.heap_model.specs.declared.heap.Heap.{Heap}
 use Rattle.heap_model.specs.Heap.{IsHeap}
+use Rattle.core_machine.specs.declared.place.Collecting.{Collecting}
 use Rattle.core_machine.specs.declared.place.Collecting.TheVariants.{Looking, Asking as AskingBehind, Comparing, Noting}
+use Rattle.core_machine.specs.declared.place.Leaving.{Leaving}
 use Rattle.core_machine.specs.declared.place.Leaving.TheVariants.{Emptying, Parting}
+use Rattle.core_machine.specs.declared.place.Making.{Making}
 use Rattle.core_machine.specs.declared.place.Making.TheVariants.{Granting, Withdrawing, Gathering, Returning, Refusing, Placing, Listing, Storing, Bearing}
 use Rattle.core_machine.specs.declared.place.Place.{Place}
 use Rattle.core_machine.specs.declared.place.Place.TheVariants as places
+use Rattle.core_machine.specs.declared.place.Polling.{Polling}
 use Rattle.core_machine.specs.declared.place.Polling.TheVariants.{Asking, Shading, Answering}
+use Rattle.core_machine.specs.declared.place.Access.{Access}
 use Rattle.core_machine.specs.declared.place.Access.TheVariants.{LoadingMeta, Walking, Locating, Indexing, Getting, Naming, LoadingOld, ShadingOld, ShadingNew, Swapping}
 use Rattle.core_machine.specs.Moves.{next_move}
 use Rattle.core_machine.specs.seat.Fits.{Fits}
@@ -31,38 +36,58 @@ use Rattle.heap_model.specs.declared.command.Command.TheVariants as commands
 use Rattle.core_machine.specs.machine.Machine.{MayBegin, after_begin}
 use Rattle.core_machine.proofs.moves.Standing.{MoveStands, PlaceStands, BeginStands, CommandStands}
 
+-- each move of the making of an object stands
+making_stands : (place : Making) → PlaceStands (places.Making place)
+making_stands Granting = Array.grant_stands
+making_stands Withdrawing = Array.withdraw_stands
+making_stands Gathering = Gather.claim_stands
+making_stands Returning = Gather.give_back_stands
+making_stands Refusing = Gather.refusal_stands
+making_stands Placing = Array.placing_stands
+making_stands Listing = Array.listing_stands
+making_stands Storing = Birth.store_stands
+making_stands Bearing = Birth.bearing_stands
+
+-- each of access
+access_stands : (place : Access) → PlaceStands (places.Access place)
+access_stands LoadingMeta = Open.open_stands
+access_stands Walking = Walk.walk_stands
+access_stands Locating = Spine.locate_stands
+access_stands Indexing = Spine.index_stands
+access_stands Getting = Get.get_stands
+access_stands Naming = Get.name_stands
+access_stands LoadingOld = Set.old_stands
+access_stands ShadingOld = Set.shade_old_stands
+access_stands ShadingNew = Set.shade_new_stands
+access_stands Swapping = Set.swap_stands
+
+-- each of an answer to the phase
+polling_stands : (place : Polling) → PlaceStands (places.Polling place)
+polling_stands Asking = Poll.poll_stands
+polling_stands Shading = Poll.root_stands
+polling_stands Answering = Poll.answer_stands
+
+-- each of an inner call
+collecting_stands : (place : Collecting) → PlaceStands (places.Collecting place)
+collecting_stands Looking = Collect.look_stands
+collecting_stands (AskingBehind other) = Collect.asking_stands other
+collecting_stands (Comparing other phase) = Collect.comparing_stands other phase
+collecting_stands (Noting reply) = Collect.note_stands reply
+
+-- each of a leave
+leaving_stands : (place : Leaving) → PlaceStands (places.Leaving place)
+leaving_stands Emptying = Leave.empty_stands
+leaving_stands Parting = Leave.leave_stands
+
 -- each move stands, by the place
 stands_at : (place : Place) → PlaceStands place
 stands_at places.Idle = λ heap number seat here. tt
-stands_at (places.Making Granting) = Array.grant_stands
-stands_at (places.Making Withdrawing) = Array.withdraw_stands
-stands_at (places.Making Gathering) = Gather.claim_stands
-stands_at (places.Making Returning) = Gather.give_back_stands
-stands_at (places.Making Refusing) = Gather.refusal_stands
-stands_at (places.Making Placing) = Array.placing_stands
-stands_at (places.Making Listing) = Array.listing_stands
-stands_at (places.Making Storing) = Birth.store_stands
-stands_at (places.Making Bearing) = Birth.bearing_stands
+stands_at (places.Making place) = making_stands place
 stands_at places.Local = Local.telling_stands
-stands_at (places.Access LoadingMeta) = Open.open_stands
-stands_at (places.Access Walking) = Walk.walk_stands
-stands_at (places.Access Locating) = Spine.locate_stands
-stands_at (places.Access Indexing) = Spine.index_stands
-stands_at (places.Access Getting) = Get.get_stands
-stands_at (places.Access Naming) = Get.name_stands
-stands_at (places.Access LoadingOld) = Set.old_stands
-stands_at (places.Access ShadingOld) = Set.shade_old_stands
-stands_at (places.Access ShadingNew) = Set.shade_new_stands
-stands_at (places.Access Swapping) = Set.swap_stands
-stands_at (places.Polling Asking) = Poll.poll_stands
-stands_at (places.Polling Shading) = Poll.root_stands
-stands_at (places.Polling Answering) = Poll.answer_stands
-stands_at (places.Collecting Looking) = Collect.look_stands
-stands_at (places.Collecting (AskingBehind other)) = Collect.asking_stands other
-stands_at (places.Collecting (Comparing other phase)) = Collect.comparing_stands other phase
-stands_at (places.Collecting (Noting reply)) = Collect.note_stands reply
-stands_at (places.Leaving Emptying) = Leave.empty_stands
-stands_at (places.Leaving Parting) = Leave.leave_stands
+stands_at (places.Access place) = access_stands place
+stands_at (places.Polling place) = polling_stands place
+stands_at (places.Collecting place) = collecting_stands place
+stands_at (places.Leaving place) = leaving_stands place
 
 -- the move that is due
 pub move_stands : (heap : Heap) (number : ℕ) (seat : Seat) → IsHeap heap → number < 16 → Fits heap seat → IfSome (next_move heap number seat) (MoveStands heap number seat seat.place)

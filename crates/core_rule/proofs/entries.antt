@@ -16,4 +16,5 @@ pub mod AnswerEntries
 pub mod PhasesTold
 pub mod Noted
 pub mod ToldSpines
+pub mod ToldTurns
 pub mod Swung

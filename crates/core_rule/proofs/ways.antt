@@ -6,5 +6,6 @@ pub mod Chains
 pub mod LoadedObjects
 pub mod Rows
 pub mod WayFrames
+pub mod LoadedPlaces
 pub mod OnwardWays
 pub mod AtObject

@@ -75,8 +75,8 @@ abbrev pub dead_sum : Heap → (ℕ → ℕ) → (ℕ → Owner) → ℕ
 dead_sum heap weight owner = sum_upto (group_fragments * heap.groups) (λ f. dead_weight weight (owner f))
 
 -- how many spine words an object has
-abbrev pub words_of : (ℕ → Node) → ℕ → ℕ
-words_of nodes i = spine_words_of (nodes i)
+abbrev pub words_of_object : (ℕ → Node) → ℕ → ℕ
+words_of_object nodes i = spine_words_of (nodes i)
 
 -- how many it has in this half
 abbrev pub words_in_half : ℕ → (ℕ → Node) → (ℕ → Spot) → ℕ → ℕ
@@ -93,11 +93,11 @@ returning _ = 0
 
 -- those of arrays that are to be freed or were freed, and that aren't returned yet
 abbrev pub unreturned : Heap → State → Book → ℕ
-unreturned heap state book = dead_sum heap (words_of (nodes_in heap book)) book.owner + returning state.collector.stage
+unreturned heap state book = dead_sum heap (words_of_object (nodes_in heap book)) book.owner + returning state.collector.stage
 
 -- the granted words: those of calls, of kept arrays, and of arrays that aren't returned yet
 abbrev pub granted : Heap → State → Book → ℕ
-granted heap state book = of_seats heap state granted_at + kept_sum heap (words_of (nodes_in heap book)) book.owner + unreturned heap state book
+granted heap state book = of_seats heap state granted_at + kept_sum heap (words_of_object (nodes_in heap book)) book.owner + unreturned heap state book
 
 -- the words that a copy in progress has claimed
 abbrev pub copying_words : Stage → ℕ
@@ -134,7 +134,7 @@ pub record BudgetsStand (heap : Heap) (state : State) (book : Book) : Type 0 whe
   -- a cycle returns no more than the budget, and nothing before its sweep
   pub returned : returned_in_cycle book.history + unreturned heap state book ≤ heap.spine
   pub early : IsBetween barriers copying_phase state.collector.phase → returned_in_cycle book.history ≡ 0
-  pub counts : SweepCounts (words_of (nodes_in heap book)) book.owner state.collector.stage
+  pub counts : SweepCounts (words_of_object (nodes_in heap book)) book.owner state.collector.stage
 
 -- what a call has found that takes its spine words back is what a run may show, and a number of 32 bits
 abbrev pub UsedStands : Heap → List Entry → ℕ → Seat → Place → Type 0

@@ -4,8 +4,6 @@ use Rattle.heap_words.specs.declared.spot.Spot.{Spot}
 use Rattle.heap_words.specs.Spot.{spot_in}
 use Rattle.heap_model.specs.declared.heap.Heap.{Heap}
 use Rattle.core_machine.specs.declared.collector.stage.SpineCopy.{SpineCopy}
-use Rattle.core_machine.specs.declared.place.Access.TheVariants.{Indexing}
-use Rattle.core_machine.specs.declared.place.Place.TheVariants as places
 use Rattle.core_machine.specs.declared.table.address.Address.TheVariants.{Word}
 use Rattle.core_machine.specs.machine.Machine.{State, seat_at}
 use Rattle.core_machine.specs.seat.Seat.{spine_need}
@@ -13,7 +11,7 @@ use Rattle.core_machine.specs.table.Decode.{spine_words_in}
 use Rattle.core_machine.specs.table.Layout.{at}
 use Rattle.core_rule.specs.ControlWords.{IsBorn}
 use Rattle.core_rule.specs.Held.{IsHeld}
-use Rattle.core_rule.specs.Replicas.{copy_in}
+use Rattle.core_rule.specs.Replicas.{copy_in, CallsObject, HasLoaded}
 use Rattle.core_rule.specs.Spines.{HasPlace, IsWordOf}
 
 -- the word is one of so many of the spine at this place
@@ -27,10 +25,12 @@ pub record IsInHandOf (state : State) (number half offset : ℕ) : Type 0 where
   pub has : HasPlace (seat_at state number) (seat_at state number).place
   pub among : IsAmong (seat_at state number).spine (spine_need (seat_at state number)) half offset
 
--- its call has loaded the place of a spine to which the word belongs
+-- its call has loaded the place of a spine to which the word belongs, and isn't over: the array is the one in the call's register
 pub record IsLoadedBy (heap : Heap) (state : State) (number half offset : ℕ) : Type 0 where
-  pub reads : (seat_at state number).place ≡ places.Access Indexing
-  pub among : IsAmong (seat_at state number).address (spine_words_in (at heap state.words (Word (seat_at state number).reached 0))) half offset
+  pub loaded : HasLoaded (seat_at state number).place
+  pub sentinel : ℕ
+  pub calls : CallsObject (seat_at state number) sentinel
+  pub among : IsAmong (seat_at state number).address (spine_words_in (at heap state.words (Word sentinel 0))) half offset
 
 -- the collector has claimed it for the copy in progress
 pub record IsInCopy (state : State) (half offset : ℕ) : Type 0 where

@@ -37,7 +37,7 @@ pub record IsOther (heap : Heap) (number other : ℕ) : Type 0 where
   pub apart : other ≢ number
 
 -- the other seat has answered this phase since, or has left, or is behind by one phase as it was then
-pub record Compares (heap : Heap) (history : List Entry) (number other p : ℕ) : Type 0 where
+pub record HasCompared (heap : Heap) (history : List Entry) (number other p : ℕ) : Type 0 where
   pub asked : IsOther heap number other
   pub begun : p ≤ phase history
   pub behind : has_left other history ≡ false → last_answer other history < p
@@ -47,7 +47,7 @@ pub record Compares (heap : Heap) (history : List Entry) (number other p : ℕ) 
 abbrev pub CollectingStands : Heap → List Entry → ℕ → Collecting → Type 0
 CollectingStands heap history number Looking = Unit {0}
 CollectingStands heap history number (Asking other) = IsOther heap number other
-CollectingStands heap history number (Comparing other p) = Compares heap history number other p
+CollectingStands heap history number (Comparing other p) = HasCompared heap history number other p
 CollectingStands heap history number (Noting reply) = Unit {0}
 
 -- what holds at the places of an inner call

@@ -17,7 +17,7 @@ use Rattle.core_rule.specs.Colours.{IsMarked, WordPointsTo}
 use Rattle.core_rule.specs.Flight.{DeletionBarrier}
 use Rattle.core_rule.specs.Owners.{Owner, Kept, Dead}
 use Rattle.core_rule.specs.Paths.{IsWhite}
-use Rattle.core_rule.specs.Sources.{HasNoSpine}
+use Rattle.core_rule.specs.Sources.{TellsNoSpine}
 use Rattle.core_rule.specs.Sweep.{IsSettled, SweepStands}
 
 -- the fragment is part of a kept object
@@ -53,10 +53,10 @@ pub record IsSpineOf (heap : Heap) (words : List ℕ) (s : SpineScan) : Type 0 w
 -- what a scan has seen at each of its places, and has loaded: behind its first word, only a fragment without a spine is scanned word by word
 abbrev pub ScanStands : Heap → List ℕ → (ℕ → Owner) → (ℕ → Colour) → (ℕ → List ℕ) → Stage → Type 0
 ScanStands heap words owner colour fragments (stages.Scanning scan) =
-    IsSeen heap words colour scan.fragment scan.part × (0 < scan.part → HasNoSpine heap words scan.fragment)
+    IsSeen heap words colour scan.fragment scan.part × (0 < scan.part → TellsNoSpine heap words scan.fragment)
 ScanStands heap words owner colour fragments (stages.Shading scan target next) =
     IsSeen heap words colour scan.fragment scan.part × DeletionBarrier heap words colour scan.fragment scan.part (Some target)
-    × MayMark owner colour fragments target × ComesAfter owner scan.fragment scan.part next × HasNoSpine heap words scan.fragment
+    × MayMark owner colour fragments target × ComesAfter owner scan.fragment scan.part next × TellsNoSpine heap words scan.fragment
 ScanStands heap words owner colour fragments (stages.Locating scan count) =
     IsSeen heap words colour scan.fragment 4 × (count ≡ spine_words_in (at heap words (Word scan.fragment 0)))
 ScanStands heap words owner colour fragments (stages.Indexing s) = IsSeen heap words colour s.scan.fragment (4 + s.index) × IsSpineOf heap words s

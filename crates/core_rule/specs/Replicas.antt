@@ -16,9 +16,11 @@ use Rattle.core_machine.specs.declared.collector.stage.SpineCopy.{SpineCopy}
 use Rattle.core_machine.specs.declared.collector.stage.Stage.{Stage}
 use Rattle.core_machine.specs.declared.collector.stage.Stage.TheVariants as stages
 use Rattle.core_machine.specs.declared.collector.stage.Visit.{Visit}
-use Rattle.core_machine.specs.declared.place.Access.TheVariants.{Indexing}
+use Rattle.core_machine.specs.declared.place.Access.TheVariants.{Indexing, Getting, LoadingOld, ShadingOld, ShadingNew, Swapping}
 use Rattle.core_machine.specs.declared.place.Place.{Place}
 use Rattle.core_machine.specs.declared.place.Place.TheVariants as places
+use Rattle.core_machine.specs.seat.Commands.{object_of}
+use Rattle.core_machine.specs.seat.Registers.{register_head, register_in}
 use Rattle.core_machine.specs.seat.Seat.{Seat}
 use Rattle.core_machine.specs.table.Layout.{at, spine_place}
 use Rattle.core_machine.specs.table.Newborn.{spine_word}
@@ -33,15 +35,43 @@ pub record IsLeftReplica (heap : Heap) (words : List ℕ) (object : Node) (fragm
   pub left : (k : ℕ) → k < spine_words_of object → spine_owner address.half (address.offset + k) ≡ Gone
   pub listed : (k : ℕ) → k < spine_words_of object → at heap words (spine_place address k) ≡ spine_word (fragment_at fragments (k + 1))
 
--- where a call has loaded the place of a spine, that is the array's whose first fragment it has reached, or one that this has left
+-- a call whose object is an array has loaded the place of its spine there; a get that awaits a name has its cell
+abbrev pub HasLoaded : Place → Type 0
+HasLoaded (places.Access Indexing) = Unit {0}
+HasLoaded (places.Access Getting) = Unit {0}
+HasLoaded (places.Access LoadingOld) = Unit {0}
+HasLoaded (places.Access ShadingOld) = Unit {0}
+HasLoaded (places.Access ShadingNew) = Unit {0}
+HasLoaded (places.Access Swapping) = Unit {0}
+HasLoaded _ = ⊥
+
+-- what is so of a call at these places
+abbrev pub WhileLoaded : Type 0 → Place → Type 0
+WhileLoaded P (places.Access Indexing) = P
+WhileLoaded P (places.Access Getting) = P
+WhileLoaded P (places.Access LoadingOld) = P
+WhileLoaded P (places.Access ShadingOld) = P
+WhileLoaded P (places.Access ShadingNew) = P
+WhileLoaded P (places.Access Swapping) = P
+WhileLoaded P _ = Unit {0}
+
+-- the call's register holds the object that begins with this fragment
+abbrev pub CallsObject : Seat → ℕ → Type 0
+CallsObject seat f = register_head (register_in seat.registers (object_of seat.command)) ≡ Some f
+
+-- where that is an array, the place in hand is its spine's, or one that it has left
+abbrev pub ReadsSpine : Heap → List ℕ → (ℕ → Node) → (ℕ → Owner) → (ℕ → List ℕ) → (ℕ → Spot) → (ℕ → ℕ → SpineOwner) → Seat → Type 0
+ReadsSpine heap words nodes owner fragments spines spine_owner seat =
+    (i f : ℕ) → CallsObject seat f → owner f ≡ Kept i 0 → (nodes i).array ≡ true
+    → (seat.address ≡ spines i) ⊎ IsLeftReplica heap words (nodes i) (fragments i) spine_owner seat.answered seat.address
+
+-- so it is from the load of the place on until the call is over
 abbrev pub AddressStands : Heap → List ℕ → (ℕ → Node) → (ℕ → Owner) → (ℕ → List ℕ) → (ℕ → Spot) → (ℕ → ℕ → SpineOwner) → Seat → Place → Type 0
-AddressStands heap words nodes owner fragments spines spine_owner seat (places.Access Indexing) =
-    (i : ℕ) → owner seat.reached ≡ Kept i 0 → (seat.address ≡ spines i) ⊎ IsLeftReplica heap words (nodes i) (fragments i) spine_owner seat.answered seat.address
-AddressStands heap words nodes owner fragments spines spine_owner seat _ = Unit {0}
+AddressStands heap words nodes owner fragments spines spine_owner seat place = WhileLoaded (ReadsSpine heap words nodes owner fragments spines spine_owner seat) place
 
 -- the marked fragments of a visit are marked
-abbrev pub AreMarked : (ℕ → Colour) → Visit → Type 0
-AreMarked colour visit = (place : ℕ) → bit_at visit.marked place ≡ 1 → IsMarked colour (group_fragments * visit.group + place)
+abbrev pub VisitIsMarked : (ℕ → Colour) → Visit → Type 0
+VisitIsMarked colour visit = (place : ℕ) → bit_at visit.marked place ≡ 1 → IsMarked colour (group_fragments * visit.group + place)
 
 -- a kept array of so many spine words begins with the fragment
 pub record BeginsArray (nodes : ℕ → Node) (owner : ℕ → Owner) (f words : ℕ) : Type 0 where
@@ -51,23 +81,23 @@ pub record BeginsArray (nodes : ℕ → Node) (owner : ℕ → Owner) (f words :
   pub as_many : words ≡ spine_words_of (nodes index)
 
 -- the array that a visit has found, by its number and name
-pub record IsFound (nodes : ℕ → Node) (made : List Id) (owner : ℕ → Owner) (colour : ℕ → Colour) (array : ArrayAt) : Type 0 where
-  pub marked : AreMarked colour array.visit
+pub record HasFoundArray (nodes : ℕ → Node) (made : List Id) (owner : ℕ → Owner) (colour : ℕ → Colour) (array : ArrayAt) : Type 0 where
+  pub marked : VisitIsMarked colour array.visit
   pub begins : BeginsArray nodes owner (sentinel_at array) array.words
   pub named : array.id ≡ id_at made begins.index
 
 -- its spine stands there, in the half that was left
 pub record IsToCopy (nodes : ℕ → Node) (made : List Id) (owner : ℕ → Owner) (colour : ℕ → Colour) (spines : ℕ → Spot) (half : ℕ) (array : ArrayAt) (from : Spot) : Type 0 where
-  pub found : IsFound nodes made owner colour array
+  pub found : HasFoundArray nodes made owner colour array
   pub own : from ≡ spines found.begins.index
   pub left : from.half ≢ half
 
 -- what copying has found at each of its stages; a copy has its place in this half
 abbrev pub CopyingStands : (ℕ → Node) → List Id → (ℕ → Owner) → (ℕ → Colour) → (ℕ → List ℕ) → (ℕ → Spot) → ℕ → Copying → Type 0
 CopyingStands nodes made owner colour fragments spines half (copying.Visiting group) = Unit {0}
-CopyingStands nodes made owner colour fragments spines half (copying.Inspecting visit) = AreMarked colour visit
-CopyingStands nodes made owner colour fragments spines half (copying.Naming visit words) = AreMarked colour visit × BeginsArray nodes owner (visited visit) words
-CopyingStands nodes made owner colour fragments spines half (copying.Locating array) = IsFound nodes made owner colour array
+CopyingStands nodes made owner colour fragments spines half (copying.Inspecting visit) = VisitIsMarked colour visit
+CopyingStands nodes made owner colour fragments spines half (copying.Naming visit words) = VisitIsMarked colour visit × BeginsArray nodes owner (visited visit) words
+CopyingStands nodes made owner colour fragments spines half (copying.Locating array) = HasFoundArray nodes made owner colour array
 CopyingStands nodes made owner colour fragments spines half (copying.Claiming array from) = IsToCopy nodes made owner colour spines half array from
 CopyingStands nodes made owner colour fragments spines half (copying.Loading copy) = IsToCopy nodes made owner colour spines half copy.array copy.from × (copy.to.half ≡ half)
 CopyingStands nodes made owner colour fragments spines half (copying.Storing copy word) =

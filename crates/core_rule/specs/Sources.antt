@@ -7,8 +7,8 @@ use Rattle.core_machine.specs.table.Layout.{at, spine_place}
 use Rattle.core_machine.specs.table.Decode.{pointer_in, payload_in, spine_words_in}
 
 -- the fragment's first word tells of no spine: it is no array's meta
-abbrev pub HasNoSpine : Heap → List ℕ → ℕ → Type 0
-HasNoSpine heap words f = spine_words_in (at heap words (Word f 0)) ≡ 0
+abbrev pub TellsNoSpine : Heap → List ℕ → ℕ → Type 0
+TellsNoSpine heap words f = spine_words_in (at heap words (Word f 0)) ≡ 0
 
 -- where word k of a fragment's spine leads, where the fragment's first word is the meta of an array with more spine words than that
 abbrev pub spine_pointer : Heap → List ℕ → ℕ → ℕ → Option ℕ

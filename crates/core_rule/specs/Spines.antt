@@ -9,7 +9,7 @@ use Rattle.core_machine.specs.declared.place.Making.TheVariants.{Listing, Storin
 use Rattle.core_machine.specs.declared.place.Place.{Place}
 use Rattle.core_machine.specs.declared.place.Place.TheVariants as places
 use Rattle.core_machine.specs.declared.table.address.Address.TheVariants as addresses
-use Rattle.core_machine.specs.seat.Commands.{IsArray}
+use Rattle.core_machine.specs.seat.Commands.{IsArrayCall}
 use Rattle.core_machine.specs.seat.Seat.{Seat, spine_need}
 use Rattle.core_machine.specs.table.Layout.{at, spine_place}
 use Rattle.core_machine.specs.table.Newborn.{spine_word}
@@ -39,9 +39,9 @@ pub record SpinesStand (heap : Heap) (words : List ℕ) (seats made : ℕ) (node
 
 -- a spine has its place while its words and those of its array are stored, and until the array is whole
 abbrev pub HasPlace : Seat → Place → Type 0
-HasPlace seat (places.Making Listing) = IsArray seat.command
-HasPlace seat (places.Making Storing) = IsArray seat.command
-HasPlace seat (places.Making Bearing) = IsArray seat.command
+HasPlace seat (places.Making Listing) = IsArrayCall seat.command
+HasPlace seat (places.Making Storing) = IsArrayCall seat.command
+HasPlace seat (places.Making Bearing) = IsArrayCall seat.command
 HasPlace seat _ = ⊥
 
 -- the seat has exactly the words of the spine that it makes, from when that has its place, and has stored the first ones: each names a payload fragment

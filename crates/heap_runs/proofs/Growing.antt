@@ -18,7 +18,7 @@ use Rattle.heap_model.specs.graph.Graph.{Graph, opening}
 use Rattle.heap_model.specs.graph.Growth.{after_entry}
 use Rattle.heap_model.specs.graph.Legal.{Accepts}
 use Rattle.heap_model.proofs.Histories.{graph_after-more, AcceptsAll-more, KeepsSpaceAfter-more}
-use Rattle.core_machine.specs.seat.Commands.{IsRecord, IsArray}
+use Rattle.core_machine.specs.seat.Commands.{IsRecordCall, IsArrayCall}
 use Rattle.heap_runs.specs.Growing.{is_plain, IsPlainEntry, IsGrowing}
 use Rattle.heap_runs.specs.PlayHeap.{PlayState, IsPlayed, AnswersOnce}
 
@@ -98,11 +98,11 @@ comes_plain number last (commands.Copy d r) plain = refl
 comes_plain number last commands.Leave plain = refl
 comes_plain number last _ plain = cc plain
 
-no_record : (command : Command) → is_plain command ≡ true → IsRecord command → ⊥
+no_record : (command : Command) → is_plain command ≡ true → IsRecordCall command → ⊥
 no_record (commands.New d fields) plain is = cc plain
 no_record _ plain is = absurd is
 
-no_array : (command : Command) → is_plain command ≡ true → IsArray command → ⊥
+no_array : (command : Command) → is_plain command ≡ true → IsArrayCall command → ⊥
 no_array (commands.Array d cells) plain is = cc plain
 no_array _ plain is = absurd is
 

@@ -11,7 +11,7 @@ use Rattle.heap_model.specs.calls.SeatLaws.{EachCallIsShort}
 use Rattle.core_machine.specs.machine.Calls.{PlaysCall, AnswersNew, AnswersArray, TellsLeave, IsPlaceRefusal, LeavesAll}
 use Rattle.core_machine.specs.machine.Machine.{State, seat_at}
 use Rattle.core_machine.specs.machine.Value.{MachineValue, log_of, spare_of, SpendsRoom}
-use Rattle.core_machine.specs.seat.Commands.{IsRecord, IsArray}
+use Rattle.core_machine.specs.seat.Commands.{IsRecordCall, IsArrayCall}
 use Rattle.core_rule.specs.Laws.{EveryRunKeeps}
 use Rattle.core_rule.proofs.parties.Logs.{log_longer}
 use Rattle.core_rule.proofs.parties.OneSeat.{after_call}
@@ -37,8 +37,8 @@ pub record CallFacts (whole : MachineHeapValue) (one two : MachineValue) (seat :
 pub call_facts : EveryRunKeeps → EachCallIsShort → (whole : MachineHeapValue) (one two : MachineValue) (seat : ℕ) (command : Command) (reply : Reply)
     → IsBetweenCalls whole.machine.heap whole.machine.state whole.entries → MayCall (play_state_of whole) seat command → one ≡ record whole.machine { spares = one.spares }
     → spare_of one (length whole.machine.state.seats) ≡ spare_of whole.machine (length whole.machine.state.seats)
-    → PlaysCall one.heap one.state two.state seat command reply → (IsRecord command → AnswersNew one.heap one.state two.state seat command reply)
-    → (IsArray command → AnswersArray one.heap one.state two.state seat command reply)
+    → PlaysCall one.heap one.state two.state seat command reply → (IsRecordCall command → AnswersNew one.heap one.state two.state seat command reply)
+    → (IsArrayCall command → AnswersArray one.heap one.state two.state seat command reply)
     → (command ≡ Leave → TellsLeave one.state two.state seat) → (IsPlaceRefusal reply → LeavesAll one.state two.state seat) → SpendsRoom one two seat → CallFacts whole one two seat command reply
 call_facts runs each_short whole one two seat command reply between may same room call answer array leave refused spent =
     let heap = whole.machine.heap in
@@ -68,8 +68,8 @@ call_facts runs each_short whole one two seat command reply between may same roo
 pub noted_call : EveryRunKeeps → EachCallIsShort → (whole self : MachineHeapValue) (one two : MachineValue) (seat : ℕ) (command : Command) (reply : Reply) → IsBetweenCalls whole.machine.heap whole.machine.state whole.entries
     → whole ≡ self → MayCall (play_state_of self) seat command → one ≡ record whole.machine { spares = one.spares }
     → ((other : ℕ) → other ≢ seat → spare_of one other ≡ spare_of whole.machine other)
-    → PlaysCall one.heap one.state two.state seat command reply → (IsRecord command → AnswersNew one.heap one.state two.state seat command reply)
-    → (IsArray command → AnswersArray one.heap one.state two.state seat command reply)
+    → PlaysCall one.heap one.state two.state seat command reply → (IsRecordCall command → AnswersNew one.heap one.state two.state seat command reply)
+    → (IsArrayCall command → AnswersArray one.heap one.state two.state seat command reply)
     → (command ≡ Leave → TellsLeave one.state two.state seat) → (IsPlaceRefusal reply → LeavesAll one.state two.state seat) → SpendsRoom one two seat → CallFacts whole one two seat command reply
 noted_call runs each_short whole self one two seat command reply between is may same others call answer array leave refused spent =
     let here = subst (λ (v : MachineHeapValue). MayCall (play_state_of v) seat command) (sym is) may in

@@ -9,7 +9,7 @@ use Rattle.heap_model.specs.declared.reply.Reply.{Reply}
 use Rattle.heap_model.specs.declared.calls.collect.Inner.{Inner}
 use Rattle.heap_model.specs.declared.calls.collector_calls.Turn.{Turn}
 use Rattle.heap_model.specs.Heap.{IsHeap}
-use Rattle.core_machine.specs.seat.Commands.{IsRecord, IsArray}
+use Rattle.core_machine.specs.seat.Commands.{IsRecordCall, IsArrayCall}
 use Rattle.core_machine.specs.machine.Calls.{PlaysCall, AnswersNew, AnswersArray, TellsLeave, IsPlaceRefusal, LeavesAll}
 use Rattle.core_machine.specs.machine.InnerCalls.{PlaysInner, inner_entries}
 use Rattle.core_machine.specs.machine.Machine.{State, seat_at, Event, Turns, Can, Run, next_turn, found_by, state_after, state_after_all, entries, history}
@@ -72,8 +72,8 @@ pub record CallsOnce (old new : MachineHeapValue) (number : ℕ) (command : Comm
   pub same_heap : new.machine.heap ≡ old.machine.heap
   pub call : PlaysCall old.machine.heap old.machine.state new.machine.state number command reply
   pub noted : new.entries ≡ old.entries ++ (call.before ++ Said number command reply ∷ [])
-  pub answer : IsRecord command → AnswersNew old.machine.heap old.machine.state new.machine.state number command reply
-  pub array : IsArray command → AnswersArray old.machine.heap old.machine.state new.machine.state number command reply
+  pub answer : IsRecordCall command → AnswersNew old.machine.heap old.machine.state new.machine.state number command reply
+  pub array : IsArrayCall command → AnswersArray old.machine.heap old.machine.state new.machine.state number command reply
   pub leave : command ≡ Leave → TellsLeave old.machine.state new.machine.state number
   pub refused : IsPlaceRefusal reply → LeavesAll old.machine.state new.machine.state number
 

@@ -23,7 +23,7 @@ use Rattle.heap_model.specs.calls.CollectorCalls.{CollectorState, Turns}
 use Rattle.heap_model.specs.calls.SeatCalls.{HasNumber, Adds}
 use Rattle.heap_model.specs.calls.SeatReplies.{next_id}
 use Rattle.heap_model.specs.calls.SeatState.{SeatState, own_graph_seat}
-use Rattle.core_machine.specs.seat.Commands.{IsRecord, IsArray}
+use Rattle.core_machine.specs.seat.Commands.{IsRecordCall, IsArrayCall}
 use Rattle.heap_runs.specs.Play.{tells_step}
 
 -- the heap, the entries of all its parties in their order, for how many more of the collector's there is room, the number of turns as far
@@ -94,8 +94,8 @@ pub record AnswersOnce (old new : PlayState) (number : ℕ) (command : Command) 
   pub turns_stay : new.turns ≡ old.turns
   pub last_stays : new.last_turn ≡ old.last_turn
   pub left : command ≡ Leave → reply ≡ replies.Done
-  pub made : IsRecord command → (reply ≡ replies.Made (next_id (seat_state_of old number))) ↔ IsEnough old number command
-  pub array : IsArray command → AnswersArrayOnce old number command reply
+  pub made : IsRecordCall command → (reply ≡ replies.Made (next_id (seat_state_of old number))) ↔ IsEnough old number command
+  pub array : IsArrayCall command → AnswersArrayOnce old number command reply
 
 -- what is told while a seat collects: its answers to the phases that begin, and the collector's steps and ends of cycles
 abbrev pub TellsInCollect : ℕ → Entry → Type 0

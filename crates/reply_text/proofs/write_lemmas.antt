@@ -2,3 +2,4 @@
 pub mod Lines
 pub mod MarkedText
 pub mod WordsAbove
+pub mod Briefs

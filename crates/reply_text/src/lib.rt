@@ -1,4 +1,4 @@
-//! Histories as texts: written, and read by a grammar of whole lines.
+//! Histories as texts: written, also in brief, and read by a grammar of whole lines.
 #![tactic(auto)]
 
 mod history;
@@ -9,6 +9,8 @@ mod write;
 pub use history::{History, SpaceMark};
 pub use history_line::HistoryLine;
 pub use read::reading::read_history;
+pub use write::brief::render_brief;
+pub use write::counts::BriefCounts;
 pub use write::rendering::{push_entry, render_entry};
 pub use write::text::render_history;
 

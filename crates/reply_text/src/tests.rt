@@ -338,3 +338,36 @@ fn most_lines(rt: HostRuntime) -> Result<(), Fail> {
     }
     Ok(())
 }
+
+// Commands of each refusal and some that are not, leaves, frees and cycles.
+const MIXED: &[u8] = b"history 1 play\nheap 2 4 2\n\
+    0 takes 16\n0 new 1 2 = 0.0\n0 new 2 47 = full need 16 found 4\n\
+    1 array 1 64 = spine need 16 used 0\n1 get 1 5 0 = no object\n0 get 1 1 9 = no field\n\
+    0 array 3 1 = 0.1\n0 poll = 0\nc turns 3 = done\nc swings 0.1\n\
+    space used 27 of 32 spine 1 of 4\n\
+    0 leave = ok\n1 leave = ok\nc frees 7\nc ends 0 kept 3\nc frees 4294967295\nc ends 1 kept 0\n\
+    end used 5\n";
+
+// Each number is counted by hand.
+const MIXED_BRIEF: &[u8] = b"brief 1\nheap 2 4 2\ncommands 7 refused 4\n\
+    made 2 cycles 2 freed 4294967302 swung 1\nspace used 27 of 32 spine 1 of 4\nend used 5\n";
+
+#[test]
+fn brief(rt: HostRuntime) -> Result<(), Fail> {
+    let mark = SpaceMark {
+        before: 10,
+        used: 27,
+        total: 32,
+        spine: 1,
+        budget: 4,
+    };
+    let read = read_history(rt.alloc(), MIXED)?;
+    assert_eq!(rt; read.mark, Some(mark));
+    let play = History {
+        form: Form::Play,
+        mark: Some(mark),
+        ..read
+    };
+    assert_eq!(rt; render_brief(rt.alloc(), &play)?.as_slice(), MIXED_BRIEF);
+    Ok(())
+}

@@ -92,6 +92,12 @@ fn plays_scripts_and_checks_the_plays(rt: HostRuntime) -> Result<(), Fail> {
             "legal 17\n",
         ),
         (
+            "schism 1\nheap 1 0 1\n0 num 1 1073741823\n",
+            Status::Done,
+            "history 1 play\nheap 1 0 1\n0 num 1 1073741823 = ok\nspace used 11 of 16 spine 0 of 0\n0 leave = ok\nc phase 1\nc phase 2\nc phase 3\nc phase 4\nc phase 5\nc frees 11\nc phase 6\nc ends 0 kept 0\nend used 0\n",
+            "legal 10\n",
+        ),
+        (
             "schism 1\nheap 17 0 1\n0 num 1 1073741823\n0 set 0 31 1\n0 nil 1\n0 get 2 0 31\n",
             Status::Done,
             "history 1 play\nheap 17 0 1\n0 num 1 1073741823 = ok\n0 set 0 31 1 = was -\n0 nil 1 = ok\n0 get 2 0 31 = number 1073741823 at 0:1\nspace used 11 of 272 spine 0 of 0\n0 leave = ok\nc phase 1\nc phase 2\nc phase 3\nc phase 4\nc phase 5\nc frees 11\nc phase 6\nc ends 0 kept 0\nend used 0\n",

@@ -8,3 +8,4 @@ pub mod WordBytes
 pub mod Whole
 pub mod Sentences
 pub mod OperandCauses
+pub mod MadeLines

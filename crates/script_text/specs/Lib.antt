@@ -10,3 +10,5 @@ pub mod Reading
 pub mod Names
 pub mod Left
 pub mod Writing
+pub mod Generator
+pub mod Made

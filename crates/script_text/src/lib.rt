@@ -1,11 +1,13 @@
-//! Scripts as texts: read by a grammar of whole lines, and written.
+//! Scripts as texts: read by a grammar of whole lines, written, and made from a number.
 #![tactic(auto)]
 
 mod cause;
 mod command;
 mod cut;
+mod generator;
 mod heap_line;
 mod line;
+mod making;
 mod name;
 mod number;
 mod operand;
@@ -21,6 +23,7 @@ pub use cause::{Cause, LineFault, ScriptFault};
 pub use command::operands;
 pub use cut::cut as cut_at;
 pub use heap_line::read_heap;
+pub use making::{MOST_MADE_LINES, MOST_START, make_script};
 pub use name::{Name, read_name};
 pub use number::read_number;
 pub use parts::Parts;

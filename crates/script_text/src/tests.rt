@@ -1,4 +1,5 @@
 use super::*;
+use crate::generator::Generator;
 use heap_model::{Command, Heap, TurnCommand};
 use std::alloc::Global;
 use std::test::Fail;
@@ -223,5 +224,44 @@ fn most_lines(rt: HostRuntime) -> Result<(), Fail> {
         fault_of(rt.alloc(), &text, Form::Play),
         fault(65_537, Cause::TooManyLines)
     );
+    Ok(())
+}
+
+#[test]
+fn draws(rt: HostRuntime) {
+    let mut generator = Generator::new(1);
+    for wanted in [
+        16838, 5758, 10113, 17515, 31051, 5627, 23010, 7419, 16212, 4086, 2749,
+    ] {
+        assert_eq!(rt; generator.draw(), wanted);
+    }
+}
+
+// What another program makes of these numbers.
+const MADE_ALONE: &[u8] =
+    b"schism 1\nheap 64 256 1\n0 copy 14 1\n0 set 11 3 2\n0 set 4 6 13\n0 poll\n";
+
+const MADE_OF_THREE: &[u8] = b"schism 1\nheap 64 256 3\n\
+    0 num 12 10868\n1 get 12 5 2\n2 copy 6 1\n0 nil 14\n1 copy 15 13\n2 get 11 6 6\n\
+    0 num 13 18467\n1 same 10 13\n2 new 5 10\n0 poll\n1 poll\n2 poll\n0 get 6 5 6\n1 get 6 4 3\n";
+
+const MADE_OF_TWO: &[u8] = b"schism 1\nheap 64 256 2\n\
+    0 array 15 7\n1 copy 14 2\n0 new 9 5\n1 copy 9 9\n0 set 0 5 14\n";
+
+const MADE_EMPTY: &[u8] = b"schism 1\nheap 64 256 16\n";
+
+#[test]
+fn made(rt: HostRuntime) -> Result<(), Fail> {
+    let alloc = rt.alloc();
+    let alone = make_script(alloc, 1, 1, 4)?;
+    assert_eq!(rt; write_script(alloc, &alone)?.as_slice(), MADE_ALONE);
+    let of_three = make_script(alloc, 7, 3, 14)?;
+    assert_eq!(rt; write_script(alloc, &of_three)?.as_slice(), MADE_OF_THREE);
+    let of_two = make_script(alloc, MOST_START, 2, 5)?;
+    assert_eq!(rt; write_script(alloc, &of_two)?.as_slice(), MADE_OF_TWO);
+    let empty = make_script(alloc, 0, 16, 0)?;
+    assert_eq!(rt; write_script(alloc, &empty)?.as_slice(), MADE_EMPTY);
+    let most = make_script(alloc, 5, 1, MOST_MADE_LINES)?;
+    assert_eq!(rt; most.lines.as_slice().len(), 32_768);
     Ok(())
 }

@@ -7,9 +7,9 @@ use Rattle.heap_model.specs.Command.{IsCommand}
 use Rattle.heap_model.specs.Needs.{spine_need_of}
 use Rattle.core_machine.specs.declared.table.address.Address.{Address}
 use Rattle.core_machine.specs.declared.table.address.Address.TheVariants.{Phase, Answer, Budget, Spot, Control, Word, Spine}
-use Rattle.core_machine.specs.machine.Calls.{free_count, LacksWords}
+use Rattle.core_machine.specs.machine.Calls.{free_count, LacksSpineWords}
 use Rattle.core_machine.specs.machine.Machine.{State}
-use Rattle.core_machine.specs.seat.Commands.{MakesObject, IsArray}
+use Rattle.core_machine.specs.seat.Commands.{MakesObject, IsArrayCall}
 use Rattle.core_machine.specs.table.Fragments.{clear_in}
 use Rattle.core_machine.specs.table.Layout.{at, put, InTable, table_length, SameTable}
 use Rattle.core_machine.specs.table.Operation.{address_of, word_after}
@@ -99,5 +99,5 @@ refusal_restores heap _ old base now makes range table small asks same = absurd 
 pub record HasClaimed (heap : Heap) (old : State) (words : List ℕ) (command : Command) (hand : List ℕ) : Type 0 where
   pub base : List ℕ
   pub asked : AsksWords heap (spine_need_of command) old.words base
-  pub granted : IsArray command → LacksWords heap old command → ⊥
+  pub granted : IsArrayCall command → LacksSpineWords heap old command → ⊥
   pub claims : Claims heap base words hand

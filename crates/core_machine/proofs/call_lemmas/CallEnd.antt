@@ -1,7 +1,9 @@
 -- What a call that is over comes to.
-use Rattle.std.proofs.Common.{◌≡◌, ◌≢◌, ℕ, ◌-◌, List, [], ◌∷◌, ◌++◌, length, Option, Some, None, refl, sym, ap, subst, ◌∙◌, length-append, append_assoc, append-nil, arith}
+use Rattle.std.proofs.Common.{◌≡◌, ◌≢◌, ℕ, ◌+◌, ◌-◌, ◌^◌, ◌<◌, ◌≤◌, List, [], ◌∷◌, ◌++◌, length, Option, Some, None, refl, sym, ap, subst, ◌∙◌, length-append, append_assoc, append-nil, arith}
 use Rattle.std.specs.Prelude.{IsSome, option_and_then, option_map}
 use Rattle.core_machine.specs.declared.step.Step.{Step}
+use Rattle.core_machine.specs.declared.table.address.Address.{Address}
+use Rattle.core_machine.specs.table.Layout.{at, InTable}
 use Rattle.std.specs.List.{AllByRecursion}
 use Rattle.std.proofs.lemmas.List.{append_cancel_right}
 use Rattle.std.proofs.lemmas.Option.{slice_get-get_or}
@@ -17,16 +19,17 @@ use Rattle.core_machine.specs.declared.place.Place.{Place}
 use Rattle.core_machine.specs.declared.place.Place.TheVariants as places
 use Rattle.core_machine.specs.seat.Seat.{Seat}
 use Rattle.core_machine.specs.Moves.{Move, move_at, next_move, due_step}
-use Rattle.core_machine.specs.machine.Machine.{State, seat_at}
+use Rattle.core_machine.specs.machine.Machine.{State, seat_at, Steps, state_after}
 use Rattle.heap_model.specs.declared.command.Command.TheVariants.{Leave}
 use Rattle.core_machine.specs.machine.Calls.{IsBeside, PlaysCall, CountsCall, TellsLeave, AnswersNew, AnswersArray, reply_of, last_reply_of, IsPlaceRefusal, LeavesAll}
-use Rattle.core_machine.specs.machine.Value.{MachineValue, log_of}
+use Rattle.core_machine.specs.machine.Value.{MachineValue, IsMachine, log_of, spare_of, SpendsRoom}
 use Rattle.core_machine.proofs.call_lemmas.Saying.{Says, IsOver}
 use Rattle.core_machine.proofs.call_lemmas.Stages.{ComesDue, Answered, Stage}
 use Rattle.core_machine.specs.seat.Awaiting.{entries_awaited_at}
-use Rattle.core_machine.specs.seat.Commands.{IsRecord, IsArray}
-use Rattle.core_machine.proofs.call_lemmas.Calling.{Playing}
-use Rattle.core_machine.proofs.call_lemmas.CallRoom.{log_of_seat}
+use Rattle.core_machine.specs.seat.Commands.{IsRecordCall, IsArrayCall}
+use Rattle.core_machine.proofs.call_lemmas.Calling.{Playing, playing_more}
+use Rattle.core_machine.proofs.call_lemmas.CallRoom.{log_of_seat, step_room, spends_on}
+use Rattle.core_machine.proofs.call_lemmas.Owes.{owes, steps_left}
 
 -- a call that has no step due is over
 idle_at : (heap : Heap) (number : ℕ) (seat : Seat) (place : Place) → option_map (λ m. m.step) (move_at heap number seat place) ≡ None → place ≡ places.Idle
@@ -135,13 +138,57 @@ pub none_left : {heap : Heap} (now : MachineValue) (number : ℕ) {due : Option 
 none_left now number same is not_ =
     ap (λ h. due_step h number (seat_at now.state number)) (sym same) ∙ sym is ∙ none_due _ not_
 
+-- one more step of a call was made, which was due: the machine's, which leaves fewer steps and room for them
+pub record StepsOn (first old new : MachineValue) (number : ℕ) : Type 0 where
+  pub some : IsSome (next_move first.heap number (seat_at old.state number))
+  pub heap_is : new.heap ≡ first.heap
+  pub state_is : new.state ≡ state_after first.heap old.state (Steps number)
+  pub fewer : steps_left new.heap (seat_at new.state number) < steps_left old.heap (seat_at old.state number)
+  pub room : owes (seat_at new.state number) + 2 ≤ spare_of new number
+  pub spent : SpendsRoom first new number
+
+pub steps_on : {first old new : MachineValue} {number : ℕ} {step : Step} → IsMachine first.heap old.state → number < length old.state.seats → old.heap ≡ first.heap
+    → due_step old.heap number (seat_at old.state number) ≡ Some step → new.heap ≡ old.heap → new.state ≡ state_after old.heap old.state (Steps number)
+    → SpendsRoom old new number → owes (seat_at old.state number) + 2 ≤ spare_of old number → SpendsRoom first old number → StepsOn first old new number
+steps_on {first} {old} {new} {number} {step} machine within same due heap state spends room spent =
+    let next = step_room old new number step (subst (λ h. IsMachine h old.state) (sym same) machine) within due state spends room in
+    record {
+      some = some_due first.heap number (seat_at old.state number) step (ap (λ h. due_step h number (seat_at old.state number)) (sym same) ∙ due);
+      heap_is = heap ∙ same;
+      state_is = state ∙ ap (λ h. state_after h old.state (Steps number)) same;
+      fewer = subst (λ h. steps_left h (seat_at new.state number) < steps_left old.heap (seat_at old.state number)) (sym heap) next.0;
+      room = next.1;
+      spent = spends_on first old new number spent spends;
+    }
+
+-- a call is under way that no other step came into, with room for the rest of it
+pub record CallGoes (first now : MachineValue) (number : ℕ) (command : Command) : Type 0 where
+  pub small : (a : Address) → InTable first.heap a → at first.heap first.state.words a < 2 ^ 64
+  pub playing : Playing first.heap first.state now.state number command
+  pub room : owes (seat_at now.state number) + 2 ≤ spare_of now number
+
+-- so it is after one more step of it
+pub call_steps : {first old new : MachineValue} {number : ℕ} {command : Command} {step : Step} → CallGoes first old number command → old.heap ≡ first.heap → SpendsRoom first old number
+    → due_step old.heap number (seat_at old.state number) ≡ Some step → new.heap ≡ old.heap → new.state ≡ state_after old.heap old.state (Steps number) → SpendsRoom old new number
+    → StepsOn first old new number × CallGoes first new number command
+call_steps {first} {old} {new} {number} {command} goes same spent due heap state spends =
+    let on = steps_on goes.playing.machine goes.playing.within same due heap state spends goes.room spent in (
+      on,
+      record {
+        small = goes.small;
+        playing = subst (λ (s : State). Playing first.heap first.state s number command) (sym on.state_is)
+            (playing_more first.heap first.state old.state number command goes.small goes.playing on.some);
+        room = on.room;
+      },
+    )
+
 -- a call that is over was made whole, and its last entry tells the answer
 pub record CallOver (heap : Heap) (old now : State) (number : ℕ) (command : Command) (reply : Reply) : Type 0 where
   pub steps : PlaysCall heap old now number command reply
   pub counts : CountsCall (seat_at old number) (seat_at now number) command
   pub leave : command ≡ Leave → TellsLeave old now number
-  pub answer : IsRecord command → AnswersNew heap old now number command reply
-  pub array : IsArray command → AnswersArray heap old now number command reply
+  pub answer : IsRecordCall command → AnswersNew heap old now number command reply
+  pub array : IsArrayCall command → AnswersArray heap old now number command reply
   pub refused : IsPlaceRefusal reply → LeavesAll old now number
 
 pub call_over : {heap : Heap} {old : State} (now : MachineValue) {number : ℕ} {command : Command} {reply : Reply} → Playing heap old now.state number command
@@ -162,6 +209,13 @@ call_over {heap} {old} now {number} {command} {reply} playing none last =
   where
     some_same : (a b : Reply) → Some a ≡ Some b → a ≡ b
     some_same a b e = cc
+
+-- so it is where a loop of its steps has none left
+pub call_ends : {heap : Heap} {old : State} (now : MachineValue) {number : ℕ} {command : Command} {reply : Reply} {due : Option Step} {told : List Entry} {last : Option Reply}
+    → Playing heap old now.state number command → now.heap ≡ heap → due ≡ due_step now.heap number (seat_at now.state number) → ((step : Step) → due ≡ Some step → ⊥)
+    → told ≡ log_of now number → last ≡ last_reply_of told → last ≡ Some reply → CallOver heap old now.state number command reply
+call_ends now {number} playing same due not_ told last is =
+    call_over now playing (none_left now number same due not_) (ap last_reply_of (sym told) ∙ sym last ∙ is)
 
 -- and so it tells some reply
 pub call_replies : {heap : Heap} {old : State} (now : MachineValue) {number : ℕ} {command : Command} → Playing heap old now.state number command

@@ -21,7 +21,7 @@ use Rattle.core_machine.proofs.call_lemmas.Saying.{Says}
 use Rattle.core_machine.proofs.moves.{begin_stands}
 use Rattle.core_machine.proofs.moves.Standing.{MoveStands}
 use Rattle.core_machine.specs.seat.Awaiting.{entries_awaited}
-use Rattle.core_machine.proofs.machine_lemmas.Runs.{Run-more, after_all-more, history-more, call_events-more, seat_at-set, machine_after, moves_stand}
+use Rattle.core_machine.proofs.machine_lemmas.Runs.{runs_on, call_events-more, seat_at-set, machine_after, moves_stand}
 
 -- a call is under way, and no other party made a step since its begin
 pub record Playing (heap : Heap) (old now : State) (number : ℕ) (command : Command) : Type 0 where
@@ -95,7 +95,7 @@ pub playing_more : (heap : Heap) (old now : State) (number : ℕ) (command : Com
     → Playing heap old (state_after heap now (Steps number)) number command
 playing_more heap old now number command small playing some =
     let events = call_events number command playing.steps in
-    let more = call_events-more number command playing.steps in
+    let runs = runs_on heap old now events _ (Steps number) playing.told (call_events-more number command playing.steps) (record { can = playing.can; ends = playing.ends; shows = playing.shows }) some in
     let next = state_after heap now (Steps number) in
     let machine = machine_after heap now (Steps number) playing.machine some in
     let stands = moves_stand heap now number playing.machine playing.within in
@@ -104,14 +104,12 @@ playing_more heap old now number command small playing some =
     stands some in
     record {
       steps = playing.steps + 1;
-      can = subst (Run heap old) (sym more) (Run-more heap old events (Steps number) playing.can (subst (λ (s : State). Can heap s (Steps number)) playing.ends some));
-      ends = ap (λ (s : State). state_after heap s (Steps number)) playing.ends ∙ sym (after_all-more heap old events (Steps number)) ∙ ap (state_after_all heap old) (sym more);
+      can = runs.can;
+      ends = runs.ends;
       machine = machine;
       within = omega (arith, playing.within, machine.seated, playing.machine.seated);
       told = playing.told ++ entries heap now (Steps number);
-      shows = ap (history heap old) more ∙ history-more heap old events (Steps number)
-          ∙ ap (λ (l : List Entry). l ++ entries heap (state_after_all heap old events) (Steps number)) playing.shows
-          ∙ ap (λ (s : State). playing.told ++ entries heap s (Steps number)) (sym playing.ends);
+      shows = runs.shows;
       mine = left.0;
       stage = left.1;
       says = says_by heap (seat_at old number) now number command playing.told (next_move heap number (seat_at now number)) playing.within some stands playing.says;

@@ -17,7 +17,7 @@ use Rattle.heap_model.specs.declared.reply.Reply.TheVariants as replies
 use Rattle.heap_model.specs.calls.SeatCalls.{takes_of, gives_of, IsGroupCount, ClaimsBefore, ComesBefore}
 use Rattle.heap_model.specs.account.Space.{need_of}
 use Rattle.heap_model.proofs.account_lemmas.Snoc.{same_last}
-use Rattle.core_machine.specs.seat.Commands.{MakesObject, IsArray}
+use Rattle.core_machine.specs.seat.Commands.{MakesObject, IsArrayCall}
 use Rattle.core_machine.specs.table.Fragments.{in_group, out_of_group, part_in, part_out, clear_in}
 use Rattle.core_machine.specs.seat.Making.{first_group_of}
 use Rattle.core_machine.specs.seat.MakingMoves.{takes_some}
@@ -197,7 +197,7 @@ comes_of_object number unborn last (Array d cells) _ before makes claims = claim
 comes_of_object number unborn last _ reply before makes claims = absurd makes
 
 -- nothing comes before the refusal of an array's spine words
-pub comes_of_withdrawal : (number unborn last : ℕ) (command : Command) (shown used : ℕ) (before : List Entry) → IsArray command → before ≡ []
+pub comes_of_withdrawal : (number unborn last : ℕ) (command : Command) (shown used : ℕ) (before : List Entry) → IsArrayCall command → before ≡ []
     → ComesBefore number unborn last command (replies.SpineFull shown used) before
 comes_of_withdrawal number unborn last (Array d cells) shown used before an_array none = none
 comes_of_withdrawal number unborn last _ shown used before an_array none = absurd an_array

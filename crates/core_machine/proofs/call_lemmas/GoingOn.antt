@@ -8,7 +8,7 @@ use Rattle.heap_model.specs.declared.command.Command.TheVariants.{New, Array}
 use Rattle.heap_model.specs.Needs.{spine_need_of}
 use Rattle.heap_model.specs.declared.entry.Entry.{Entry}
 use Rattle.heap_model.specs.account.Space.{need_of}
-use Rattle.core_machine.specs.seat.Commands.{IsRecord, IsArray}
+use Rattle.core_machine.specs.seat.Commands.{IsRecordCall, IsArrayCall}
 use Rattle.core_machine.specs.declared.table.address.Address.TheVariants.{Budget, Control}
 use Rattle.core_machine.specs.declared.place.Place.TheVariants as places
 use Rattle.core_machine.specs.declared.place.Making.{Making}
@@ -45,7 +45,7 @@ with_entries-nil : (seat : Seat) → with_entries seat [] ≡ seat
 with_entries-nil seat = ap (λ (mine : List Entry). record seat { mine = mine }) (append-nil seat.mine)
 
 -- a record needs no spine word
-record_words : (command : Command) → IsRecord command → spine_need_of command ≡ 0
+record_words : (command : Command) → IsRecordCall command → spine_need_of command ≡ 0
 record_words (New d fields) a_record = refl
 record_words _ a_record = absurd a_record
 
@@ -68,7 +68,7 @@ untouched_own old now number told seat is = record {
 }
 
 -- an array is no record
-pub array_no_record : (command : Command) → IsArray command → IsRecord command → ⊥
+pub array_no_record : (command : Command) → IsArrayCall command → IsRecordCall command → ⊥
 array_no_record (Array d cells) an_array a_record = a_record
 array_no_record _ an_array a_record = an_array
 
@@ -119,7 +119,7 @@ module _ (heap : Heap) (old : State) (number : ℕ) (command : Command) where
 
   -- the making of a record is begun
   pub stage_begun_new : (now : State) → Fits heap (seat_at old number) → (seat_at old number).place ≡ places.Idle → now.words ≡ old.words
-      → at heap old.words Budget < 2 ^ 64 → IsRecord command
+      → at heap old.words Budget < 2 ^ 64 → IsRecordCall command
       → Stage heap old now number command [] (gather_next heap (record (seat_at old number) { command = command })) (gather_next heap (record (seat_at old number) { command = command })).place
   stage_begun_new now fits idle same small a_record =
       let seat = seat_at old number in

@@ -7,7 +7,7 @@ use Rattle.heap_model.specs.declared.entry.Entry.{Entry}
 use Rattle.heap_model.specs.declared.entry.Entry.TheVariants.{Said}
 use Rattle.heap_model.specs.declared.reply.Reply.TheVariants as replies
 use Rattle.heap_model.specs.account.Space.{need_of}
-use Rattle.core_machine.specs.seat.Commands.{IsArray}
+use Rattle.core_machine.specs.seat.Commands.{IsArrayCall}
 use Rattle.core_machine.specs.declared.table.address.Address.{Address}
 use Rattle.core_machine.specs.declared.table.address.Address.TheVariants.{Budget}
 use Rattle.core_machine.specs.table.Layout.{at, InTable}
@@ -73,7 +73,7 @@ module _ (heap : Heap) (old : State) (number : ℕ) (command : Command) (now : S
       let move = withdraw_move number seat in
       let after_ = state_after_move heap now number move in
       let here : seat_at after_ number ≡ seat_after move (found_by heap now move.step) = seat_at-set now.seats number _ within in
-      let an_array : IsArray command = subst IsArray same is.an_array in
+      let an_array : IsArrayCall command = subst IsArrayCall same is.an_array in
       let few = words_of_array seat.command is.an_array is.makes.in_range in
       let need_ : spine_need seat ≡ spine_need_of command = ap spine_need_of same in
       record {

@@ -6,16 +6,17 @@ use Rattle.std.proofs.lemmas.Grind.{replicate_next}
 use Rattle.heap_model.specs.declared.calls.collect.Inner.{Inner}
 use Rattle.heap_model.specs.declared.entry.Entry.{Entry}
 use Rattle.heap_model.specs.declared.heap.Heap.{Heap}
+use Rattle.core_machine.specs.declared.step.Step.{Step}
 use Rattle.core_machine.specs.machine.InnerCalls.{inner_events, PlaysInner}
 use Rattle.core_machine.specs.machine.Machine.{State, seat_at, found_by, state_after_move, state_after_due, entries_shown, after_inner_begin, Event, BeginsInner, Steps, Can, state_after, entries, Run, state_after_all, history}
 use Rattle.core_machine.specs.machine.Value.{MachineValue, IsMachine, spare_of, SpendsRoom}
 use Rattle.core_machine.specs.Moves.{Move, next_move, due_step, seat_after}
 use Rattle.core_machine.specs.seat.Seat.{Seat, call_over}
-use Rattle.core_machine.proofs.call_lemmas.CallEnd.{idle_from}
+use Rattle.core_machine.proofs.call_lemmas.CallEnd.{StepsOn, steps_on, idle_from}
 use Rattle.core_machine.proofs.call_lemmas.CallRoom.{log_of_seat}
 use Rattle.core_machine.proofs.call_lemmas.InnerCalls.{IsDone, InnerStage, InnerLeads, stage_first, inner_leads}
 use Rattle.core_machine.proofs.call_lemmas.Owes.{owes}
-use Rattle.core_machine.proofs.machine_lemmas.Runs.{Run-more, after_all-more, history-more, seat_at-set, machine_after}
+use Rattle.core_machine.proofs.machine_lemmas.Runs.{runs_on, seat_at-set, machine_after}
 use Rattle.core_machine.proofs.moves.Collect.{inner_stands}
 use Rattle.core_machine.proofs.seat_lemmas.Aside.{over_idle}
 
@@ -67,19 +68,17 @@ pub inner_more : (heap : Heap) (old now : State) (number : ℕ) (inner : Inner) 
     → PlayingInner heap old (state_after heap now (Steps number)) number inner
 inner_more heap old now number inner playing some =
     let events = inner_events number inner playing.steps in
-    let more = inner_events-more number inner playing.steps in
+    let runs = runs_on heap old now events _ (Steps number) playing.told (inner_events-more number inner playing.steps) (record { can = playing.can; ends = playing.ends; shows = playing.shows }) some in
     let machine = machine_after heap now (Steps number) playing.machine some in
     let seat = seat_at now number in
     record {
       steps = playing.steps + 1;
-      can = subst (Run heap old) (sym more) (Run-more heap old events (Steps number) playing.can (subst (λ (s : State). Can heap s (Steps number)) playing.ends some));
-      ends = ap (λ (s : State). state_after heap s (Steps number)) playing.ends ∙ sym (after_all-more heap old events (Steps number)) ∙ ap (state_after_all heap old) (sym more);
+      can = runs.can;
+      ends = runs.ends;
       machine = machine;
       within = omega (arith, playing.within, machine.seated, playing.machine.seated);
       told = playing.told ++ entries heap now (Steps number);
-      shows = ap (history heap old) more ∙ history-more heap old events (Steps number)
-          ∙ ap (λ (l : List Entry). l ++ entries heap (state_after_all heap old events) (Steps number)) playing.shows
-          ∙ ap (λ (s : State). playing.told ++ entries heap s (Steps number)) (sym playing.ends);
+      shows = runs.shows;
       resting = playing.resting;
       stage = inner_by heap old now number inner playing.told (next_move heap number seat) playing.within some
           (inner_leads heap old.words number (seat_at old number) playing.resting inner now.words playing.told seat seat.place (playing.machine.fit number playing.within).answer_at_place playing.stage);
@@ -115,3 +114,16 @@ inner_room old new number inner machine can is room =
     let owed : owes (seat_at (state_after old.heap old.state (BeginsInner number inner)) number) ≤ 2 =
     subst (λ (s : Seat). owes s ≤ 2) (sym (seat_at-set old.state.seats number begun_ can.0)) (inner_stands old.heap number seat inner (machine.fit number can.0) can.1).owed in
     subst (λ (v : MachineValue). owes (seat_at v.state number) + 2 ≤ spare_of v number) (sym is) (omega (arith, owed, room))
+
+-- so it goes on by one more step of it, with room for the rest
+pub record InnerGoes (first now : MachineValue) (number : ℕ) (inner : Inner) : Type 0 where
+  pub playing : PlayingInner first.heap first.state now.state number inner
+  pub room : owes (seat_at now.state number) + 2 ≤ spare_of now number
+
+pub inner_steps : {first old new : MachineValue} {number : ℕ} {inner : Inner} {step : Step} → InnerGoes first old number inner → old.heap ≡ first.heap → SpendsRoom first old number
+    → due_step old.heap number (seat_at old.state number) ≡ Some step → new.heap ≡ old.heap → new.state ≡ state_after old.heap old.state (Steps number) → SpendsRoom old new number
+    → StepsOn first old new number × InnerGoes first new number inner
+inner_steps {first} {old} {new} {number} {inner} goes same spent due heap state spends =
+    let on = steps_on goes.playing.machine goes.playing.within same due heap state spends goes.room spent in
+    let playing = inner_more first.heap first.state old.state number inner goes.playing on.some in
+    (on, record { playing = subst (λ (s : State). PlayingInner first.heap first.state s number inner) (sym on.state_is) playing; room = on.room })

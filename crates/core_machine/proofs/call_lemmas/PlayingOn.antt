@@ -24,7 +24,7 @@ use Rattle.core_machine.specs.declared.place.Leaving.{Leaving}
 use Rattle.core_machine.specs.declared.place.Leaving.TheVariants.{Emptying, Parting}
 use Rattle.core_machine.specs.declared.seat.register.Register.{Register}
 use Rattle.core_machine.specs.machine.Calls.{IsPhaseNear, IsPlaceRefusal, LeavesAll}
-use Rattle.core_machine.specs.seat.Commands.{MakesObject, IsRecord, IsArray, source_of}
+use Rattle.core_machine.specs.seat.Commands.{MakesObject, IsRecordCall, IsArrayCall, source_of}
 use Rattle.core_machine.specs.table.Layout.{at, put, InTable}
 use Rattle.core_machine.specs.table.Operation.{address_of, word_after}
 use Rattle.core_machine.specs.table.Decode.{head_of, array_length_of, id_of, stamp_of}
@@ -70,8 +70,8 @@ module _ (heap : Heap) (old : State) (number : ℕ) (command : Command) (now : S
     reply = reply;
     before = told_;
     last = ap (λ (c : Command). told_ ++ Said number c reply ∷ []) same;
-    answer = λ a_record. absurd (none (record_makes seat.command (subst IsRecord (sym same) a_record)));
-    array = λ an_array. absurd (none (array_makes seat.command (subst IsArray (sym same) an_array)));
+    answer = λ a_record. absurd (none (record_makes seat.command (subst IsRecordCall (sym same) a_record)));
+    array = λ an_array. absurd (none (array_makes seat.command (subst IsArrayCall (sym same) an_array)));
     refused = refused;
     comes = comes;
   }
@@ -285,8 +285,8 @@ module _ (heap : Heap) (old : State) (number : ℕ) (command : Command) (now : S
         before = told_ ++ answer ∷ [];
         last = ap (λ (c : Command). told_ ++ answer ∷ Said number c (replies.Phase the_seat.asked) ∷ []) stage.0
             ∙ sym (append_assoc told_ (answer ∷ []) (Said number command (replies.Phase the_seat.asked) ∷ []));
-        answer = λ a_record. absurd (poll_makes_none (stage.0 ∙ stage.1) (record_makes the_seat.command (subst IsRecord (sym stage.0) a_record)));
-        array = λ an_array. absurd (poll_makes_none (stage.0 ∙ stage.1) (array_makes the_seat.command (subst IsArray (sym stage.0) an_array)));
+        answer = λ a_record. absurd (poll_makes_none (stage.0 ∙ stage.1) (record_makes the_seat.command (subst IsRecordCall (sym stage.0) a_record)));
+        array = λ an_array. absurd (poll_makes_none (stage.0 ∙ stage.1) (array_makes the_seat.command (subst IsArrayCall (sym stage.0) an_array)));
         refused = λ refusal. absurd refusal;
         comes = λ not_leave. poll_comes the_seat.asked (told_ ++ answer ∷ []) stage.1 (λ near.
             inr (next near, ap (λ (l : List Entry). l ++ answer ∷ []) stage.2.none_told));

@@ -27,15 +27,15 @@ use Rattle.core_machine.specs.declared.place.Access.{Access}
 use Rattle.core_machine.specs.declared.place.Access.TheVariants.{LoadingMeta, Naming}
 use Rattle.core_machine.specs.declared.place.Polling.{Polling}
 use Rattle.core_machine.specs.declared.place.Polling.TheVariants.{Asking, Shading, Answering}
-use Rattle.core_machine.specs.seat.Commands.{IsRecord, IsArray}
-use Rattle.core_machine.specs.machine.Calls.{IsPhaseNear, free_count, within_reach, KeepsOwn, AnswersNew, LacksWords, AnswersArray, IsPlaceRefusal, LeavesAll}
+use Rattle.core_machine.specs.seat.Commands.{IsRecordCall, IsArrayCall}
+use Rattle.core_machine.specs.machine.Calls.{IsPhaseNear, free_count, within_reach, KeepsOwn, AnswersNew, LacksSpineWords, AnswersArray, IsPlaceRefusal, LeavesAll}
 use Rattle.core_machine.proofs.call_lemmas.Claiming.{HasTaken, GivesBackAll}
 use Rattle.core_machine.proofs.call_lemmas.Asking.{AsksWords, HasClaimed}
 
 -- while the spine words are taken back that are too many
 pub record WhileWithdrawing (heap : Heap) (old : State) (words : List ℕ) (number : ℕ) (command : Command) (told : List Entry) (seat : Seat) : Type 0 where
   pub own : KeepsOwn (seat_at old number) seat
-  pub lacks : LacksWords heap old command
+  pub lacks : LacksSpineWords heap old command
   pub found : seat.used ≡ at heap old.words Budget
   pub asked : AsksWords heap (spine_need_of command) old.words words
   pub none_told : told ≡ []
@@ -57,7 +57,7 @@ pub record WhileReturning (heap : Heap) (old : State) (words : List ℕ) (number
 
 -- while the object is stored and born: an array was granted its spine words, enough was within reach, and no more was claimed than was needed
 pub record WhileMaking (heap : Heap) (old : State) (number : ℕ) (command : Command) (told : List Entry) (made : ℕ) : Type 0 where
-  pub granted : IsArray command → LacksWords heap old command → ⊥
+  pub granted : IsArrayCall command → LacksSpineWords heap old command → ⊥
   pub enough : need_of command ≤ within_reach heap old number
   pub made_stays : made ≡ (seat_at old number).made
   pub claimed : ClaimsBefore number (length (seat_at old number).reserve) (need_of command) (replies.Made (next_object_id number (seat_at old number))) told
@@ -73,8 +73,8 @@ pub record Answered (heap : Heap) (old new : State) (number : ℕ) (command : Co
   pub reply : Reply
   pub before : List Entry
   pub last : told ≡ before ++ Said number command reply ∷ []
-  pub answer : IsRecord command → AnswersNew heap old new number command reply
-  pub array : IsArray command → AnswersArray heap old new number command reply
+  pub answer : IsRecordCall command → AnswersNew heap old new number command reply
+  pub array : IsArrayCall command → AnswersArray heap old new number command reply
   pub refused : IsPlaceRefusal reply → LeavesAll old new number
   pub comes : command ≢ Leave → ComesDue heap old number command reply before
 

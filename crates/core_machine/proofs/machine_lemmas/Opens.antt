@@ -21,7 +21,7 @@ use Rattle.heap_model.specs.declared.id.Id.TheVariants.{Board}
 use Rattle.core_machine.specs.collector.Collector.{Collector, opening_collector}
 use Rattle.core_machine.specs.table.Decode.{pointer_in, IsWithinHeap, FoundPointsWithin}
 use Rattle.core_machine.specs.seat.Fits.{AreFragments, FitsRegister, CollectorFits, Fits}
-use Rattle.core_machine.proofs.seat_lemmas.Aside.{gone_aside, no_spot_fits}
+use Rattle.core_machine.proofs.seat_lemmas.Aside.{gone_aside, no_hand_fits, no_way_fits}
 use Rattle.core_machine.proofs.table_lemmas.Leading.{record_leads, zero_leads}
 use Rattle.core_machine.specs.machine.Value.{IsMachine}
 use Rattle.core_machine.proofs.table_lemmas.Addresses.{length-put, at-put_same, at-put_other}
@@ -172,16 +172,8 @@ fits_open heap number limits = record {
     small_reserve = omega arith;
     reserve_of_cursor = All-nil (λ fragment. fragment / 16 ≡ number % heap.groups);
   };
-  hand = record {
-    hand_within = All-nil (λ fragment. fragment < 16 * heap.groups);
-    body_within = All-nil (λ fragment. fragment < 16 * heap.groups);
-    spine_within = no_spot_fits;
-  };
-  way = record {
-    reached_within = omega (arith, limits.some_group);
-    address_within = no_spot_fits;
-    loaded_within = tt;
-  };
+  hand = no_hand_fits heap;
+  way = no_way_fits heap limits.some_group;
   asked_small = omega arith;
   at_place = record { empty_hand = refl; no_body = refl; none_stored = refl; none_tried = refl; none_given = refl; no_spine = record { none_used = refl; no_place = refl; none_listed = refl } };
   way_at_place = record { none_reached = refl; no_links = refl; no_part = refl; no_address = refl; none_loaded = refl };

@@ -44,6 +44,23 @@ history-more heap state (first ∷ events) event =
     ap (λ (l : List Entry). entries heap state first ++ l) (history-more heap (state_after heap state first) events event)
     ∙ sym (append_assoc (entries heap state first) (history heap (state_after heap state first) events) (entries heap (state_after_all heap (state_after heap state first) events) event))
 
+-- these events lead here, and their entries are these
+pub record RunsTo (heap : Heap) (old now : State) (events : List Event) (told : List Entry) : Type 0 where
+  pub can : Run heap old events
+  pub ends : now ≡ state_after_all heap old events
+  pub shows : history heap old events ≡ told
+
+-- so do they with one more
+pub runs_on : (heap : Heap) (old now : State) (events more : List Event) (event : Event) (told : List Entry) → more ≡ events ++ event ∷ [] → RunsTo heap old now events told
+    → Can heap now event → RunsTo heap old (state_after heap now event) more (told ++ entries heap now event)
+runs_on heap old now events more event told is runs can = record {
+  can = subst (Run heap old) (sym is) (Run-more heap old events event runs.can (subst (λ (s : State). Can heap s event) runs.ends can));
+  ends = ap (λ (s : State). state_after heap s event) runs.ends ∙ sym (after_all-more heap old events event) ∙ ap (state_after_all heap old) (sym is);
+  shows = ap (history heap old) is ∙ history-more heap old events event
+      ∙ ap (λ (l : List Entry). l ++ entries heap (state_after_all heap old events) event) runs.shows
+      ∙ ap (λ (s : State). told ++ entries heap s event) (sym runs.ends);
+}
+
 pub call_events-more : (number : ℕ) (command : Command) (n : ℕ) → call_events number command (n + 1) ≡ call_events number command n ++ Steps number ∷ []
 call_events-more number command n = ap (λ (l : List Event). Begins number command ∷ l) (replicate_next n (Steps number))
 

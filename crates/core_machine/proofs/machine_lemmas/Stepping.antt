@@ -44,6 +44,10 @@ due_some : (move : Option Move) (step : Step) → option_map (λ m. m.step) move
 due_some None step due = cc
 due_some (Some move) step due = refl
 
+-- a seat is one of the parties
+pub seated : (parties : List SeatWithRoom) {number : ℕ} → number < length (map (λ (s : SeatWithRoom). s.seat) parties) → number < length parties
+seated parties within = omega (arith, within, length-map parties (λ (s : SeatWithRoom). s.seat))
+
 module _ (heap : Heap) (words : List ℕ) (parties : List SeatWithRoom) (collector : Collector) (room number : ℕ) (party next : SeatWithRoom)
     (within : number < length parties) (here : party ≡ get_or parties number party) where
   -- the seat that acts

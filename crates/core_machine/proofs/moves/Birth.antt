@@ -10,7 +10,7 @@ use Rattle.core_machine.specs.declared.place.Making.TheVariants.{Storing, Bearin
 use Rattle.core_machine.specs.declared.place.Place.TheVariants as places
 use Rattle.core_machine.specs.declared.seat.register.Register.TheVariants.{Object}
 use Rattle.core_machine.specs.seat.Commands.{target_of}
-use Rattle.core_machine.specs.seat.Fits.{HasBody, IsListed, FitsMaking, Fits, FitsRegister}
+use Rattle.core_machine.specs.seat.Fits.{HasBody, SpineIsListed, FitsMaking, Fits, FitsRegister}
 use Rattle.core_machine.specs.seat.Making.{after_store, after_birth, after_last_birth, last_group_of, last_run, before_run, store_place, next_object_id, next_name}
 use Rattle.core_machine.specs.seat.MakingMoves.{store_move, last_part}
 use Rattle.core_machine.specs.seat.Seat.{Seat, with_entries}
@@ -29,7 +29,7 @@ use Rattle.core_machine.proofs.table_lemmas.Masks.{mask-lt}
 use Rattle.core_machine.proofs.table_lemmas.Owned.{group_within}
 use Rattle.core_machine.proofs.table_lemmas.Wide.{newborn_wide, fragment_small, birth_wide}
 
-fits_storing : (heap : Heap) (seat : Seat) → HasBody seat → seat.hand ≡ seat.body → seat.stored ≤ 4 * length seat.body → IsListed seat.command seat.spine seat.listed
+fits_storing : (heap : Heap) (seat : Seat) → HasBody seat → seat.hand ≡ seat.body → seat.stored ≤ 4 * length seat.body → SpineIsListed seat.command seat.spine seat.listed
     → FitsMaking heap seat (store_place seat.stored seat.body)
 fits_storing heap seat is whole within listed =
     let some = need_of_object seat.command is.makes.an_object is.makes.in_range in
@@ -41,7 +41,7 @@ fits_storing heap seat is whole within listed =
 
 -- a word was stored
 fits_stored : (heap : Heap) (seat : Seat) → Fits heap seat → IsAside heap seat → HasBody seat → seat.hand ≡ seat.body → seat.stored < 4 * length seat.body
-    → IsListed seat.command seat.spine seat.listed → Fits heap (after_store seat)
+    → SpineIsListed seat.command seat.spine seat.listed → Fits heap (after_store seat)
 fits_stored heap seat fits aside is whole within listed =
     fits_hand heap seat seat.hand (seat.stored + 1) seat.tried seat.given (places.Making (store_place (seat.stored + 1) seat.body)) fits aside fits.hand.hand_within
     (fits_storing heap (after_store seat) (record { makes = is.makes; whole = is.whole; none_tried = is.none_tried; none_given = is.none_given; none_used = is.none_used }) whole (omega arith) listed)
@@ -75,7 +75,7 @@ store_stands heap number seat here =
 
 -- the hand's last fragments were born, and others are left
 fits_born : (heap : Heap) (seat : Seat) → Fits heap seat → IsAside heap seat → HasBody seat → length seat.hand ≤ length seat.body → seat.stored ≡ 4 * length seat.body
-    → IsListed seat.command seat.spine seat.listed → seat.place ≡ places.Making Bearing → is_last_birth seat ≡ false → Fits heap (after_birth seat)
+    → SpineIsListed seat.command seat.spine seat.listed → seat.place ≡ places.Making Bearing → is_last_birth seat ≡ false → Fits heap (after_birth seat)
 fits_born heap seat fits aside is within stored listed place more =
     let fewer = length-take (length seat.hand - last_run seat.hand) seat.hand in
     fits_hand heap seat (before_run seat.hand) seat.stored seat.tried seat.given seat.place fits aside

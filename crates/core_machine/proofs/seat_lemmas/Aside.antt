@@ -12,7 +12,7 @@ use Rattle.core_machine.specs.table.Layout.{FitsSpot}
 use Rattle.core_machine.specs.seat.Seat.{Seat, no_spot, call_over, after_call}
 use Rattle.core_machine.specs.seat.Looks.{forgotten}
 use Rattle.core_machine.specs.seat.FitsAccess.{HasNoWay, IsNowhere}
-use Rattle.core_machine.specs.seat.Fits.{FitsRegister, FitsWay, FitsAnswer, HasNoAnswer, IsAtRest, IsSilent, Fits, FitsPlace, AreFragments}
+use Rattle.core_machine.specs.seat.Fits.{FitsRegister, FitsWay, FitsAnswer, HasNoAnswer, IsAtRest, IsSilent, HandFits, WayFits, Fits, FitsPlace, AreFragments}
 
 -- the registers fit, nothing is reached, loaded or about to be answered, and the seat hasn't left
 pub record StandsAside (heap : Heap) (registers : List Register) (reached links part : ℕ) (address : Spot) (loaded asked shaded : ℕ) (left : Bool) : Type 0 where
@@ -55,53 +55,62 @@ aside_idle heap seat fits here present = record {
   present = present;
 }
 
--- the seat with another hand, elsewhere in its making or through with it
+-- the seat with another hand and another place of its spine, elsewhere in its making or through with it
+abbrev with_parts : Seat → List ℕ → ℕ → ℕ → ℕ → ℕ → Spot → ℕ → Place → Seat
+with_parts seat hand stored tried given used spine listed place =
+    record seat { hand = hand; stored = stored; tried = tried; given = given; used = used; spine = spine; listed = listed; place = place }
+
+fits_parts : (heap : Heap) (seat : Seat) (hand : List ℕ) (stored tried given used : ℕ) (spine : Spot) (listed : ℕ) (place : Place) → Fits heap seat → IsAside heap seat
+    → AreFragments heap hand → FitsSpot spine → FitsPlace heap (with_parts seat hand stored tried given used spine listed place) place
+    → FitsWay (with_parts seat hand stored tried given used spine listed place) place → FitsAnswer (with_parts seat hand stored tried given used spine listed place) place
+    → Fits heap (with_parts seat hand stored tried given used spine listed place)
+fits_parts heap seat hand stored tried given used spine listed place fits aside within there at_place way answer = record {
+  own = fits.own;
+  hand = record { hand_within = within; body_within = fits.hand.body_within; spine_within = there };
+  way = fits.way;
+  asked_small = aside.asked_small;
+  at_place = at_place;
+  way_at_place = way;
+  answer_at_place = answer;
+  gone = gone_aside aside.present;
+}
+
+-- with another hand alone
 abbrev pub with_hand : Seat → List ℕ → ℕ → ℕ → ℕ → Place → Seat
 with_hand seat hand stored tried given place = record seat { hand = hand; stored = stored; tried = tried; given = given; place = place }
 
 pub fits_hand : (heap : Heap) (seat : Seat) (hand : List ℕ) (stored tried given : ℕ) (place : Place) → Fits heap seat → IsAside heap seat → AreFragments heap hand
     → FitsPlace heap (with_hand seat hand stored tried given place) place → FitsWay (with_hand seat hand stored tried given place) place
     → FitsAnswer (with_hand seat hand stored tried given place) place → Fits heap (with_hand seat hand stored tried given place)
-fits_hand heap seat hand stored tried given place fits aside within at_place way answer = record {
-  own = fits.own;
-  hand = record {
-    hand_within = within;
-    body_within = fits.hand.body_within;
-    spine_within = fits.hand.spine_within;
-  };
-  way = fits.way;
-  asked_small = aside.asked_small;
-  at_place = at_place;
-  way_at_place = way;
-  answer_at_place = answer;
-  gone = gone_aside aside.present;
-}
+fits_hand heap seat hand stored tried given place fits aside within at_place way answer =
+    fits_parts heap seat hand stored tried given seat.used seat.spine seat.listed place fits aside within fits.hand.spine_within at_place way answer
 
--- the seat with another place of its spine, and with other counts of spine words
+-- with another place of its spine alone, and with other counts of spine words
 abbrev pub with_spine : Seat → ℕ → Spot → ℕ → Place → Seat
 with_spine seat used spine listed place = record seat { used = used; spine = spine; listed = listed; place = place }
 
 pub fits_spine : (heap : Heap) (seat : Seat) (used : ℕ) (spine : Spot) (listed : ℕ) (place : Place) → Fits heap seat → IsAside heap seat → FitsSpot spine
     → FitsPlace heap (with_spine seat used spine listed place) place → FitsWay (with_spine seat used spine listed place) place
     → FitsAnswer (with_spine seat used spine listed place) place → Fits heap (with_spine seat used spine listed place)
-fits_spine heap seat used spine listed place fits aside within at_place way answer = record {
-  own = fits.own;
-  hand = record {
-    hand_within = fits.hand.hand_within;
-    body_within = fits.hand.body_within;
-    spine_within = within;
-  };
-  way = fits.way;
-  asked_small = aside.asked_small;
-  at_place = at_place;
-  way_at_place = way;
-  answer_at_place = answer;
-  gone = gone_aside aside.present;
-}
+fits_spine heap seat used spine listed place fits aside within at_place way answer =
+    fits_parts heap seat seat.hand seat.stored seat.tried seat.given used spine listed place fits aside fits.hand.hand_within within at_place way answer
 
 -- the spot at no spine is one
 pub no_spot_fits : FitsSpot no_spot
 no_spot_fits = record { half_within = omega arith; offset_within = omega arith }
+
+-- nothing is in a hand that fits
+pub no_hand_fits : (heap : Heap) → HandFits heap [] [] no_spot
+no_hand_fits heap =
+    record { hand_within = All-nil (λ fragment. fragment < 16 * heap.groups); body_within = All-nil (λ fragment. fragment < 16 * heap.groups); spine_within = no_spot_fits }
+
+-- nor is anything reached or loaded
+pub no_way_fits : (heap : Heap) → 0 < heap.groups → WayFits heap 0 no_spot 0
+no_way_fits heap some = record { reached_within = omega (arith, some); address_within = no_spot_fits; loaded_within = tt }
+
+-- what a seat has reached and loaded is within the heap
+pub aside_way : (heap : Heap) (seat : Seat) → IsAside heap seat → WayFits heap seat.reached seat.address seat.loaded
+aside_way heap seat aside = record { reached_within = aside.reached_within; address_within = aside.address_within; loaded_within = aside.loaded_within }
 
 -- the call is over: of the seat's own data its registers, its reserve and its cursor matter alone
 pub fits_over : (heap : Heap) (seat : Seat) → length seat.registers ≡ 16 → All (FitsRegister heap) seat.registers → seat.cursor < heap.groups → length seat.reserve ≤ 15
@@ -114,16 +123,8 @@ fits_over heap seat whole fit cursor small of_cursor gone = record {
     small_reserve = small;
     reserve_of_cursor = of_cursor;
   };
-  hand = record {
-    hand_within = All-nil (λ fragment. fragment < 16 * heap.groups);
-    body_within = All-nil (λ fragment. fragment < 16 * heap.groups);
-    spine_within = no_spot_fits;
-  };
-  way = record {
-    reached_within = omega (arith, cursor);
-    address_within = no_spot_fits;
-    loaded_within = tt;
-  };
+  hand = no_hand_fits heap;
+  way = no_way_fits heap (omega (arith, cursor));
   asked_small = omega arith;
   at_place = record { empty_hand = refl; no_body = refl; none_stored = refl; none_tried = refl; none_given = refl; no_spine = record { none_used = refl; no_place = refl; none_listed = refl } };
   way_at_place = record { none_reached = refl; no_links = refl; no_part = refl; no_address = refl; none_loaded = refl };

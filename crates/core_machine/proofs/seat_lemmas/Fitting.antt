@@ -13,12 +13,12 @@ use Rattle.heap_model.specs.account.Space.{need_of}
 use Rattle.core_machine.specs.declared.place.Place.TheVariants as places
 use Rattle.core_machine.specs.declared.place.Making.{Making}
 use Rattle.core_machine.specs.declared.place.Making.TheVariants.{Withdrawing, Gathering, Returning, Refusing, Placing, Listing, Storing}
-use Rattle.core_machine.specs.seat.Commands.{MakesObject, IsRecord, IsArray}
+use Rattle.core_machine.specs.seat.Commands.{MakesObject, IsRecordCall, IsArrayCall}
 use Rattle.core_machine.specs.table.Layout.{FitsSpot}
 use Rattle.core_machine.specs.seat.Seat.{Seat, need, spine_need}
 use Rattle.core_machine.specs.seat.Making.{fragments_gathered, settled_place, after_gather, after_shortage, refusal_place, gather_next, after_budget, list_place, last_claimed, next_group_of}
-use Rattle.core_machine.specs.seat.Fits.{AreFragments, HasNoSpine, IsAtRest, MakesNext, SeatIsRefusing, HasBody, IsUnstored, IsListed, FitsMaking, OwnFits, Fits}
-use Rattle.core_machine.proofs.seat_lemmas.Aside.{IsAside, gone_aside, no_spot_fits}
+use Rattle.core_machine.specs.seat.Fits.{AreFragments, HasNoSpine, IsAtRest, MakesNext, SeatIsRefusing, HasBody, IsUnstored, SpineIsListed, FitsMaking, OwnFits, Fits}
+use Rattle.core_machine.proofs.seat_lemmas.Aside.{IsAside, gone_aside, no_spot_fits, aside_way}
 use Rattle.core_machine.proofs.table_lemmas.Owned.{within_group}
 
 -- an object has at least one fragment, and at most one and 1024
@@ -28,22 +28,22 @@ need_of_object (Array d cells) makes range = (omega arith, omega (arith, range.1
 need_of_object _ makes range = absurd makes
 
 -- an array has at least one spine word and at most 1024, and one fragment more than spine words
-pub words_of_array : (command : Command) → IsArray command → IsCommand command
+pub words_of_array : (command : Command) → IsArrayCall command → IsCommand command
     → (1 ≤ spine_need_of command) × (spine_need_of command ≤ 1024) × (need_of command ≡ 1 + spine_need_of command)
 words_of_array (Array d cells) an_array range = (omega (arith, range.1.0), omega (arith, range.1.1), refl)
 words_of_array _ an_array range = absurd an_array
 
 -- an array is an object, and so is a record
-pub array_makes : (command : Command) → IsArray command → MakesObject command
+pub array_makes : (command : Command) → IsArrayCall command → MakesObject command
 array_makes (Array d cells) an_array = tt
 array_makes _ an_array = absurd an_array
 
-pub record_makes : (command : Command) → IsRecord command → MakesObject command
+pub record_makes : (command : Command) → IsRecordCall command → MakesObject command
 record_makes (New d fields) a_record = tt
 record_makes _ a_record = absurd a_record
 
 -- all words of an array's spine are stored when as many were stored as it needs
-pub listed_all : (command : Command) (spine : Spot) (listed : ℕ) → IsArray command → listed ≡ spine_need_of command → IsListed command spine listed
+pub listed_all : (command : Command) (spine : Spot) (listed : ℕ) → IsArrayCall command → listed ≡ spine_need_of command → SpineIsListed command spine listed
 listed_all (Array d cells) spine listed an_array all = all
 listed_all _ spine listed an_array all = absurd an_array
 
@@ -72,7 +72,7 @@ budget_cases P heap seat found lacks grants =
     elim (leb_tells (suc heap.spine) (found + spine_need seat)) as (λ _. P (after_budget heap seat found)) [ inl many ↦ rw many.0 (lacks many.1) | inr few ↦ rw few.0 (grants (omega (arith, few.1))) ]
 
 -- what comes once an object has its fragments
-pub settled_cases : (P : Making → Type 0) (command : Command) → (IsArray command → P Placing) → ((IsArray command → ⊥) → P Storing) → P (settled_place command)
+pub settled_cases : (P : Making → Type 0) (command : Command) → (IsArrayCall command → P Placing) → ((IsArrayCall command → ⊥) → P Storing) → P (settled_place command)
 settled_cases P (Array d cells) array other = array tt
 settled_cases P _ array other = other (λ e. e)
 
@@ -106,7 +106,7 @@ no_spine_fits : (used : ℕ) (spine : Spot) (listed : ℕ) → HasNoSpine used s
 no_spine_fits used spine listed none = subst FitsSpot (sym none.no_place) no_spot_fits
 
 -- a record has no spine
-listed_none : (command : Command) (used : ℕ) (spine : Spot) (listed : ℕ) → MakesObject command → (IsArray command → ⊥) → HasNoSpine used spine listed → IsListed command spine listed
+listed_none : (command : Command) (used : ℕ) (spine : Spot) (listed : ℕ) → MakesObject command → (IsArrayCall command → ⊥) → HasNoSpine used spine listed → SpineIsListed command spine listed
 listed_none (New d fields) used spine listed makes other none = (none.no_place, none.none_listed)
 listed_none (Array d cells) used spine listed makes other none = absurd (other tt)
 listed_none _ used spine listed makes other none = absurd makes
@@ -141,11 +141,7 @@ fits_settled heap seat is enough =
         body_within = used;
         spine_within = no_spine_fits seat.used seat.spine seat.listed is.no_spine;
       };
-      way = record {
-        reached_within = is.aside.reached_within;
-        address_within = is.aside.address_within;
-        loaded_within = is.aside.loaded_within;
-      };
+      way = aside_way heap seat is.aside;
       asked_small = is.aside.asked_small;
       way_at_place = is.aside.nowhere;
       answer_at_place = is.aside.silent;
@@ -177,11 +173,7 @@ fits_gathered heap seat place is at_place = record {
     body_within = rw is.no_body (All-nil (λ fragment. fragment < 16 * heap.groups));
     spine_within = no_spine_fits seat.used seat.spine seat.listed is.no_spine;
   };
-  way = record {
-    reached_within = is.aside.reached_within;
-    address_within = is.aside.address_within;
-    loaded_within = is.aside.loaded_within;
-  };
+  way = aside_way heap seat is.aside;
   asked_small = is.aside.asked_small;
   at_place = at_place;
   way_at_place = is.aside.nowhere;

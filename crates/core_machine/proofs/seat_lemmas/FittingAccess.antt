@@ -24,47 +24,35 @@ pub record Rests (heap : Heap) (seat : Seat) : Type 0 where
   pub silent : IsSilent seat
   pub present : seat.left ≡ false
 
+-- the seat with another way, at this place of access
+fits_way : (heap : Heap) (seat : Seat) (reached links part : ℕ) (address : Spot) (loaded : ℕ) (place : Access) → Rests heap seat → reached < 16 * heap.groups → FitsSpot address
+    → IsWithinHeap heap (head_of loaded)
+    → FitsAccess (record seat { reached = reached; links = links; part = part; address = address; loaded = loaded; place = places.Access place }) place
+    → Fits heap (record seat { reached = reached; links = links; part = part; address = address; loaded = loaded; place = places.Access place })
+fits_way heap seat reached links part address loaded place rests within there led way = record {
+  own = rests.fits.own;
+  hand = rests.fits.hand;
+  way = record { reached_within = within; address_within = there; loaded_within = led };
+  asked_small = rests.fits.asked_small;
+  at_place = rests.rest;
+  way_at_place = way;
+  answer_at_place = rests.silent;
+  gone = gone_aside rests.present;
+}
+
 -- the seat at another place of reaching
 pub fits_access : (heap : Heap) (seat : Seat) (reached links part loaded : ℕ) (place : Access) → Rests heap seat → reached < 16 * heap.groups
     → IsWithinHeap heap (head_of loaded)
     → FitsAccess (record seat { reached = reached; links = links; part = part; loaded = loaded; place = places.Access place }) place
     → Fits heap (record seat { reached = reached; links = links; part = part; loaded = loaded; place = places.Access place })
 fits_access heap seat reached links part loaded place rests within led way =
-    let fits = rests.fits in
-    record {
-      own = fits.own;
-      hand = fits.hand;
-      way = record {
-        reached_within = within;
-        address_within = fits.way.address_within;
-        loaded_within = led;
-      };
-      asked_small = fits.asked_small;
-      at_place = rests.rest;
-      way_at_place = way;
-      answer_at_place = rests.silent;
-      gone = gone_aside rests.present;
-    }
+    fits_way heap seat reached links part seat.address loaded place rests within rests.fits.way.address_within led way
 
 -- the seat knows where the spine stands of the array that its way is in
 pub fits_addressed : (heap : Heap) (seat : Seat) (address : Spot) (place : Access) → Rests heap seat → FitsSpot address → FitsAccess (record seat { address = address; place = places.Access place }) place
     → Fits heap (record seat { address = address; place = places.Access place })
-fits_addressed heap seat address place rests within way =
-    let fits = rests.fits in
-    record {
-      own = fits.own;
-      hand = fits.hand;
-      way = record {
-        reached_within = fits.way.reached_within;
-        address_within = within;
-        loaded_within = fits.way.loaded_within;
-      };
-      asked_small = fits.asked_small;
-      at_place = rests.rest;
-      way_at_place = way;
-      answer_at_place = rests.silent;
-      gone = gone_aside rests.present;
-    }
+fits_addressed heap seat address place rests there way =
+    fits_way heap seat seat.reached seat.links seat.part address seat.loaded place rests rests.fits.way.reached_within there rests.fits.way.loaded_within way
 
 -- the call is over, with these registers and so many sets
 pub fits_closed : (heap : Heap) (seat : Seat) (registers : List Register) (sets : ℕ) → Rests heap seat → length registers ≡ 16

@@ -89,8 +89,8 @@ pub record AnswersNew (heap : Heap) (old new : State) (number : ℕ) (command : 
   pub refused : within_reach heap old number < need_of command → IsRefused heap old new number command reply
 
 -- the array's spine words are more than the heap grants beside those that are in use or asked for
-abbrev pub LacksWords : Heap → State → Command → Type 0
-LacksWords heap state command = heap.spine < at heap state.words Budget + spine_need_of command
+abbrev pub LacksSpineWords : Heap → State → Command → Type 0
+LacksSpineWords heap state command = heap.spine < at heap state.words Budget + spine_need_of command
 
 -- the call was refused its spine words: the refusal shows what is needed and what was granted, and nothing was changed
 pub record IsSpineRefused (heap : Heap) (old new : State) (number : ℕ) (command : Command) (reply : Reply) : Type 0 where
@@ -100,9 +100,9 @@ pub record IsSpineRefused (heap : Heap) (old new : State) (number : ℕ) (comman
 
 -- an array is made exactly where both its spine words and its fragments are enough; where both are too few its spine words are refused
 pub record AnswersArray (heap : Heap) (old new : State) (number : ℕ) (command : Command) (reply : Reply) : Type 0 where
-  pub spine_refused : LacksWords heap old command → IsSpineRefused heap old new number command reply
-  pub made : ¬ LacksWords heap old command → need_of command ≤ within_reach heap old number → reply ≡ Made (next_object_id number (seat_at old number))
-  pub refused : ¬ LacksWords heap old command → within_reach heap old number < need_of command → IsRefused heap old new number command reply
+  pub spine_refused : LacksSpineWords heap old command → IsSpineRefused heap old new number command reply
+  pub made : ¬ LacksSpineWords heap old command → need_of command ≤ within_reach heap old number → reply ≡ Made (next_object_id number (seat_at old number))
+  pub refused : ¬ LacksSpineWords heap old command → within_reach heap old number < need_of command → IsRefused heap old new number command reply
 
 -- the reply refuses a get, a set or a len
 abbrev pub IsPlaceRefusal : Reply → Type 0

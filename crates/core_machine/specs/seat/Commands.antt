@@ -11,14 +11,14 @@ MakesObject (Array d cells) = Unit {0}
 MakesObject _ = ⊥
 
 -- the command makes a record
-abbrev pub IsRecord : Command → Type 0
-IsRecord (New d fields) = Unit {0}
-IsRecord _ = ⊥
+abbrev pub IsRecordCall : Command → Type 0
+IsRecordCall (New d fields) = Unit {0}
+IsRecordCall _ = ⊥
 
 -- the command makes an array
-abbrev pub IsArray : Command → Type 0
-IsArray (Array d cells) = Unit {0}
-IsArray _ = ⊥
+abbrev pub IsArrayCall : Command → Type 0
+IsArrayCall (Array d cells) = Unit {0}
+IsArrayCall _ = ⊥
 
 -- the machine serves the command: all but a collect, which is made of inner calls
 abbrev pub IsServed : Command → Type 0

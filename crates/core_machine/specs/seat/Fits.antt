@@ -13,7 +13,7 @@ use Rattle.core_machine.specs.seat.FitsAccess.{FitsAccess, IsNowhere}
 use Rattle.core_machine.specs.table.Decode.{head_of, IsWithinHeap}
 use Rattle.core_machine.specs.table.Layout.{FitsSpot}
 use Rattle.core_machine.specs.seat.Seat.{Seat}
-pub use Rattle.core_machine.specs.seat.FitsMaking.{AreFragments, HasNoSpine, HasNoHand, IsAtRest, MakesNext, SeatIsGranting, SeatIsWithdrawing, SeatIsGathering, SeatIsRefusing, HasBody, IsListed, IsUnstored, HasArrayBody, FitsMaking}
+pub use Rattle.core_machine.specs.seat.FitsMaking.{AreFragments, HasNoSpine, HasNoHand, IsAtRest, MakesNext, SeatIsGranting, SeatIsWithdrawing, SeatIsGathering, SeatIsRefusing, HasBody, SpineIsListed, IsUnstored, HasArrayBody, FitsMaking}
 pub use Rattle.core_machine.specs.seat.FitsHandshake.{IsLocal, AnswersThePhase, FitsLeaving, HasNoAnswer, IsSilent, SeatIsAnswering, FitsPolling}
 pub use Rattle.core_machine.specs.seat.Collecting.{FitsCollecting}
 pub use Rattle.core_machine.specs.collector.FitsTurns.{FitsStage, CollectorFits}

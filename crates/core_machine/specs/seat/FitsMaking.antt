@@ -10,7 +10,7 @@ use Rattle.heap_model.specs.Needs.{array_words, spine_need_of}
 use Rattle.heap_model.specs.account.Space.{need_of}
 use Rattle.core_machine.specs.declared.place.Making.{Making}
 use Rattle.core_machine.specs.declared.place.Making.TheVariants.{Granting, Withdrawing, Gathering, Returning, Refusing, Placing, Listing, Storing, Bearing}
-use Rattle.core_machine.specs.seat.Commands.{MakesObject, IsArray}
+use Rattle.core_machine.specs.seat.Commands.{MakesObject, IsArrayCall}
 use Rattle.core_machine.specs.seat.Seat.{Seat, spine_need, no_spot}
 
 -- each is a fragment of the heap
@@ -44,12 +44,12 @@ pub record MakesNext (command : Command) (made : ℕ) : Type 0 where
 
 -- the seat's call makes an array, for which nothing was claimed yet
 abbrev pub SeatIsGranting : Seat → Type 0
-SeatIsGranting seat = IsAtRest seat × MakesNext seat.command seat.made × IsArray seat.command
+SeatIsGranting seat = IsAtRest seat × MakesNext seat.command seat.made × IsArrayCall seat.command
 
 -- its spine words were found to be too many beside those in use
 pub record IsWithdrawing (heap : Heap) (command : Command) (made : ℕ) (hand body : List ℕ) (stored tried given used : ℕ) (spine : Spot) (listed : ℕ) : Type 0 where
   pub makes : MakesNext command made
-  pub an_array : IsArray command
+  pub an_array : IsArrayCall command
   pub rests : HasNoHand hand body stored tried given 0 spine listed
   pub too_many : heap.spine < used + spine_need_of command
 
@@ -98,9 +98,9 @@ abbrev pub HasBody : Seat → Type 0
 HasBody seat = HasFragments seat.command seat.made seat.body seat.tried seat.given seat.used
 
 -- all words of an array's spine are stored; a record has none
-abbrev pub IsListed : Command → Spot → ℕ → Type 0
-IsListed (Array d cells) spine listed = listed ≡ array_words cells
-IsListed _ spine listed = (spine ≡ no_spot) × (listed ≡ 0)
+abbrev pub SpineIsListed : Command → Spot → ℕ → Type 0
+SpineIsListed (Array d cells) spine listed = listed ≡ array_words cells
+SpineIsListed _ spine listed = (spine ≡ no_spot) × (listed ≡ 0)
 
 -- nothing is stored of the object yet
 pub record IsUnstored (hand body : List ℕ) (stored : ℕ) : Type 0 where
@@ -109,7 +109,7 @@ pub record IsUnstored (hand body : List ℕ) (stored : ℕ) : Type 0 where
 
 -- the object is an array, which has its fragments
 abbrev pub HasArrayBody : Seat → Type 0
-HasArrayBody seat = HasBody seat × IsArray seat.command × IsUnstored seat.hand seat.body seat.stored
+HasArrayBody seat = HasBody seat × IsArrayCall seat.command × IsUnstored seat.hand seat.body seat.stored
 
 -- what is true of the seat's data at each place of making
 abbrev pub FitsMaking : Heap → Seat → Making → Type 0
@@ -121,7 +121,7 @@ FitsMaking heap seat Refusing = SeatIsRefusing heap seat × (seat.hand ≡ [])
 FitsMaking heap seat Placing = HasArrayBody seat × HasNoSpine seat.used seat.spine seat.listed
 FitsMaking heap seat Listing = HasArrayBody seat × (seat.listed < spine_need seat)
 FitsMaking heap seat Storing =
-    HasBody seat × (seat.hand ≡ seat.body) × (seat.stored < 4 * length seat.body) × IsListed seat.command seat.spine seat.listed
+    HasBody seat × (seat.hand ≡ seat.body) × (seat.stored < 4 * length seat.body) × SpineIsListed seat.command seat.spine seat.listed
 FitsMaking heap seat Bearing =
     HasBody seat × (0 < length seat.hand) × (length seat.hand ≤ length seat.body) × (seat.stored ≡ 4 * length seat.body)
-    × IsListed seat.command seat.spine seat.listed
+    × SpineIsListed seat.command seat.spine seat.listed

@@ -33,12 +33,12 @@ abbrev pub seen_phase : ℕ → Looks → Looks
 seen_phase found looks = record looks { seen = found }
 
 -- one more, where that has 64 bits
-abbrev pub one_more : ℕ → ℕ
-one_more n = if nat_lt (n + 1) (2 ^ 64) then n + 1 else n
+abbrev pub counted_once_more : ℕ → ℕ
+counted_once_more n = if nat_lt (n + 1) (2 ^ 64) then n + 1 else n
 
 -- a seat was found to be behind
 abbrev pub found_behind : FoundBehind → Looks → Looks
-found_behind found looks = record looks { behind = Some found; waits = one_more looks.waits }
+found_behind found looks = record looks { behind = Some found; waits = counted_once_more looks.waits }
 
 -- the word of another seat was compared with the phase: the seat is behind where the word is below it
 abbrev pub compared : ℕ → ℕ → ℕ → Looks → Looks

@@ -3,7 +3,7 @@ ghost use Rattle.heap_model.specs.declared.command.Command.TheVariants.{Leave};
 ghost use Rattle.heap_model.specs.account.Space.{need_of};
 ghost use Rattle.core_machine.specs.machine.Machine.{Begins, BeginsInner, Can, seat_at};
 ghost use Rattle.core_machine.specs.machine.InnerCalls.{PlaysInner};
-ghost use Rattle.core_machine.specs.seat.Commands.{IsRecord, IsArray};
+ghost use Rattle.core_machine.specs.seat.Commands.{IsRecordCall, IsArrayCall};
 ghost use Rattle.core_machine.specs.machine.Calls.{PlaysCall, CountsCall, TellsLeave, AnswersNew, AnswersArray, IsPlaceRefusal, LeavesAll, last_reply_of};
 ghost use Rattle.core_machine.specs.machine.Value.{spare_of, SpendsRoom};
 
@@ -19,8 +19,8 @@ impl Machine {
         ensures steps { PlaysCall self.old.heap self.old.state self.new.state seat command.now result }
         ensures counts { CountsCall (seat_at self.old.state seat) (seat_at self.new.state seat) command.now }
         ensures leave { command.now ≡ Leave → TellsLeave self.old.state self.new.state seat }
-        ensures answer { IsRecord command.now → AnswersNew self.old.heap self.old.state self.new.state seat command.now result }
-        ensures array { IsArray command.now → AnswersArray self.old.heap self.old.state self.new.state seat command.now result }
+        ensures answer { IsRecordCall command.now → AnswersNew self.old.heap self.old.state self.new.state seat command.now result }
+        ensures array { IsArrayCall command.now → AnswersArray self.old.heap self.old.state self.new.state seat command.now result }
         ensures refused { IsPlaceRefusal result → LeavesAll self.old.state self.new.state seat }
         ensures spent { SpendsRoom self.old self.new seat }
     {

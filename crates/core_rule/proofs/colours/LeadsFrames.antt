@@ -11,7 +11,7 @@ use Rattle.core_machine.specs.table.Layout.{at, put, index_of, table_length, spi
 use Rattle.core_machine.specs.table.Decode.{pointer_in, payload_in, spine_words_in}
 use Rattle.core_rule.specs.Colours.{WordPointsTo}
 use Rattle.core_rule.specs.Sources.{spine_pointer, source_pointer}
-use Rattle.core_rule.proofs.colours.SourceCases.{HasNoSpine, source_cases, word_source, word_leads, lead_of_word, word_alone}
+use Rattle.core_rule.proofs.colours.SourceCases.{TellsNoSpine, source_cases, word_source, word_leads, lead_of_word, word_alone}
 use Rattle.core_rule.proofs.words.Addresses.{at-put_apart, word_same, fragment_other, part_other}
 
 -- the four words of the fragment are the same, and so are the words of its spine
@@ -49,7 +49,7 @@ module _ (heap : Heap) (words now : List ℕ) (f : ℕ) (same : SameSources heap
   same_leads source g leads = record { within = leads.within; to = sources_same source ∙ leads.to }
 
   -- and there is no spine where there was none
-  pub still_no_spine : HasNoSpine heap words f → HasNoSpine heap now f
+  pub still_no_spine : TellsNoSpine heap words f → TellsNoSpine heap now f
   still_no_spine none = ap spine_words_in (same.parts 0 (omega arith)) ∙ none
 
 -- the sources of all fragments stay where a word before the fragments' was written: the phase, an answer, the budget, the spot or a control word
@@ -84,45 +84,41 @@ control_leads heap words group n below = ahead_leads heap words (Control group) 
 
 -- a fragment without a spine has none once one of its words was written by a word that is no array's meta
 pub put_no_spine : (heap : Heap) (words : List ℕ) (a b n : ℕ) → length words ≡ table_length heap → a < 16 * heap.groups → spine_words_in n ≡ 0
-    → HasNoSpine heap words a → HasNoSpine heap (put heap words (Word a b) n) a
-put_no_spine heap words a b n whole within plain none = elim (cases_eq b 0) as (λ _. HasNoSpine heap (put heap words (Word a b) n) a) [
-  | inl first ↦ subst (λ p. HasNoSpine heap (put heap words (Word a p) n) a) (sym first) (ap spine_words_in (word_same heap words n a 0 whole within (omega arith)) ∙ plain)
+    → TellsNoSpine heap words a → TellsNoSpine heap (put heap words (Word a b) n) a
+put_no_spine heap words a b n whole within plain none = elim (cases_eq b 0) as (λ _. TellsNoSpine heap (put heap words (Word a b) n) a) [
+  | inl first ↦ subst (λ p. TellsNoSpine heap (put heap words (Word a p) n) a) (sym first) (ap spine_words_in (word_same heap words n a 0 whole within (omega arith)) ∙ plain)
   | inr behind ↦ ap spine_words_in (part_other heap words n a b a 0 (λ e. behind (sym e)) refl) ∙ none
 ]
 
 -- a word of a fragment was written that had no spine before, and has none after it
-module _ (heap : Heap) (words : List ℕ) (a b n : ℕ) (within : a < 16 * heap.groups) (below : b < 4) (before : HasNoSpine heap words a) (after : HasNoSpine heap (put heap words (Word a b) n) a) where
+module _ (heap : Heap) (words : List ℕ) (a b n : ℕ) (within : a < 16 * heap.groups) (below : b < 4) (before : TellsNoSpine heap words a) (after : TellsNoSpine heap (put heap words (Word a b) n) a) where
   abbrev now : List ℕ
   now = put heap words (Word a b) n
 
-  -- each source leads where it led, but for the one that was written
-  pub leads_but : (f source g : ℕ) → WordPointsTo heap now f source g → WordPointsTo heap words f source g ⊎ ((f ≡ a) × (source ≡ b))
-  leads_but f source g leads = elim (cases_eq f a) as (λ _. WordPointsTo heap words f source g ⊎ ((f ≡ a) × (source ≡ b))) [
-    | inr apart ↦ inl (leads_same heap words now f (same_beside heap words a b n within below f apart) source g leads)
-    | inl same ↦ elim (cases_eq source b) as (λ _. WordPointsTo heap words f source g ⊎ ((f ≡ a) × (source ≡ b))) [
+  -- what is so of a source of another fragment, and of another one of this, is so of each source but for the one that was written
+  but_written : (P : ℕ → ℕ → Type 0) (f source : ℕ) → (f ≢ a → P f source) → (f ≡ a → source ≢ b → P f source) → P f source ⊎ ((f ≡ a) × (source ≡ b))
+  but_written P f source beside other = elim (cases_eq f a) as (λ _. P f source ⊎ ((f ≡ a) × (source ≡ b))) [
+    | inr apart ↦ inl (beside apart)
+    | inl same ↦ elim (cases_eq source b) as (λ _. P f source ⊎ ((f ≡ a) × (source ≡ b))) [
       | inl here ↦ inr (same, here)
-      | inr other ↦ inl (other_word source g other same leads)
+      | inr away ↦ inl (other same away)
     ]
   ]
-    where
-      other_word : (source g : ℕ) → source ≢ b → f ≡ a → WordPointsTo heap now f source g → WordPointsTo heap words f source g
-      other_word source g other same leads =
-          let first = word_alone heap now f (subst (HasNoSpine heap now) (sym same) after) source g leads in
-          word_leads heap words f source g leads.within first (ap (pointer_in source) (sym (part_other heap words n a b f source other same)) ∙ lead_of_word heap now f source g first leads)
+
+  -- each source leads where it led, but for that one
+  pub leads_but : (f source g : ℕ) → WordPointsTo heap now f source g → WordPointsTo heap words f source g ⊎ ((f ≡ a) × (source ≡ b))
+  leads_but f source g leads = but_written (λ x y. WordPointsTo heap words x y g) f source
+      (λ apart. leads_same heap words now f (same_beside heap words a b n within below f apart) source g leads)
+      (λ same other.
+      let first = word_alone heap now f (subst (TellsNoSpine heap now) (sym same) after) source g leads in
+      word_leads heap words f source g leads.within first (ap (pointer_in source) (sym (part_other heap words n a b f source other same)) ∙ lead_of_word heap now f source g first leads))
 
   pub but_leads : (f source g : ℕ) → WordPointsTo heap words f source g → WordPointsTo heap now f source g ⊎ ((f ≡ a) × (source ≡ b))
-  but_leads f source g leads = elim (cases_eq f a) as (λ _. WordPointsTo heap now f source g ⊎ ((f ≡ a) × (source ≡ b))) [
-    | inr apart ↦ inl (same_leads heap words now f (same_beside heap words a b n within below f apart) source g leads)
-    | inl same ↦ elim (cases_eq source b) as (λ _. WordPointsTo heap now f source g ⊎ ((f ≡ a) × (source ≡ b))) [
-      | inl here ↦ inr (same, here)
-      | inr other ↦ inl (other_word source g other same leads)
-    ]
-  ]
-    where
-      other_word : (source g : ℕ) → source ≢ b → f ≡ a → WordPointsTo heap words f source g → WordPointsTo heap now f source g
-      other_word source g other same leads =
-          let first = word_alone heap words f (subst (HasNoSpine heap words) (sym same) before) source g leads in
-          word_leads heap now f source g leads.within first (ap (pointer_in source) (part_other heap words n a b f source other same) ∙ lead_of_word heap words f source g first leads)
+  but_leads f source g leads = but_written (λ x y. WordPointsTo heap now x y g) f source
+      (λ apart. same_leads heap words now f (same_beside heap words a b n within below f apart) source g leads)
+      (λ same other.
+      let first = word_alone heap words f (subst (TellsNoSpine heap words) (sym same) before) source g leads in
+      word_leads heap now f source g leads.within first (ap (pointer_in source) (part_other heap words n a b f source other same) ∙ lead_of_word heap words f source g first leads))
 
   -- so each lead is an old one or the new word's
   pub leads_put : length words ≡ table_length heap → (f source g : ℕ) → WordPointsTo heap now f source g → WordPointsTo heap words f source g ⊎ ((f ≡ a) × (source ≡ b) × (pointer_in b n ≡ Some g))

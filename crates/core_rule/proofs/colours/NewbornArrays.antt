@@ -13,7 +13,7 @@ use Rattle.core_rule.specs.Book.{fragment_at}
 use Rattle.core_rule.specs.Colours.{WordPointsTo}
 use Rattle.core_rule.specs.Sources.{spine_pointer}
 use Rattle.core_rule.proofs.colours.NewbornLeads.{zero_leads}
-use Rattle.core_rule.proofs.colours.SourceCases.{HasNoSpine, lead_cases, no_spine_leads, spine_cases}
+use Rattle.core_rule.proofs.colours.SourceCases.{TellsNoSpine, lead_cases, no_spine_leads, spine_cases}
 use Rattle.core_rule.proofs.ways.ArrayWords.{sentinel_nowhere, words_in-meta, spot_in-word, payload_in-word}
 
 -- the words behind an array's first fragment are 0
@@ -33,7 +33,7 @@ module _ (heap : Heap) (words : List ℕ) (name : Name) (cells : ℕ) (spine : S
   array_nowhere (suc k) part = ap (pointer_in part) (behind_zero name cells spine k part) ∙ zero_leads part
 
   -- a payload fragment has no spine
-  payload_no_spine : (k : ℕ) → suc k < length body → HasNoSpine heap words (fragment_at body (suc k))
+  payload_no_spine : (k : ℕ) → suc k < length body → TellsNoSpine heap words (fragment_at body (suc k))
   payload_no_spine k below = ap spine_words_in (stored (suc k) 0 below (omega arith) ∙ behind_zero name cells spine k 0)
 
   -- each word of the spine names the next payload fragment

@@ -9,7 +9,7 @@ use Rattle.core_machine.specs.declared.table.address.Address.TheVariants.{Word}
 use Rattle.core_machine.specs.table.Layout.{at, spine_place}
 use Rattle.core_machine.specs.table.Decode.{pointer_in, payload_in, spine_words_in}
 use Rattle.core_rule.specs.Colours.{WordPointsTo}
-pub use Rattle.core_rule.specs.Sources.{HasNoSpine}
+pub use Rattle.core_rule.specs.Sources.{TellsNoSpine}
 use Rattle.core_rule.specs.Sources.{spine_pointer, source_pointer}
 
 none_below : (n k : ℕ) (o : Option ℕ) → n ≡ 0 → (if nat_lt k n then o else None) ≡ None
@@ -43,11 +43,11 @@ module _ (heap : Heap) (words : List ℕ) (f : ℕ) where
   lead_cases P source g word spine leads = source_cases (λ o. o ≡ Some g → P) source word spine leads.to
 
   -- where there is no spine none of its words leads
-  pub no_spine_leads : HasNoSpine heap words f → (k g : ℕ) → spine_pointer heap words f k ≢ Some g
+  pub no_spine_leads : TellsNoSpine heap words f → (k g : ℕ) → spine_pointer heap words f k ≢ Some g
   no_spine_leads none k g to = let nowhere : None ≡ Some g = sym (none_below _ k _ none) ∙ to in absurd (cc nowhere)
 
   -- so what leads is one of the four words
-  pub word_alone : HasNoSpine heap words f → (source g : ℕ) → WordPointsTo heap words f source g → source < 4
+  pub word_alone : TellsNoSpine heap words f → (source g : ℕ) → WordPointsTo heap words f source g → source < 4
   word_alone none source g = lead_cases (source < 4) source g (λ first to. first) (λ behind to. absurd (no_spine_leads none (source - 4) g to))
 
   -- a word of the spine leads as a source behind the four words, to the fragment that it names

@@ -6,7 +6,7 @@ use Rattle.core_machine.specs.table.Decode.{spine_words_in}
 use Rattle.core_machine.specs.table.Layout.{at}
 use Rattle.core_rule.specs.Colours.{WordPointsTo}
 use Rattle.core_rule.proofs.colours.LeadsFrames.{SameSources, same_leads}
-use Rattle.core_rule.proofs.colours.SourceCases.{HasNoSpine, word_alone}
+use Rattle.core_rule.proofs.colours.SourceCases.{TellsNoSpine, word_alone}
 
 -- the fragment has as many spine words; where it has some its spine has the place that it had, and they lead where they led
 pub record SpineStays (heap : Heap) (words now : List ℕ) (f : ℕ) : Type 0 where
@@ -23,7 +23,7 @@ same_spine heap words now f same = record {
 }
 
 -- or it has no spine before and after
-pub no_spine_stays : (heap : Heap) (words now : List ℕ) (f : ℕ) → HasNoSpine heap words f → HasNoSpine heap now f → SpineStays heap words now f
+pub no_spine_stays : (heap : Heap) (words now : List ℕ) (f : ℕ) → TellsNoSpine heap words f → TellsNoSpine heap now f → SpineStays heap words now f
 no_spine_stays heap words now f before after = record {
   as_many = after ∙ sym before;
   there = λ some. absurd (omega (arith, some, before));

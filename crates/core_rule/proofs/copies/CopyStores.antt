@@ -26,7 +26,7 @@ use Rattle.core_rule.specs.Replicas.{CopyInHand, IsToCopy}
 use Rattle.core_rule.specs.Rule.{Rule, HeapStands, SeatStands}
 use Rattle.core_rule.specs.Spines.{next_spine}
 use Rattle.core_rule.proofs.colours.LeadsFrames.{SameSources, leads_same}
-use Rattle.core_rule.proofs.colours.SourceCases.{HasNoSpine}
+use Rattle.core_rule.proofs.colours.SourceCases.{TellsNoSpine}
 use Rattle.core_rule.proofs.copies.BegunArrays.{begun_there}
 use Rattle.core_rule.proofs.copies.CopyWords.{HasCopy, copy_has}
 use Rattle.core_rule.proofs.copies.CopyingStages.{fits_from, after_marking}
@@ -75,7 +75,7 @@ module _ (heap : Heap) (state : State) (book : Book) (rule : Rule heap state boo
   borne_sources f r inside bears = record {
     parts = λ part below. beside.parts f part inside below;
     spine = λ j less.
-        let none : HasNoSpine heap state.words f = ap (λ o. option_map_or array_words o 0) (borne_no_length heap state book rule f r bears) in
+        let none : TellsNoSpine heap state.words f = ap (λ o. option_map_or array_words o 0) (borne_no_length heap state book rule f r bears) in
         absurd (omega (arith, less, none));
   }
 

@@ -21,8 +21,8 @@ use Rattle.heap_model.specs.Command.{IsCommand}
 use Rattle.core_machine.specs.declared.place.Making.TheVariants.{Listing, Storing, Bearing}
 use Rattle.core_machine.specs.declared.place.Place.{Place}
 use Rattle.core_machine.specs.declared.place.Place.TheVariants as places
-use Rattle.core_machine.specs.seat.Commands.{MakesObject, IsArray}
-use Rattle.core_machine.specs.seat.Fits.{Fits, FitsPlace, HasBody, IsListed}
+use Rattle.core_machine.specs.seat.Commands.{MakesObject, IsArrayCall}
+use Rattle.core_machine.specs.seat.Fits.{Fits, FitsPlace, HasBody, SpineIsListed}
 use Rattle.core_machine.specs.seat.Making.{newborn_word, newborn_word_of, next_name}
 use Rattle.core_machine.specs.seat.Seat.{Seat}
 use Rattle.core_machine.specs.table.Decode.{array_length_in, array_length_of, is_fixed, is_meta}
@@ -79,7 +79,7 @@ module _ (fragments : List ℕ) (small_ : (i : ℕ) → i < length fragments →
   record_no_length name fields (suc k) few = let later : eqb (suc k) 0 ≡ false = grind arith in rw later (link_no_length (suc k))
 
   -- so no fragment of a newborn object tells one but an array's first
-  newborn_no_length : (command : Command) (name : Name) (spine : Spot) (k : ℕ) → MakesObject command → IsCommand command → (IsArray command → k ≢ 0)
+  newborn_no_length : (command : Command) (name : Name) (spine : Spot) (k : ℕ) → MakesObject command → IsCommand command → (IsArrayCall command → k ≢ 0)
       → array_length_of (newborn_word command name spine fragments k 0) ≡ None
   newborn_no_length (commands.New d fields) name spine k made range behind = record_no_length name fields k (omega (arith, range.1.1))
   newborn_no_length (commands.Array d cells) name spine zero made range behind = absurd (behind tt refl)
@@ -107,7 +107,7 @@ module _ (heap : Heap) (state : State) (book : Book) (rule : Rule heap state boo
     fits : Fits heap seat
     fits = seat_fits rule number there.0
 
-    born : HasBody seat × (seat.stored ≡ 4 * length seat.body) × IsListed seat.command seat.spine seat.listed × (IsArray seat.command → HasPlace seat seat.place)
+    born : HasBody seat × (seat.stored ≡ 4 * length seat.body) × SpineIsListed seat.command seat.spine seat.listed × (IsArrayCall seat.command → HasPlace seat seat.place)
     born = bearing heap state book rule number f bears seat.place fits.at_place
 
     -- while an array has a borne fragment something of it is in the hand
@@ -118,7 +118,7 @@ module _ (heap : Heap) (state : State) (book : Book) (rule : Rule heap state boo
     hand_some _ fits has = absurd has
 
     -- so that its first fragment isn't borne
-    behind_first : IsArray seat.command → place_of f seat.body ≢ 0
+    behind_first : IsArrayCall seat.command → place_of f seat.body ≢ 0
     behind_first array first =
         let own = (rule.seats_stand number there.0).own in
         let order = own.together.chosen (λ none. absurd (let all : tally f seat.body ≡ 0 = rw none refl in omega (arith, all, there.1))) in

@@ -14,7 +14,6 @@ use Rattle.heap_model.proofs.Histories.{total-more}
 use Rattle.core_machine.specs.declared.collector.stage.Copying.TheVariants.{Swinging}
 use Rattle.core_machine.specs.declared.collector.stage.SpineCopy.{SpineCopy}
 use Rattle.core_machine.specs.declared.collector.stage.Stage.TheVariants as stages
-use Rattle.core_machine.specs.declared.place.Access.TheVariants.{Indexing}
 use Rattle.core_machine.specs.declared.place.Place.{Place}
 use Rattle.core_machine.specs.declared.place.Place.TheVariants as places
 use Rattle.core_machine.specs.declared.table.address.Address.TheVariants.{Word, Answer, Phase, Control}
@@ -25,7 +24,7 @@ use Rattle.core_rule.specs.Book.{Book}
 use Rattle.core_rule.specs.Colours.{IsBetween}
 use Rattle.core_rule.specs.Cycle.{HeapInCycle, SeatInCycle}
 use Rattle.core_rule.specs.Objects.{node_at}
-use Rattle.core_rule.specs.Replicas.{AddressStands, IsLeftReplica}
+use Rattle.core_rule.specs.Replicas.{AddressStands, HasLoaded, IsLeftReplica}
 use Rattle.core_rule.specs.Rule.{Rule, HeapStands, SeatStands}
 use Rattle.core_rule.proofs.colours.MarkWords.{marks_same}
 use Rattle.core_rule.proofs.copies.CopyingStages.{in_copying}
@@ -43,6 +42,7 @@ use Rattle.core_rule.proofs.owners.OwnerLemmas.{own_keeps_none}
 use Rattle.core_rule.proofs.spines.SpineFrames.{SpinesLeft, same_kept, spine_words_stay}
 use Rattle.core_rule.proofs.words.Addresses.{at-put_apart, control_after_word, spines_after_word, SameSpines}
 use Rattle.core_rule.proofs.words.ControlLemmas.{bits_same}
+use Rattle.core_rule.proofs.ways.LoadedPlaces.{loaded_goes}
 
 module _ (heap : Heap) (state : State) (book : Book) (rule : Rule heap state book) (copy : SpineCopy) (swinging : state.collector.stage ≡ stages.Copying (Swinging copy)) where
   abbrev words : List ℕ
@@ -137,14 +137,13 @@ module _ (heap : Heap) (state : State) (book : Book) (rule : Rule heap state boo
 
     address_swung : (place : Place) → seat.place ≡ place
         → AddressStands heap state.words (node_at (graph_of heap book.history) book.made) book.owner book.fragments book.spines book.spine_owner seat place → AddressAt place
-    address_swung (places.Access Indexing) is old = λ j kept. elim (old j kept) as (λ _. (seat.address ≡ later.spines j) ⊎ IsReplica j seat.address) [
+    address_swung place is = loaded_goes place (λ has reads j f calls kept an_array. elim (reads j f calls kept an_array) as (λ _. (seat.address ≡ later.spines j) ⊎ IsReplica j seat.address) [
       | inr replica ↦ inr (replica_stays j replica)
       | inl there ↦ elim (cases_eq j n) as (λ _. (seat.address ≡ later.spines j) ⊎ IsReplica j seat.address) [
-        | inl same ↦ inr (subst (λ m. IsReplica m seat.address) (sym same) (place_left (λ idle. absurd (cc (is, idle))) (there ∙ ap book.spines same)))
+        | inl same ↦ inr (subst (λ m. IsReplica m seat.address) (sym same) (place_left (λ idle. subst HasLoaded (sym is ∙ idle) has) (there ∙ ap book.spines same)))
         | inr other ↦ inl (there ∙ sym (spine_other n copy.to book.spines j other))
       ]
-    ]
-    address_swung _ is old = tt
+    ])
 
     cycle_seat : SeatInCycle heap words (phase book.history) (last_answer r book.history) (has_left r book.history) book.owner book.colour r seat
     cycle_seat = cycle_watched heap state.words words book.owner book.owner book.colour book.colour (phase book.history) (last_answer r book.history) (has_left r book.history) r seat

@@ -27,7 +27,7 @@ use Rattle.core_machine.specs.machine.Machine.{State}
 use Rattle.core_machine.specs.table.Layout.{at}
 use Rattle.core_machine.proofs.table_lemmas.Free.{sum_but_one}
 use Rattle.core_rule.specs.Book.{Book, fragment_at, id_at, object_number}
-use Rattle.core_rule.specs.Budgets.{BudgetsStand, kept_weight, kept_sum, dead_sum, words_of, words_in_half, nodes_in, copying_words, returning}
+use Rattle.core_rule.specs.Budgets.{BudgetsStand, kept_weight, kept_sum, dead_sum, words_of_object, words_in_half, nodes_in, copying_words, returning}
 use Rattle.core_rule.specs.Halves.{HalvesStand, AwaitsCopy}
 use Rattle.core_rule.specs.Objects.{IsKept, node_at}
 use Rattle.core_rule.specs.Owners.{Owner, Kept}
@@ -156,8 +156,8 @@ module _ (heap : Heap) (state : State) (book : Book) (rule : Rule heap state boo
       let granted = none_granted_by book.history told refl in
       let given = none_returned_by book.history told refl in
       let in_cycle = still_returned book.history told refl refl in
-      let kept : kept_sum heap (words_of (nodes_in heap later)) book.owner ≡ kept_sum heap (words_of nodes) book.owner = ap (λ ns. kept_sum heap (words_of ns) book.owner) nodes_same in
-      let dead : dead_sum heap (words_of (nodes_in heap later)) book.owner ≡ dead_sum heap (words_of nodes) book.owner = ap (λ ns. dead_sum heap (words_of ns) book.owner) nodes_same in
+      let kept : kept_sum heap (words_of_object (nodes_in heap later)) book.owner ≡ kept_sum heap (words_of_object nodes) book.owner = ap (λ ns. kept_sum heap (words_of_object ns) book.owner) nodes_same in
+      let dead : dead_sum heap (words_of_object (nodes_in heap later)) book.owner ≡ dead_sum heap (words_of_object nodes) book.owner = ap (λ ns. dead_sum heap (words_of_object ns) book.owner) nodes_same in
       let here : kept_sum heap (words_in_half half (nodes_in heap later) spines) book.owner ≡ kept_sum heap (words_in_half half nodes spines) book.owner
       = ap (λ ns. kept_sum heap (words_in_half half ns spines) book.owner) nodes_same in
       record {

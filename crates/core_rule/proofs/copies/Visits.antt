@@ -15,7 +15,7 @@ use Rattle.core_machine.proofs.table_lemmas.DeadBits.{place_none}
 use Rattle.core_rule.specs.Book.{Colour, White, Grey, Black}
 use Rattle.core_rule.specs.Colours.{Marks, IsMarked, marked_bit}
 use Rattle.core_rule.specs.Halves.{IsToVisit, AwaitsCopy}
-use Rattle.core_rule.specs.Replicas.{AreMarked}
+use Rattle.core_rule.specs.Replicas.{VisitIsMarked}
 use Rattle.core_rule.proofs.colours.MarkWords.{found_marked}
 use Rattle.core_rule.proofs.words.MarkedPlaces.{marked_tells, marked_within, next_first}
 
@@ -42,7 +42,7 @@ module _ (heap : Heap) (words : List ℕ) (colour : ℕ → Colour) (group : ℕ
   has_bit f here marked = bit_told f here ∙ marked_one (colour f) marked
 
   -- and each bit is one's
-  pub are_marked : (place : ℕ) → AreMarked colour (record { group = group; marked = bits; place = place })
+  pub are_marked : (place : ℕ) → VisitIsMarked colour (record { group = group; marked = bits; place = place })
   are_marked first place one =
       let within : place < 16 = marked_within (at heap words (Control group)) place one in
       let rest : (16 * group + place) % 16 ≡ place = omega (arith, within) in

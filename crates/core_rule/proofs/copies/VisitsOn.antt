@@ -18,7 +18,7 @@ use Rattle.core_rule.specs.Halves.{AwaitsCopy, AwaitsVisit, IsToVisit, WhileCopy
 use Rattle.core_rule.specs.Marking.{AfterMarking}
 use Rattle.core_rule.specs.Objects.{IsKept, node_at}
 use Rattle.core_rule.specs.Owners.{Owner, Kept, born_bit}
-use Rattle.core_rule.specs.Replicas.{AreMarked, CopyingStands}
+use Rattle.core_rule.specs.Replicas.{VisitIsMarked, CopyingStands}
 use Rattle.core_rule.specs.Rule.{Rule}
 use Rattle.core_rule.specs.Spines.{next_spine}
 use Rattle.core_rule.proofs.copies.CopyingStages.{IsFree, LeadsTo, leads_free, seen_free}
@@ -33,7 +33,7 @@ kept_marked owner colour after f i k kept white =
 
 -- copying has found what it is to have where a visit goes on
 pub copies_seen : (heap : Heap) (nodes : ℕ → Node) (made : List Id) (owner : ℕ → Owner) (colour : ℕ → Colour) (fragments : ℕ → List ℕ) (spines : ℕ → Spot) (half phase : ℕ) (visit : Visit)
-    → AreMarked colour visit → (o : Option ℕ) → WhileCopying (CopyingStands nodes made owner colour fragments spines half) (after_seen heap visit.group visit.marked o)
+    → VisitIsMarked colour visit → (o : Option ℕ) → WhileCopying (CopyingStands nodes made owner colour fragments spines half) (after_seen heap visit.group visit.marked o)
 copies_seen heap nodes made owner colour fragments spines half phase visit marked =
     seen_cases heap phase visit.group visit.marked (WhileCopying (CopyingStands nodes made owner colour fragments spines half)) (λ more. tt) (λ last. tt) (λ place. marked)
 
@@ -78,7 +78,7 @@ module _ (heap : Heap) (state : State) (book : Book) (rule : Rule heap state boo
         (rule.space.halves.arrays i below kept an_array)
 
     -- so the collector may go on there
-    pub leads_seen : IsFree (stages.Copying from) → (visit : Visit) → AreMarked book.colour visit → ArraysOr (IsToVisit visit)
+    pub leads_seen : IsFree (stages.Copying from) → (visit : Visit) → VisitIsMarked book.colour visit → ArraysOr (IsToVisit visit)
         → LeadsTo heap state book (after_seen heap visit.group visit.marked (next_place_of visit.marked visit.place))
     leads_seen free visit marked arrays = leads_free heap state book rule from was free (after_seen heap visit.group visit.marked (next_place_of visit.marked visit.place))
         (seen_free heap state.collector.phase visit.group visit.marked (next_place_of visit.marked visit.place)) (arrays_seen visit arrays)

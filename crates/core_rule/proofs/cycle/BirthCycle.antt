@@ -5,7 +5,7 @@ use Rattle.heap_model.specs.account.PhaseCounts.{phase}
 use Rattle.core_machine.specs.declared.table.address.Address.TheVariants.{Control}
 use Rattle.core_machine.specs.declared.place.Making.TheVariants.{Bearing}
 use Rattle.core_machine.specs.declared.place.Place.TheVariants as places
-use Rattle.core_machine.specs.seat.Fits.{HasBody, IsListed}
+use Rattle.core_machine.specs.seat.Fits.{HasBody, SpineIsListed}
 use Rattle.core_machine.specs.table.Fragments.{part_in, part_out, mask_of, tally}
 use Rattle.core_machine.specs.table.Layout.{at, put, spine_place}
 use Rattle.core_machine.specs.table.Newborn.{spine_word}
@@ -50,7 +50,7 @@ module _ (heap : Heap) (state : State) (book : Book) (number : ℕ) (rule : Rule
   stands : SeatStands heap state.words book number seat
   stands = rule.seats_stand number here
 
-  at_place : HasBody seat × (0 < length seat.hand) × (length seat.hand ≤ length seat.body) × (seat.stored ≡ 4 * length seat.body) × IsListed seat.command seat.spine seat.listed
+  at_place : HasBody seat × (0 < length seat.hand) × (length seat.hand ≤ length seat.body) × (seat.stored ≡ 4 * length seat.body) × SpineIsListed seat.command seat.spine seat.listed
   at_place = rw place at (seat_fits rule number here).at_place
 
   -- the group is the heap's, and the object's fragments are chosen

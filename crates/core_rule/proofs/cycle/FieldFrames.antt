@@ -21,7 +21,7 @@ use Rattle.core_rule.specs.Ways.{Finds, WayStands}
 use Rattle.core_rule.proofs.words.Addresses.{at-put_apart, control_after_word}
 use Rattle.core_rule.proofs.cycle.CycleFrames.{IsWatching, LeadsStay, LeavesCycle, WatchesBorn, coloured_stays}
 use Rattle.core_rule.proofs.ways.KeptWords.{row_ahead, behind_first}
-use Rattle.core_rule.proofs.colours.SourceCases.{HasNoSpine}
+use Rattle.core_rule.proofs.colours.SourceCases.{TellsNoSpine}
 use Rattle.core_rule.proofs.marking.ObjectEdges.{kept_no_spine}
 use Rattle.core_rule.proofs.colours.LeadsFrames.{same_beside, leads_same}
 use Rattle.core_rule.proofs.colours.MarkWords.{marks_same}
@@ -54,7 +54,7 @@ module _ (heap : Heap) (state : State) (book : Book) (rule : Rule heap state boo
   watched_part = record { index = watched_finds.index; place = watched_finds.row; kept = watched_owned }
 
   -- and has no spine, since no cell stands in an array's first one
-  pub watched_no_spine : HasNoSpine heap state.words (seat_at state r).reached
+  pub watched_no_spine : TellsNoSpine heap state.words (seat_at state r).reached
   watched_no_spine =
       let stands = rule.heap_stands in
       kept_no_spine heap state book rule (seat_at state r).reached watched_finds.index watched_finds.row watched_owned

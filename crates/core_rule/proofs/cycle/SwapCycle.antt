@@ -29,7 +29,7 @@ use Rattle.core_rule.proofs.cycle.CycleFrames.{LeadsStay, LeavesCycle, coloured_
 use Rattle.core_rule.proofs.ways.KeptWords.{has_room}
 use Rattle.core_rule.proofs.colours.LeadsFrames.{put_no_spine, leads_put}
 use Rattle.core_rule.proofs.colours.NoSpines.{value_no_spine}
-use Rattle.core_rule.proofs.colours.SourceCases.{HasNoSpine}
+use Rattle.core_rule.proofs.colours.SourceCases.{TellsNoSpine}
 use Rattle.core_rule.proofs.cycle.FieldFrames.{watched_no_spine}
 use Rattle.core_rule.proofs.ways.ArrayWords.{plain_lead, value_plain}
 use Rattle.core_rule.proofs.ways.LoadedObjects.{held_head}
@@ -47,7 +47,7 @@ pub swap_within : (heap : Heap) (state : State) (book : Book) (number : ℕ) →
 swap_within heap state book number rule here = (seat_fits rule number here).way.reached_within
 
 pub swap_no_spine : (heap : Heap) (state : State) (book : Book) (number : ℕ) → Rule heap state book → number < heap.seats → (seat_at state number).place ≡ places.Access Swapping
-    → HasNoSpine heap state.words (seat_at state number).reached
+    → TellsNoSpine heap state.words (seat_at state number).reached
 swap_no_spine heap state book number rule here place =
     watched_no_spine heap state book rule number here Swapping place tt
 
@@ -68,7 +68,7 @@ module _ (heap : Heap) (state : State) (book : Book) (number : ℕ) (rule : Rule
   room = has_room heap state.words (graph_of heap book.history) book.made book.owner book.fragments rule.machine.limits rule.heap_stands.control_words value names
 
   -- the new word is a cell's, so the fragment has no spine after it either
-  pub swapped_no_spine : HasNoSpine heap words_swapped seat.reached
+  pub swapped_no_spine : TellsNoSpine heap words_swapped seat.reached
   swapped_no_spine = put_no_spine heap state.words seat.reached seat.part word rule.machine.table (swap_within heap state book number rule here)
       (ap spine_words_in is_word ∙ value_no_spine (object_head book.made book.fragments) value stamp room small) (swap_no_spine heap state book number rule here place)
 

@@ -18,7 +18,7 @@ use Rattle.heap_model.specs.graph.Objects.{graph_seat}
 use Rattle.heap_model.specs.account.Refusals.{FindsSpace, FindsSpine}
 use Rattle.heap_model.specs.account.Space.{taken_of, spent_of}
 use Rattle.heap_model.specs.graph.Graph.{Graph, fresh}
-use Rattle.core_machine.specs.seat.Commands.{MakesObject, IsArray, target_of}
+use Rattle.core_machine.specs.seat.Commands.{MakesObject, IsArrayCall, target_of}
 use Rattle.core_rule.specs.Objects.{IsSized}
 use Rattle.core_rule.proofs.entries.Legality.{keeps_told, keeps_said}
 use Rattle.core_rule.proofs.objects.ObjectsGrowth.{fresh_fragments, fresh_words}
@@ -40,7 +40,7 @@ making_only P new array (commands.New d fields) made = new d fields
 making_only P new array (commands.Array d cells) made = array d cells
 making_only P new array _ made = absurd made
 
-array_only : (P : Command → Type 0) → ((d cells : ℕ) → P (commands.Array d cells)) → (command : Command) → IsArray command → P command
+array_only : (P : Command → Type 0) → ((d cells : ℕ) → P (commands.Array d cells)) → (command : Command) → IsArrayCall command → P command
 array_only P array (commands.Array d cells) made = array d cells
 array_only P array _ made = absurd made
 
@@ -95,7 +95,7 @@ module _ (command : Command) (made : MakesObject command) where
       command made less
 
 -- an array may be refused for want of spine words: that changes no object, may stand, and keeps the rules where it shows what is to be found
-module _ (command : Command) (array : IsArray command) where
+module _ (command : Command) (array : IsArrayCall command) where
   pub graph_spine_full : (g : Graph) (number asked found : ℕ) → after_entry g (entries.Said number command (replies.SpineFull asked found)) ≡ g
   graph_spine_full g number asked found = array_only (λ c. after_entry g (entries.Said number c (replies.SpineFull asked found)) ≡ g) (λ d cells. refl) command array
 

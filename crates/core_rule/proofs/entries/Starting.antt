@@ -11,11 +11,11 @@ use Rattle.heap_model.specs.graph.Graph.{Graph, Node}
 use Rattle.core_machine.specs.declared.place.Place.{Place}
 use Rattle.core_machine.specs.declared.place.Place.TheVariants as places
 use Rattle.core_machine.specs.declared.place.Polling.TheVariants.{Asking}
-use Rattle.core_machine.specs.declared.place.Access.TheVariants.{LoadingMeta, Indexing}
+use Rattle.core_machine.specs.declared.place.Access.TheVariants.{LoadingMeta}
 use Rattle.core_machine.specs.declared.place.Making.TheVariants.{Granting}
 use Rattle.core_machine.specs.declared.seat.register.Register.{Register}
 use Rattle.core_machine.specs.declared.seat.register.Register.TheVariants as registers
-use Rattle.core_machine.specs.seat.Commands.{IsRecord, IsServed, object_of}
+use Rattle.core_machine.specs.seat.Commands.{IsRecordCall, IsServed, object_of}
 use Rattle.core_machine.specs.machine.Machine.{call_start}
 use Rattle.core_machine.specs.seat.Access.{access_start}
 use Rattle.core_machine.specs.seat.Registers.{register_in}
@@ -52,11 +52,12 @@ IsFresh (places.Polling Asking) = Unit {0}
 IsFresh (places.Polling _) = ⊥
 IsFresh _ = Unit {0}
 
--- no spine word is granted there, nor loaded next
+-- no spine word is granted there, and the place of no spine is in hand
 abbrev pub IsBare : Place → Type 0
 IsBare (places.Making Granting) = Unit {0}
 IsBare (places.Making _) = ⊥
-IsBare (places.Access Indexing) = ⊥
+IsBare (places.Access LoadingMeta) = Unit {0}
+IsBare (places.Access _) = ⊥
 IsBare _ = Unit {0}
 
 -- so a seat there has no spine, and has found no words to be in use
@@ -73,7 +74,9 @@ pub bare_spineless : (number : ℕ) (seat : Seat) (place : Place) → IsBare pla
 bare_spineless number seat (places.Making Granting) bare =
     record { no_place = λ has. has; no_address = λ heap words nodes owner fragments spines spine_owner. tt; none_used = λ heap history. tt; none_granted = refl; none_placed = λ half. refl; none_refused = refl }
 bare_spineless number seat (places.Making _) bare = absurd bare
-bare_spineless number seat (places.Access Indexing) bare = absurd bare
+bare_spineless number seat (places.Access LoadingMeta) bare =
+    record { no_place = λ has. has; no_address = λ heap words nodes owner fragments spines spine_owner. tt; none_used = λ heap history. tt; none_granted = refl; none_placed = λ half. refl; none_refused = refl }
+bare_spineless number seat (places.Access _) bare = absurd bare
 bare_spineless number seat _ bare =
     record { no_place = λ has. has; no_address = λ heap words nodes owner fragments spines spine_owner. tt; none_used = λ heap history. tt; none_granted = refl; none_placed = λ half. refl; none_refused = refl }
 
@@ -107,7 +110,7 @@ module _ (g : Graph) (nodes : ℕ → Node) (made : List Id) (owner : ℕ → Ow
   opened_starts seat (registers.Object head id) value holds is = record { own = at_place seat _ _ _; awaits = refl; way = sets_out seat head id value holds is; fresh = tt; bare = tt }
 
   -- any other call stands at its first step
-  pub starts_other : (heap : Heap) (seat : Seat) (command : Command) → (IsRecord command → ⊥) → IsServed command → seat.command ≡ command
+  pub starts_other : (heap : Heap) (seat : Seat) (command : Command) → (IsRecordCall command → ⊥) → IsServed command → seat.command ≡ command
       → ((r : ℕ) → (value : Value) × HoldsValue made owner fragments (register_in seat.registers r) value) → Starts seat (call_start heap seat command)
   starts_other heap seat (commands.Get d r i) other served is holds = opened_starts seat (register_in seat.registers r) (holds r).0 (holds r).1 (ap (λ c. register_in seat.registers (object_of c)) (sym is))
   starts_other heap seat (commands.Set r i v) other served is holds = opened_starts seat (register_in seat.registers r) (holds r).0 (holds r).1 (ap (λ c. register_in seat.registers (object_of c)) (sym is))

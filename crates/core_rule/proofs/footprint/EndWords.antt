@@ -18,7 +18,7 @@ use Rattle.heap_model.proofs.account_lemmas.Windows.{parts}
 use Rattle.core_machine.specs.machine.Machine.{State}
 use Rattle.core_machine.proofs.table_lemmas.Free.{sum_zero}
 use Rattle.core_rule.specs.Book.{Book, id_at}
-use Rattle.core_rule.specs.Budgets.{dead_weight, dead_sum, kept_sum, words_of, nodes_in, returning}
+use Rattle.core_rule.specs.Budgets.{dead_weight, dead_sum, kept_sum, words_of_object, nodes_in, returning}
 use Rattle.core_rule.specs.Footprint.{is_among, is_inside}
 use Rattle.core_rule.specs.Owners.{Owner, Kept, Dead}
 use Rattle.core_rule.specs.Rule.{Rule}
@@ -59,22 +59,22 @@ module _ (heap : Heap) (state : State) (book : Book) (rule : Rule heap state boo
 
   -- what is inside was reached then, or wasn't made
   inside_words : (i : ℕ) → is_inside earlier begun (id_at book.made i) ≡ true
-      → words_of (nodes_in heap book) i ≤ words_among heap state.words now book.made book.owner book.fragments rule.heap_stands.ids rule.heap_stands.objects begun i
+      → words_of_object (nodes_in heap book) i ≤ words_among heap state.words now book.made book.owner book.fragments rule.heap_stands.ids rule.heap_stands.objects begun i
       + words_new heap state.words now book.made book.owner book.fragments rule.heap_stands.ids rule.heap_stands.objects earlier i
   inside_words i inside = by (is_among begun (id_at book.made i)) (is_some (node earlier (id_at book.made i))) inside
     where
       by : (among there : Bool) → (if among then true else not there) ≡ true
-          → words_of (nodes_in heap book) i ≤ (if among then words_of (nodes_in heap book) i else 0) + (if there then 0 else words_of (nodes_in heap book) i)
+          → words_of_object (nodes_in heap book) i ≤ (if among then words_of_object (nodes_in heap book) i else 0) + (if there then 0 else words_of_object (nodes_in heap book) i)
       by true there inside = omega arith
       by false false inside = omega arith
       by false true inside = absurd (cc inside)
 
   module _ (kept : (f i k : ℕ) → book.owner f ≡ Kept i k → is_inside earlier begun (id_at book.made i) ≡ true) where
     -- so what is kept has no more than those
-    kept_within : kept_sum heap (words_of (nodes_in heap book)) book.owner ≤ spine_bound heap begun book.history
+    kept_within : kept_sum heap (words_of_object (nodes_in heap book)) book.owner ≤ spine_bound heap begun book.history
     kept_within =
         let old = rule.heap_stands in
-        let both = kept_plus heap book.owner (words_of (nodes_in heap book)) (words_among heap state.words now book.made book.owner book.fragments old.ids old.objects begun)
+        let both = kept_plus heap book.owner (words_of_object (nodes_in heap book)) (words_among heap state.words now book.made book.owner book.fragments old.ids old.objects begun)
         (words_new heap state.words now book.made book.owner book.fragments old.ids old.objects earlier) (λ f i is. inside_words i (kept f i 0 is)) in
         let reached = among_words heap state.words now book.made book.owner book.fragments old.ids old.objects earlier words_then begun
         (λ id among. reached_made earlier id ((reach.reached id).0 (contains_by_test begun id among))) in
@@ -84,4 +84,4 @@ module _ (heap : Heap) (state : State) (book : Book) (rule : Rule heap state boo
     -- and where nothing is to be freed or returned any more, so is what is in use
     pub words_within : ((f i k : ℕ) → book.owner f ≢ Dead i k) → returning state.collector.stage ≡ 0 → words_granted book.history ≤ words_returned book.history + spine_bound heap begun book.history
     words_within alive none =
-        omega (arith, rule.space.budgets.told, kept_within, none_to_free heap (words_of (nodes_in heap book)) book.owner alive, none)
+        omega (arith, rule.space.budgets.told, kept_within, none_to_free heap (words_of_object (nodes_in heap book)) book.owner alive, none)

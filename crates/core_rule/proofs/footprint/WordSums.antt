@@ -20,7 +20,7 @@ use Rattle.heap_model.specs.graph.Sizes.{spine_words_of, spine_words_at, spine_w
 use Rattle.core_machine.specs.machine.Sums.{sum_upto}
 use Rattle.core_machine.proofs.table_lemmas.Free.{sum_zero, sum_upto-none}
 use Rattle.core_rule.specs.Book.{fragment_at, id_at, object_number}
-use Rattle.core_rule.specs.Budgets.{kept_weight, kept_sum, words_of}
+use Rattle.core_rule.specs.Budgets.{kept_weight, kept_sum, words_of_object}
 use Rattle.core_rule.specs.Footprint.{is_among}
 use Rattle.core_rule.specs.Objects.{AreMade, Objects, node_in, node_at}
 use Rattle.core_rule.specs.Owners.{Owner, Kept}
@@ -98,10 +98,10 @@ module _ (heap : Heap) (words : List ℕ) (g : Graph) (made : List Id) (owner : 
 
   -- the words of the objects that weren't made in an earlier graph, and those of some ids
   abbrev pub words_new : Graph → ℕ → ℕ
-  words_new earlier i = if is_some (node earlier (id_at made i)) then 0 else words_of nodes i
+  words_new earlier i = if is_some (node earlier (id_at made i)) then 0 else words_of_object nodes i
 
   abbrev pub words_among : List Id → ℕ → ℕ
-  words_among xs i = if is_among xs (id_at made i) then words_of nodes i else 0
+  words_among xs i = if is_among xs (id_at made i) then words_of_object nodes i else 0
 
   -- of what one more entry makes no more is kept than it is granted
   new_step : (earlier now : Graph) (new : Id) (c : ℕ) (i : ℕ) → i < length made → ((id : Id) → IsMade now id → IsMade earlier id ⊎ ((id ≡ new) × (spine_words_at g id ≡ c)))
@@ -112,7 +112,7 @@ module _ (heap : Heap) (words : List ℕ) (g : Graph) (made : List Id) (owner : 
       | inl was ↦ rw was (omega arith)
       | inr its ↦
           let number : i ≡ object_number made new = sym (ids.distinct i below) ∙ ap (object_number made) its.0 in
-          let has : words_of nodes i ≡ c = words_in_node (node g (id_at made i)) ∙ its.1 in
+          let has : words_of_object nodes i ≡ c = words_in_node (node g (id_at made i)) ∙ its.1 in
           let here : (if i == object_number made new then c else 0) ≡ c = elim (eqb_tells i (object_number made new)) as (λ _. (if i == object_number made new then c else 0) ≡ c) [
             | inl same ↦ rw same.0 refl
             | inr apart ↦ absurd (apart.1 number)
@@ -121,11 +121,11 @@ module _ (heap : Heap) (words : List ℕ) (g : Graph) (made : List Id) (owner : 
     ]
   ]
     where
-      before : (b : Bool) → (if b then 0 else words_of nodes i) ≤ words_of nodes i + (if i == object_number made new then c else 0)
+      before : (b : Bool) → (if b then 0 else words_of_object nodes i) ≤ words_of_object nodes i + (if i == object_number made new then c else 0)
       before true = omega arith
       before false = omega arith
 
-      less : (b : Bool) → (if b then 0 else words_of nodes i) ≤ words_of nodes i
+      less : (b : Bool) → (if b then 0 else words_of_object nodes i) ≤ words_of_object nodes i
       less true = omega arith
       less false = omega arith
 
@@ -175,7 +175,7 @@ module _ (heap : Heap) (words : List ℕ) (g : Graph) (made : List Id) (owner : 
       by i below = elim (id_tells (id_at made i) x) as (λ _. words_among (x ∷ xs) i ≤ (if i == object_number made x then spine_words_at earlier x else 0) + words_among xs i) [
         | inl same ↦
             let number : i ≡ object_number made x = sym (ids.distinct i below) ∙ ap (object_number made) same.1 in
-            let has : words_of nodes i ≡ spine_words_at earlier x = words_in_node (node g (id_at made i)) ∙ ap (spine_words_at g) same.1 ∙ stay x (all x its) in
+            let has : words_of_object nodes i ≡ spine_words_at earlier x = words_in_node (node g (id_at made i)) ∙ ap (spine_words_at g) same.1 ∙ stay x (all x its) in
             let here : (if i == object_number made x then spine_words_at earlier x else 0) ≡ spine_words_at earlier x
             = elim (eqb_tells i (object_number made x)) as (λ _. (if i == object_number made x then spine_words_at earlier x else 0) ≡ spine_words_at earlier x) [
               | inl one ↦ rw one.0 refl

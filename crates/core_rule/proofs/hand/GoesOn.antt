@@ -12,7 +12,7 @@ use Rattle.core_machine.specs.declared.place.Making.TheVariants.{Gathering}
 use Rattle.core_machine.specs.declared.place.Place.TheVariants as places
 use Rattle.core_machine.specs.table.Fragments.{tally}
 use Rattle.core_machine.specs.seat.Making.{fragments_gathered, gather_next, last_claimed, refusal_place, settled_place}
-use Rattle.core_machine.specs.seat.Commands.{MakesObject, IsArray}
+use Rattle.core_machine.specs.seat.Commands.{MakesObject, IsArrayCall}
 use Rattle.core_machine.specs.seat.Seat.{Seat, need, spine_need}
 use Rattle.core_machine.proofs.seat_lemmas.Fitting.{goes_on_cases, returning_cases, settled_cases}
 use Rattle.core_rule.specs.Budgets.{granted_at, placed_at, refused_at, UsedStands}
@@ -88,7 +88,7 @@ pub record IsUnplaced (words : ℕ) (seat : Seat) : Type 0 where
   pub none_used : (heap : Heap) (history : List Entry) (number : ℕ) → UsedStands heap history number seat seat.place
 
 -- a record has no spine words
-record_no_words : (command : Command) → MakesObject command → (IsArray command → ⊥) → spine_need_of command ≡ 0
+record_no_words : (command : Command) → MakesObject command → (IsArrayCall command → ⊥) → spine_need_of command ≡ 0
 record_no_words (commands.New d fields) made other = refl
 record_no_words (commands.Array d cells) made other = absurd (other tt)
 record_no_words _ made other = absurd made

@@ -9,8 +9,8 @@ use Rattle.heap_model.specs.Needs.{spine_need_of}
 use Rattle.heap_model.specs.account.PhaseCounts.{phase}
 use Rattle.core_machine.specs.declared.place.Making.{Making}
 use Rattle.core_machine.specs.declared.place.Place.TheVariants as places
-use Rattle.core_machine.specs.seat.Commands.{MakesObject, IsArray}
-use Rattle.core_machine.specs.seat.Fits.{Fits, HasBody, IsListed}
+use Rattle.core_machine.specs.seat.Commands.{MakesObject, IsArrayCall}
+use Rattle.core_machine.specs.seat.Fits.{Fits, HasBody, SpineIsListed}
 use Rattle.core_machine.specs.machine.Machine.{State, seat_at}
 use Rattle.core_machine.specs.seat.Making.{last_group_of, first_group_of, newborn_word}
 use Rattle.core_machine.specs.Moves.{bears_black_of}
@@ -62,14 +62,14 @@ newborn_fresh (commands.Array d cells) made name spine fragments k part = refl
 newborn_fresh _ made name spine fragments k part = absurd made
 
 -- once the words of its spine are stored, they are all that it needs
-pub listed_within : (command : Command) (spine : Spot) (listed j : ℕ) → MakesObject command → IsListed command spine listed → j < spine_need_of command → (IsArray command) × (j < listed)
+pub listed_within : (command : Command) (spine : Spot) (listed j : ℕ) → MakesObject command → SpineIsListed command spine listed → j < spine_need_of command → (IsArrayCall command) × (j < listed)
 listed_within (commands.New d fields) spine listed j made all within = absurd (omega (arith, within))
 listed_within (commands.Array d cells) spine listed j made all within = (tt, omega (arith, all, within))
 listed_within _ spine listed j made all within = absurd made
 
 -- where the object's words are to be stored or its fragments to be born, each word of its spine names a payload fragment
 pub spine_listed : (heap : Heap) (words : List ℕ) (spine_owner : ℕ → ℕ → SpineOwner) (number : ℕ) (seat : Seat) → SpineInHand heap words spine_owner number seat
-    → (IsArray seat.command → HasPlace seat seat.place) → MakesObject seat.command → IsListed seat.command seat.spine seat.listed
+    → (IsArrayCall seat.command → HasPlace seat seat.place) → MakesObject seat.command → SpineIsListed seat.command seat.spine seat.listed
     → (j : ℕ) → j < spine_need seat → at heap words (spine_place seat.spine j) ≡ spine_word (fragment_at seat.body (j + 1))
 spine_listed heap words spine_owner number seat hand placed made all j within =
     let there = listed_within seat.command seat.spine seat.listed j made all within in

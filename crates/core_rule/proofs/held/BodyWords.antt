@@ -5,8 +5,8 @@ use Rattle.core_machine.specs.declared.place.Making.TheVariants.{Granting, Withd
 use Rattle.core_machine.specs.declared.place.Place.{Place}
 use Rattle.core_machine.specs.declared.place.Place.TheVariants as places
 use Rattle.core_machine.specs.machine.Machine.{State, seat_at}
-use Rattle.core_machine.specs.seat.Commands.{IsArray}
-use Rattle.core_machine.specs.seat.Fits.{FitsPlace, HasBody, IsListed}
+use Rattle.core_machine.specs.seat.Commands.{IsArrayCall}
+use Rattle.core_machine.specs.seat.Fits.{FitsPlace, HasBody, SpineIsListed}
 use Rattle.core_machine.specs.seat.Making.{newborn_word_of}
 use Rattle.core_machine.specs.seat.Seat.{Seat}
 use Rattle.core_machine.specs.table.Fragments.{tally}
@@ -72,7 +72,7 @@ module _ (heap : Heap) (state : State) (book : Book) (rule : Rule heap state boo
 
   -- and has stored each word of the object and of its spine
   pub bearing : (place : Place) → FitsPlace heap seat place
-      → HasBody seat × (seat.stored ≡ 4 * length seat.body) × IsListed seat.command seat.spine seat.listed × (IsArray seat.command → HasPlace seat place)
+      → HasBody seat × (seat.stored ≡ 4 * length seat.body) × SpineIsListed seat.command seat.spine seat.listed × (IsArrayCall seat.command → HasPlace seat place)
   bearing place fits =
       let birth = birth_place place fits in
       let there = subst (FitsPlace heap seat) birth fits in

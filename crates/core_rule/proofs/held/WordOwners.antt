@@ -15,7 +15,7 @@ use Rattle.heap_model.specs.graph.Sizes.{spine_words_of}
 use Rattle.core_machine.specs.declared.collector.stage.SpineCopy.{SpineCopy}
 use Rattle.core_machine.specs.declared.table.address.Address.TheVariants.{Word}
 use Rattle.core_machine.specs.machine.Machine.{State, seat_at}
-use Rattle.core_machine.specs.seat.Commands.{IsArray, MakesObject}
+use Rattle.core_machine.specs.seat.Commands.{IsArrayCall, MakesObject}
 use Rattle.core_machine.specs.seat.Making.{newborn_word, newborn_word_of, next_name}
 use Rattle.core_machine.specs.seat.Seat.{Seat, spine_need}
 use Rattle.core_machine.specs.table.Decode.{spine_words_in}
@@ -25,10 +25,9 @@ use Rattle.core_rule.specs.Book.{Book, fragment_at}
 use Rattle.core_rule.specs.HeldWords.{IsAmong, IsInHandOf, IsLoadedBy, IsInCopy, IsOfHeld, IsHeldWord}
 use Rattle.core_rule.specs.Objects.{IsKept, node_at}
 use Rattle.core_rule.specs.Owners.{Owner, Free, Taken, Borne, Kept, Dead, SpineOwner, Open, Placed, Spined, Gone, born_bit}
-use Rattle.core_rule.specs.Replicas.{AddressStands}
+use Rattle.core_rule.specs.Replicas.{ReadsSpine}
 use Rattle.core_rule.specs.Rule.{Rule}
 use Rattle.core_rule.specs.Spines.{IsWordOf, HasPlace}
-use Rattle.core_rule.specs.Ways.{Locates, WayStands}
 use Rattle.core_rule.proofs.colours.NoSpines.{newborn_no_spine}
 use Rattle.core_rule.proofs.entries.AtRest.{seat_fits}
 use Rattle.core_rule.proofs.held.Alive.{IsAlive}
@@ -42,6 +41,7 @@ use Rattle.core_rule.proofs.owners.Seated.{borne_by_seat}
 use Rattle.core_rule.proofs.spines.DeadWords.{none_behind}
 use Rattle.core_rule.proofs.ways.ArrayWords.{words_in-meta, spot_in-word}
 use Rattle.core_rule.proofs.ways.KeptWords.{spine_found, record_no_words}
+use Rattle.core_rule.proofs.ways.LoadedPlaces.{loaded_there, loaded_way, called_head}
 
 -- what is so of a spine's word is so of the word that is meant
 word_of : (spine_owner : ℕ → ℕ → SpineOwner) (spine : Spot) (half offset k : ℕ) (o : SpineOwner) → IsWordOf spine half offset k → spine_owner spine.half (spine.offset + k) ≡ o → spine_owner half offset ≡ o
@@ -50,6 +50,13 @@ word_of spine_owner spine half offset k o is has = ap (λ h. spine_owner h offse
 -- the words behind an array's first fragment are 0
 behind_zero : (name : Name) (cells : ℕ) (spine : Spot) (k part : ℕ) → array_word_of name cells spine (suc k) part ≡ 0
 behind_zero name cells spine k part = let later : eqb (suc k) 0 ≡ false = grind arith in rw later refl
+
+-- what has spine words is an array
+has_spine : (object : Node) (k : ℕ) → k < spine_words_of object → object.array ≡ true
+has_spine object k within = by object.array refl where
+  by : (b : Bool) → object.array ≡ b → object.array ≡ true
+  by true is = is
+  by false is = absurd (omega (arith, record_no_words object is, within))
 
 -- a word among those of one spine is among those of another that is the same
 among_same : (spine other : Spot) (words more half offset : ℕ) → spine ≡ other → words ≡ more → IsAmong spine words half offset → IsAmong other more half offset
@@ -115,10 +122,10 @@ module _ (heap : Heap) (state : State) (book : Book) (rule : Rule heap state boo
     here : number < heap.seats
     here = (borne_by_seat heap state book rule number f bears).0
 
-    in_hand : IsAmong seat.spine (spine_need seat) half offset → (IsArray seat.command → HasPlace seat seat.place) → IsArray seat.command → IsInHandOf state number half offset
+    in_hand : IsAmong seat.spine (spine_need seat) half offset → (IsArrayCall seat.command → HasPlace seat seat.place) → IsArrayCall seat.command → IsInHandOf state number half offset
     in_hand among placed an_array = record { has = placed an_array; among = among }
 
-    by_command : (command : Command) → seat.command ≡ command → MakesObject command → IsCommand command → (IsArray command → HasPlace seat seat.place) → k < length seat.body
+    by_command : (command : Command) → seat.command ≡ command → MakesObject command → IsCommand command → (IsArrayCall command → HasPlace seat seat.place) → k < length seat.body
         → ((part : ℕ) → part < 4 → at heap state.words (Word f part) ≡ newborn_word command (next_name number seat) seat.spine seat.body k part) → IsInHandOf state number half offset
     by_command (commands.New d fields) is made range placed within stored =
         let small : (i : ℕ) → i < length seat.body → get_or seat.body i 0 < 2 ^ 30 = λ i less.
@@ -169,19 +176,20 @@ module _ (heap : Heap) (state : State) (book : Book) (rule : Rule heap state boo
       by f Free is alive born among = absurd (subst IsAlive is alive)
       by f (Dead i k) is alive born among = absurd (subst IsAlive is alive)
 
-  -- a word that a call is about to load is the array's, or one that the array has left
+  -- a word of a spine whose place a call has loaded is the array's, or one that the array has left
   pub loaded_word : (number : ℕ) → number < heap.seats → IsLoadedBy heap state number half offset → IsSpined ⊎ (the_owner ≡ Gone)
   loaded_word number here loads =
       let seat : Seat = seat_at state number in
       let stands = rule.seats_stand number here in
-      let locates : Locates nodes book.made book.owner book.fragments seat = subst (WayStands nodes book.made book.owner book.fragments seat) loads.reads stands.names.way in
-      let address = subst (AddressStands heap state.words nodes book.owner book.fragments book.spines book.spine_owner seat) loads.reads stands.names.address in
-      let i : ℕ = locates.index in
-      let owned : book.owner seat.reached ≡ Kept i 0 = ap book.owner locates.way.here ∙ locates.way.kept in
-      let many : spine_words_in (at heap state.words (Word seat.reached 0)) ≡ spine_words_of (nodes i) = (kept_tells heap state book rule seat.reached i 0 owned).1.told in
+      let on = loaded_way nodes book.made book.owner book.fragments seat seat.place loads.loaded stands.names.way in
+      let reads : ReadsSpine heap state.words nodes book.owner book.fragments book.spines book.spine_owner seat = loaded_there seat.place loads.loaded stands.names.address in
+      let i : ℕ = on.index in
+      let f : ℕ = loads.sentinel in
+      let owned : book.owner f ≡ Kept i 0 = ap book.owner (called_head book.made book.owner book.fragments seat i on.row f on.way loads.calls) ∙ on.way.kept in
+      let many : spine_words_in (at heap state.words (Word f 0)) ≡ spine_words_of (nodes i) = (kept_tells heap state book rule f i 0 owned).1.told in
       let among : IsAmong seat.address (spine_words_of (nodes i)) half offset = subst (λ n. IsAmong seat.address n half offset) many loads.among in
-      let back = rule.heap_stands.objects.back seat.reached i 0 owned in
-      elim (address i owned) [
+      let back = rule.heap_stands.objects.back f i 0 owned in
+      elim (reads i f loads.calls owned (has_spine (nodes i) among.index among.within)) [
         | inl own ↦ inl (spined i back.0 back.1 (subst (λ s. IsAmong s (spine_words_of (nodes i)) half offset) own among))
         | inr left ↦ inr (word_of book.spine_owner seat.address half offset among.index Gone among.is (left.left among.index among.within))
       ]

@@ -19,7 +19,7 @@ use Rattle.core_machine.specs.declared.seat.looks.Looks.{Looks}
 use Rattle.core_machine.specs.seat.Looks.{first_of, looked, seen_phase, compared, found_behind}
 use Rattle.core_machine.specs.table.Layout.{at}
 use Rattle.core_rule.specs.Book.{Book}
-use Rattle.core_rule.specs.Looks.{WasSeen, WasFound, IsOther, Compares, LooksStand}
+use Rattle.core_rule.specs.Looks.{WasSeen, WasFound, IsOther, HasCompared, LooksStand}
 use Rattle.core_rule.specs.Rule.{Rule}
 use Rattle.core_rule.proofs.looks.Words.{word_below}
 
@@ -89,7 +89,7 @@ module _ (heap : Heap) (state : State) (book : Book) (rule : Rule heap state boo
       word : ℕ
       word = at heap state.words (Answer other)
 
-      asks : Compares heap history number other p
+      asks : HasCompared heap history number other p
       asks = stands.asks
 
       behind : word < p → WasFound heap history number (record { seat = other; answered = word; phase = p })

@@ -16,7 +16,7 @@ use Rattle.core_machine.specs.declared.place.Place.TheVariants as places
 use Rattle.core_machine.specs.declared.seat.looks.Looks.{Looks}
 use Rattle.core_machine.specs.declared.seat.looks.FoundBehind.{FoundBehind}
 use Rattle.core_machine.specs.seat.Looks.{forgotten}
-use Rattle.core_rule.specs.Looks.{WasSeen, WasFound, Compares, CollectingStands, WhileCollecting, LooksStand}
+use Rattle.core_rule.specs.Looks.{WasSeen, WasFound, HasCompared, CollectingStands, WhileCollecting, LooksStand}
 use Rattle.core_rule.proofs.entries.PhaseEntries.{answers_grow, was_present}
 use Rattle.core_rule.proofs.footprint.WeightGrowth.{total-added}
 use Rattle.core_rule.proofs.lists.Options.{if_some}
@@ -69,7 +69,7 @@ module _ (heap : Heap) (number : ℕ) (before added : List Entry) (none : NoneOf
   found_on : (found : FoundBehind) → WasFound heap before number found → WasFound heap now number found
   found_on found was = record { below = was.below; other = was.other; next = was.next; behind = behind_on found.seat found.answered found.phase was.behind }
 
-  compares_on : (other p : ℕ) → Compares heap before number other p → Compares heap now number other p
+  compares_on : (other p : ℕ) → HasCompared heap before number other p → HasCompared heap now number other p
   compares_on other p was = record {
     asked = was.asked;
     begun = omega (arith, was.begun, phase_grows before added);

@@ -13,7 +13,7 @@ use Rattle.core_machine.specs.declared.place.Place.TheVariants as places
 use Rattle.core_machine.specs.declared.seat.register.Register.{Register}
 use Rattle.core_machine.specs.declared.seat.register.Register.TheVariants as registers
 use Rattle.core_machine.specs.seat.Access.{access_start}
-use Rattle.core_machine.specs.seat.Commands.{IsRecord, IsServed}
+use Rattle.core_machine.specs.seat.Commands.{IsRecordCall, IsServed}
 use Rattle.core_machine.specs.seat.Fits.{IsLocal}
 use Rattle.core_machine.specs.seat.Local.{local_registers}
 use Rattle.core_machine.specs.seat.Registers.{register_in, register_head}
@@ -65,7 +65,7 @@ module _ (P : ℕ → Type 0) where
   start_roots seat (registers.Number n) heads first = record { registers = heads; call = tt }
   start_roots seat (registers.Object head id) heads first = record { registers = heads; call = first }
 
-  pub begin_roots : (heap : Heap) (seat : Seat) (command : Command) → (IsRecord command → ⊥) → IsServed command → OfHeads P seat.registers → OfRoots P (call_start heap seat command)
+  pub begin_roots : (heap : Heap) (seat : Seat) (command : Command) → (IsRecordCall command → ⊥) → IsServed command → OfHeads P seat.registers → OfRoots P (call_start heap seat command)
   begin_roots heap seat (commands.Get d r i) other served heads = start_roots seat (register_in seat.registers r) heads (heads r)
   begin_roots heap seat (commands.Set r i v) other served heads = start_roots seat (register_in seat.registers r) heads (heads r)
   begin_roots heap seat (commands.Len r) other served heads = start_roots seat (register_in seat.registers r) heads (heads r)

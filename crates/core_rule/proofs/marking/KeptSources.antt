@@ -15,7 +15,7 @@ use Rattle.core_rule.specs.Objects.{IsKept, node_at}
 use Rattle.core_rule.specs.Owners.{Kept}
 use Rattle.core_rule.specs.Rule.{Rule}
 use Rattle.core_rule.proofs.colours.LeadsFrames.{SameSources}
-use Rattle.core_rule.proofs.colours.SourceCases.{HasNoSpine}
+use Rattle.core_rule.proofs.colours.SourceCases.{TellsNoSpine}
 use Rattle.core_rule.proofs.marking.ObjectEdges.{kept_no_spine}
 use Rattle.core_rule.proofs.objects.SpinePlaces.{spine_placed}
 use Rattle.core_rule.proofs.ways.KeptWords.{kept_within, words_found, spine_found}
@@ -49,7 +49,7 @@ module _ (heap : Heap) (state : State) (book : Book) (rule : Rule heap state boo
 
   -- no other has a spine
   none_there : (j : ℕ) → (object.array ≡ true → 1 ≤ k) → j < spine_words_in (at heap state.words (Word f 0)) → WordSame j
-  none_there j behind within = let none : HasNoSpine heap state.words f = kept_no_spine heap state book rule f i k kept behind in absurd (omega (arith, within, none))
+  none_there j behind within = let none : TellsNoSpine heap state.words f = kept_no_spine heap state book rule f i k kept behind in absurd (omega (arith, within, none))
 
   pub kept_sources : SameSources heap state.words now f
   kept_sources = record {

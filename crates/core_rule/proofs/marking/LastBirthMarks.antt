@@ -9,7 +9,7 @@ use Rattle.core_machine.specs.seat.Commands.{target_of}
 use Rattle.core_machine.specs.seat.Making.{last_group_of, next_object_id}
 use Rattle.core_machine.specs.seat.Registers.{register_in, register_head}
 use Rattle.core_machine.specs.seat.Seat.{Seat}
-use Rattle.core_machine.specs.seat.Fits.{HasBody, IsListed}
+use Rattle.core_machine.specs.seat.Fits.{HasBody, SpineIsListed}
 use Rattle.core_machine.specs.table.Fragments.{tally, part_in}
 use Rattle.core_rule.specs.Book.{Book, Black, fragment_at}
 use Rattle.core_rule.specs.Colours.{IsMarked}
@@ -58,7 +58,7 @@ module _ (heap : Heap) (state : State) (book : Book) (number : ℕ) (rule : Rule
   abbrev words : List ℕ
   words = words_born heap state book number rule here place
 
-  at_place : HasBody seat × (0 < length seat.hand) × (length seat.hand ≤ length seat.body) × (seat.stored ≡ 4 * length seat.body) × IsListed seat.command seat.spine seat.listed
+  at_place : HasBody seat × (0 < length seat.hand) × (length seat.hand ≤ length seat.body) × (seat.stored ≡ 4 * length seat.body) × SpineIsListed seat.command seat.spine seat.listed
   at_place = rw place at (seat_fits rule number here).at_place
 
   own : (f : ℕ) → 1 ≤ tally f seat.body → IsOwn number (book.owner f)

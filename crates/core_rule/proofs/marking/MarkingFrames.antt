@@ -9,7 +9,7 @@ use Rattle.core_rule.specs.Book.{Colour, White, Grey, Black, fragment_at}
 use Rattle.core_rule.specs.Colours.{IsMarked, WordPointsTo}
 use Rattle.core_rule.specs.Flight.{DeletionBarrier}
 use Rattle.core_rule.specs.Marking.{IsPart, MayMark, IsSeen, IsSeenWhole, IsSpineOf, ComesAfter, ScanStands, PassStands, AfterMarking, MarkingStands}
-use Rattle.core_rule.specs.Sources.{HasNoSpine}
+use Rattle.core_rule.specs.Sources.{TellsNoSpine}
 use Rattle.core_rule.specs.Sweep.{IsSettled, AreFreed, AreDead, AreCleared, SweepStands}
 use Rattle.core_rule.specs.Owners.{Owner, Kept, Dead, born_bit, dead_bit}
 use Rattle.core_rule.specs.Paths.{IsWhite, Edge, IsReached}
@@ -128,7 +128,7 @@ module _ (heap : Heap) (words now : List ℕ) (owner later : ℕ → Owner) (col
       | inr past ↦ inr (past.0, past.1, (past.2.0, (leaves.kept f past.2.0 0 past.2.1).0))
     ]
 
-    none_on : (f : ℕ) → colour f ≡ Grey → HasNoSpine heap words f → HasNoSpine heap now f
+    none_on : (f : ℕ) → colour f ≡ Grey → TellsNoSpine heap words f → TellsNoSpine heap now f
     none_on f grey none = (leaves.spine is_marking f (grey_born f grey)).as_many ∙ none
 
     spine_on : (s : SpineScan) → colour s.scan.fragment ≡ Grey → s.index < s.words → IsSpineOf heap words s → IsSpineOf heap now s

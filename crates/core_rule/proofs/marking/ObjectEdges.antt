@@ -23,7 +23,7 @@ use Rattle.core_rule.specs.Rule.{Rule}
 use Rattle.core_rule.specs.Sources.{spine_pointer}
 use Rattle.core_rule.proofs.colours.NewbornLeads.{IsNext, newborn_leads, zero_leads}
 use Rattle.core_rule.proofs.colours.NoSpines.{newborn_no_spine, value_no_spine}
-use Rattle.core_rule.proofs.colours.SourceCases.{HasNoSpine, lead_cases, no_spine_leads, spine_cases}
+use Rattle.core_rule.proofs.colours.SourceCases.{TellsNoSpine, lead_cases, no_spine_leads, spine_cases}
 use Rattle.std.proofs.lemmas.Bool.Decides.{nat_tests}
 use Rattle.core_rule.proofs.objects.ObjectWords.{word_cases}
 use Rattle.core_rule.proofs.objects.SpinePlaces.{spine_placed}
@@ -109,7 +109,7 @@ module _ (heap : Heap) (words : List ℕ) (g : Graph) (made : List Id) (owner : 
       subst P (sym (the_object.stored k part within first)) (word_cases head (name_of (id_at made i)) (spines i) (fragments i) P object k part field frame sentinel cell)
 
   -- no fragment has a spine but an array's first one, since it begins with a record's meta, a link or a cell
-  pub object_no_spine : (k : ℕ) → k < length (fragments i) → (object.array ≡ true → 1 ≤ k) → HasNoSpine heap words (fragment_at (fragments i) k)
+  pub object_no_spine : (k : ℕ) → k < length (fragments i) → (object.array ≡ true → 1 ≤ k) → TellsNoSpine heap words (fragment_at (fragments i) k)
   object_no_spine k within behind = found_cases (λ w. spine_words_in w ≡ 0) k 0 within (omega arith)
       (λ kind is. let later = cell_part k 0 is in absurd (omega (arith, later)))
       (λ kind is. newborn_no_spine (fragments i) small (name_of (id_at made i)) (length object.cells) k (omega (arith, few)))
@@ -164,8 +164,8 @@ module _ (heap : Heap) (state : State) (book : Book) (rule : Rule heap state boo
   its_object = node_at (graph_of heap book.history) book.made i
 
   -- by the rule, no fragment of a kept object has a spine but an array's first one
-  pub kept_no_spine : ((node_at (graph_of heap book.history) book.made i).array ≡ true → 1 ≤ k) → HasNoSpine heap state.words f
-  kept_no_spine behind = subst (HasNoSpine heap state.words) (sym there.3)
+  pub kept_no_spine : ((node_at (graph_of heap book.history) book.made i).array ≡ true → 1 ≤ k) → TellsNoSpine heap state.words f
+  kept_no_spine behind = subst (TellsNoSpine heap state.words) (sym there.3)
       (object_no_spine heap state.words (graph_of heap book.history) book.made book.owner book.fragments rule.machine.limits rule.heap_stands.control_words rule.heap_stands.ids
       rule.heap_stands.objects i there.0 there.1 k there.2 behind)
 

@@ -33,7 +33,7 @@ use Rattle.core_rule.specs.Owners.{Owner, Kept}
 use Rattle.core_rule.specs.Rule.{Rule}
 use Rattle.core_rule.specs.Sources.{source_pointer}
 use Rattle.core_rule.proofs.colours.NewbornLeads.{link_word_at}
-use Rattle.core_rule.proofs.colours.SourceCases.{HasNoSpine, word_alone, lead_cases, lead_of_word, spine_source, spine_to, spine_cases}
+use Rattle.core_rule.proofs.colours.SourceCases.{TellsNoSpine, word_alone, lead_cases, lead_of_word, spine_source, spine_to, spine_cases}
 use Rattle.core_rule.proofs.marking.MarkingStages.{OfMarking}
 use Rattle.core_rule.proofs.marking.ObjectEdges.{name_small, small, found_cases, cell_no_meta, kept_leads, part_owned}
 use Rattle.core_rule.proofs.objects.ObjectWords.{name_at}
@@ -51,14 +51,14 @@ scan_cases P scan part before behind = elim (leb_tells (suc part) 4) as (λ _. P
 ]
 
 -- a fragment without a spine is seen whole behind its four words
-seen_whole : (heap : Heap) (words : List ℕ) (colour : ℕ → Colour) (f part : ℕ) → HasNoSpine heap words f → 4 ≤ part → IsSeen heap words colour f part → IsSeenWhole heap words colour f
+seen_whole : (heap : Heap) (words : List ℕ) (colour : ℕ → Colour) (f part : ℕ) → TellsNoSpine heap words f → 4 ≤ part → IsSeen heap words colour f part → IsSeenWhole heap words colour f
 seen_whole heap words colour f part none behind seen = record {
   grey = seen.grey;
   seen = λ source g leads. seen.seen source g (omega (arith, behind, word_alone heap words f none source g leads)) leads;
 }
 
 -- so what it has seen is right, of a pass nothing is asked, and marking hasn't ended
-pub scan_stands : (heap : Heap) (words : List ℕ) (owner : ℕ → Owner) (colour : ℕ → Colour) (fragments : ℕ → List ℕ) (scan : Scan) (part : ℕ) → HasNoSpine heap words scan.fragment
+pub scan_stands : (heap : Heap) (words : List ℕ) (owner : ℕ → Owner) (colour : ℕ → Colour) (fragments : ℕ → List ℕ) (scan : Scan) (part : ℕ) → TellsNoSpine heap words scan.fragment
     → IsSeen heap words colour scan.fragment part → ScanStands heap words owner colour fragments (scan_at scan part)
 scan_stands heap words owner colour fragments scan part none seen = scan_cases (ScanStands heap words owner colour fragments) scan part (seen, λ later. none)
     (λ behind. seen_whole heap words colour scan.fragment part none behind seen)

@@ -16,7 +16,7 @@ use Rattle.core_rule.specs.Colours.{IsMarked, WordPointsTo}
 use Rattle.core_rule.specs.Objects.{Objects, KeptObject, NamesKept, IsKept, node_at, value_word}
 use Rattle.core_rule.specs.Owners.{Owner}
 use Rattle.core_rule.specs.Rule.{Rule}
-use Rattle.core_rule.specs.Ways.{row_in, part_in}
+use Rattle.core_rule.specs.Ways.{row_in, field_part}
 use Rattle.core_rule.proofs.colours.SourceCases.{word_leads}
 use Rattle.core_rule.proofs.lists.Options.{each_some}
 use Rattle.core_rule.proofs.marking.Ended.{leads_marked, first_marked, whole_marked}
@@ -56,18 +56,18 @@ module _ (heap : Heap) (state : State) (book : Book) (rule : Rule heap state boo
   module _ (i : ℕ) (below : i < length book.made) (kept : IsKept book.owner book.fragments i) where
     -- a field that refers to an object leads to its first fragment
     field_leads : (j : ℕ) (cell : Cell) (f : ℕ) → slice_get (cells i) j ≡ Some cell → named_head head cell.value ≡ Some f
-        → WordPointsTo heap state.words (fragment_at (book.fragments i) (row_in (object i) j)) (part_in (object i) j) f
+        → WordPointsTo heap state.words (fragment_at (book.fragments i) (row_in (object i) j)) (field_part (object i) j) f
     field_leads j cell f there names =
         let stands = rule.heap_stands in
         let named = stands.objects.named i j below kept cell there in
         let within = slice_get_within (cells i) j cell there in
         let room = has_room heap state.words (graph_of heap book.history) book.made book.owner book.fragments rule.machine.limits stands.control_words cell.value named.0 in
         let row = row_there heap state.words (graph_of heap book.history) book.made book.owner book.fragments rule.machine.limits stands.control_words stands.ids stands.objects i below kept j within in
-        word_leads heap state.words (fragment_at (book.fragments i) (row_in (object i) j)) (part_in (object i) j) f
+        word_leads heap state.words (fragment_at (book.fragments i) (row_in (object i) j)) (field_part (object i) j) f
         (kept_within heap state.words book.owner (fragment_at (book.fragments i) (row_in (object i) j)) i (row_in (object i) j) stands.control_words ((stands.objects.kept i below kept).owned (row_in (object i) j) row))
         (part_fits (object i) j)
-        (ap (pointer_in (part_in (object i) j)) (field_found heap state.words (graph_of heap book.history) book.made book.owner book.fragments rule.machine.limits stands.control_words stands.ids stands.objects i below kept j cell there)
-        ∙ plain_lead (part_in (object i) j) (value_word head cell.value cell.stamp) (value_plain head cell.value cell.stamp room named.1)
+        (ap (pointer_in (field_part (object i) j)) (field_found heap state.words (graph_of heap book.history) book.made book.owner book.fragments rule.machine.limits stands.control_words stands.ids stands.objects i below kept j cell there)
+        ∙ plain_lead (field_part (object i) j) (value_word head cell.value cell.stamp) (value_plain head cell.value cell.stamp room named.1)
         ∙ head_in-value head cell.value cell.stamp room named.1
         ∙ names)
 
@@ -79,7 +79,7 @@ module _ (heap : Heap) (state : State) (book : Book) (rule : Rule heap state boo
         let row = row_there heap state.words (graph_of heap book.history) book.made book.owner book.fragments rule.machine.limits stands.control_words stands.ids stands.objects i below kept j within in
         names_settled book.made book.owner book.colour book.fragments cell.value (stands.objects.named i j below kept cell there).0
         (each_some (IsMarked book.colour) (named_head head cell.value)
-        (λ f names. leads_marked heap state book rule third none (fragment_at (book.fragments i) (row_in (object i) j)) (part_in (object i) j) f
+        (λ f names. leads_marked heap state book rule third none (fragment_at (book.fragments i) (row_in (object i) j)) (field_part (object i) j) f
         (whole_marked heap state book rule third none i (row_in (object i) j) below kept marked row) (field_leads j cell f there names)))
 
     -- and a marked object is whole

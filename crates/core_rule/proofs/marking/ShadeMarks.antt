@@ -12,7 +12,7 @@ use Rattle.core_rule.specs.Colours.{IsMarked, WordPointsTo}
 use Rattle.core_rule.specs.Marking.{IsPart, MayMark, IsSeen, IsSeenWhole, IsSpineOf, ScanStands, PassStands, AfterMarking, MarkingStands}
 use Rattle.core_rule.specs.Sweep.{SweepStands}
 use Rattle.core_rule.specs.Owners.{Owner, Kept, Dead, born_bit}
-use Rattle.core_rule.specs.Sources.{HasNoSpine}
+use Rattle.core_rule.specs.Sources.{TellsNoSpine}
 use Rattle.core_rule.specs.Paths.{Guarded, from_grey, from_white, IsReached}
 use Rattle.core_rule.proofs.colours.LeadsFrames.{SameSources, leads_same, same_leads, still_no_spine}
 use Rattle.core_rule.proofs.colours.ShadeColours.{with_mark, mark_away, mark_keeps}
@@ -45,7 +45,7 @@ module _ (heap : Heap) (words now : List ℕ) (owner : ℕ → Owner) (colour : 
     seen = λ source g leads. mark_keeps colour m g (seen.seen source g (back f source g leads));
   }
 
-  none_on : (f : ℕ) → HasNoSpine heap words f → HasNoSpine heap now f
+  none_on : (f : ℕ) → TellsNoSpine heap words f → TellsNoSpine heap now f
   none_on f none = still_no_spine heap words now f (same f) none
 
   pub spine_on : (s : SpineScan) → IsSpineOf heap words s → IsSpineOf heap now s

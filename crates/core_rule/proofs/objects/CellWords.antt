@@ -26,7 +26,7 @@ use Rattle.core_rule.specs.Book.{object_head}
 use Rattle.core_rule.specs.Objects.{NamesKept, value_word, field_word, is_cell, record_object_word, array_object_word, object_word}
 use Rattle.core_rule.specs.Owners.{Owner}
 use Rattle.core_rule.specs.Registers.{HoldsValue}
-use Rattle.core_rule.specs.Ways.{row_in, part_in}
+use Rattle.core_rule.specs.Ways.{row_in, field_part}
 use Rattle.core_rule.proofs.graph.SameNodes.{node_cases}
 use Rattle.core_rule.proofs.objects.ObjectWords.{word_of_cell}
 use Rattle.core_rule.proofs.graph.CellSet.{slice_get-set_same, slice_get-set_other}
@@ -90,13 +90,13 @@ module _ (head : Id → ℕ) (name : Name) (spine : Spot) (fragments : List ℕ)
         rw e.0 (ap (field_word head) (slice_get-set_other cells i (4 * (k - 1) + part) cell (λ same. apart (omega (arith, some, same, within)) (omega (arith, some, same, within)))))
   ]
 
-  pub word_stays : (object : Node) (k part : ℕ) → part < 4 → (k ≡ row_in object i → part ≡ part_in object i → ⊥)
+  pub word_stays : (object : Node) (k part : ℕ) → part < 4 → (k ≡ row_in object i → part ≡ field_part object i → ⊥)
       → object_word head name (with_cell object i cell) spine fragments k part ≡ object_word head name object spine fragments k part
   word_stays object k part within =
-      node_cases (λ (o : Node). (k ≡ row_in o i → part ≡ part_in o i → ⊥) → object_word head name (with_cell o i cell) spine fragments k part ≡ object_word head name o spine fragments k part)
+      node_cases (λ (o : Node). (k ≡ row_in o i → part ≡ field_part o i → ⊥) → object_word head name (with_cell o i cell) spine fragments k part ≡ object_word head name o spine fragments k part)
       (λ cells apart. array_stays cells k part within apart) (λ cells apart. record_stays cells k part within apart) object
 
   -- the word of the cell that was set
   pub word_of_set : (object : Node) → i < length object.cells
-      → object_word head name (with_cell object i cell) spine fragments (row_in object i) (part_in object i) ≡ value_word head cell.value cell.stamp
+      → object_word head name (with_cell object i cell) spine fragments (row_in object i) (field_part object i) ≡ value_word head cell.value cell.stamp
   word_of_set object within = word_of_cell head name spine fragments (with_cell object i cell) i cell (slice_get-set_same object.cells i cell within)

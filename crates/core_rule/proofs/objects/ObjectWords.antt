@@ -12,7 +12,7 @@ use Rattle.heap_model.specs.graph.Graph.{Node}
 use Rattle.core_machine.specs.table.Newborn.{record_meta, link_after, record_word_of, array_meta, sentinel_word_of}
 use Rattle.core_machine.specs.seat.Access.{row_of, part_of}
 use Rattle.core_rule.specs.Objects.{value_word, field_word, is_cell, record_object_word, array_object_word, object_word}
-use Rattle.core_rule.specs.Ways.{row_in, part_in}
+use Rattle.core_rule.specs.Ways.{row_in, field_part}
 use Rattle.core_rule.proofs.graph.SameNodes.{node_cases}
 use Rattle.core_rule.proofs.ways.Rows.{field_back, cell_there, cell_back}
 
@@ -87,9 +87,9 @@ module _ (head : Id → ℕ) (name : Name) (spine : Spot) (fragments : List ℕ)
   array_cell cells i cell there = let later : eqb (i / 4 + 1) 0 ≡ false = grind arith in rw (later, cell_back i, there) refl
 
   pub word_of_cell : (object : Node) (i : ℕ) (cell : Cell) → slice_get object.cells i ≡ Some cell
-      → object_word head name object spine fragments (row_in object i) (part_in object i) ≡ value_word head cell.value cell.stamp
+      → object_word head name object spine fragments (row_in object i) (field_part object i) ≡ value_word head cell.value cell.stamp
   word_of_cell object i cell =
-      node_cases (λ (o : Node). slice_get o.cells i ≡ Some cell → object_word head name o spine fragments (row_in o i) (part_in o i) ≡ value_word head cell.value cell.stamp)
+      node_cases (λ (o : Node). slice_get o.cells i ≡ Some cell → object_word head name o spine fragments (row_in o i) (field_part o i) ≡ value_word head cell.value cell.stamp)
       (λ cells there. array_cell cells i cell there) (λ cells there. record_cell cells i cell there) object
 
 -- where each cell's word is the same by another head, so is each word of the object

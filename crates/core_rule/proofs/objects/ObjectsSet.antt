@@ -14,7 +14,7 @@ use Rattle.core_machine.specs.table.Layout.{at, put, table_length}
 use Rattle.core_rule.specs.Book.{fragment_at, id_at, object_head, object_number}
 use Rattle.core_rule.specs.Objects.{AreMade, IsKept, IsSized, NamesKept, KeptObject, Objects, node_in, node_at, cells_at, name_of, value_word, object_word}
 use Rattle.core_rule.specs.Owners.{Owner, Kept}
-use Rattle.core_rule.specs.Ways.{row_in, part_in}
+use Rattle.core_rule.specs.Ways.{row_in, field_part}
 use Rattle.core_rule.proofs.words.Addresses.{control_after_word, fragment_other, part_other, word_same, spines_after_word}
 use Rattle.core_rule.proofs.graph.CellSet.{Sets, slice_get-set_same, slice_get-set_other}
 use Rattle.core_rule.proofs.graph.SameNodes.{made_node, SameShape, shape_same, shape_words, shape_fragments}
@@ -77,7 +77,7 @@ module _ (heap : Heap) (words : List ℕ) (g now : Graph) (number : ℕ) (made :
   row = row_in object i
 
   abbrev part : ℕ
-  part = part_in object i
+  part = field_part object i
 
   abbrev target : ℕ
   target = fragment_at (fragments n) row

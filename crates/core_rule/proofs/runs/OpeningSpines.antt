@@ -16,7 +16,7 @@ use Rattle.core_machine.specs.seat.Seat.{Seat, no_spot}
 use Rattle.core_machine.specs.table.Layout.{at}
 use Rattle.core_machine.proofs.table_lemmas.Free.{sum_zero}
 use Rattle.core_rule.specs.Book.{Book, White}
-use Rattle.core_rule.specs.Budgets.{BudgetsStand, SweepCounts, of_seats, granted_at, placed_at, refused_at, kept_weight, dead_weight, kept_sum, dead_sum, words_of, words_in_half, nodes_in, returning, copying_words}
+use Rattle.core_rule.specs.Budgets.{BudgetsStand, SweepCounts, of_seats, granted_at, placed_at, refused_at, kept_weight, dead_weight, kept_sum, dead_sum, words_of_object, words_in_half, nodes_in, returning, copying_words}
 use Rattle.core_rule.specs.Halves.{HalvesStand, WhileCopying, half_at}
 use Rattle.core_rule.specs.Objects.{node_at}
 use Rattle.core_rule.specs.Owners.{SpineOwner, Open, Dead}
@@ -91,9 +91,9 @@ module _ (heap : Heap) (state : State) (seats : (number : ℕ) → number < heap
         let given = none_of_seats granted_at (λ number. refl) in
         let refused = none_of_seats refused_at (λ number. refl) in
         let placed = none_of_seats (placed_at (next_spine heap state.words).half) (λ number. refl) in
-        let kept = none_kept (words_of (nodes_in heap opening_book)) refl in
+        let kept = none_kept (words_of_object (nodes_in heap opening_book)) refl in
         let in_half = none_kept (words_in_half (next_spine heap state.words).half (nodes_in heap opening_book) opening_spines) (none_either ((opening_spines 0).half == (next_spine heap state.words).half)) in
-        let dead = none_dead (words_of (nodes_in heap opening_book)) in
+        let dead = none_dead (words_of_object (nodes_in heap opening_book)) in
         let copied : copying_words state.collector.stage ≡ 0 = ap (λ (c : Collector). copying_words c.stage) done in
         let returns : returning state.collector.stage ≡ 0 = ap (λ (c : Collector). returning c.stage) done in
         let first : (next_spine heap state.words).offset ≡ 0 = ap (λ (s : SpinePlace). s.offset) next in
@@ -105,7 +105,7 @@ module _ (heap : Heap) (state : State) (seats : (number : ℕ) → number < heap
           low = omega (arith, given, kept, dead, returns);
           returned = omega (arith, dead, returns);
           early = λ between. refl;
-          counts = subst (λ (c : Collector). SweepCounts (words_of (nodes_in heap opening_book)) opening_owner c.stage) (sym done) tt;
+          counts = subst (λ (c : Collector). SweepCounts (words_of_object (nodes_in heap opening_book)) opening_owner c.stage) (sym done) tt;
         }
 
     -- and no spine stands anywhere

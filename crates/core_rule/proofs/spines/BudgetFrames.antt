@@ -18,7 +18,7 @@ use Rattle.core_machine.specs.machine.Machine.{State, seat_at}
 use Rattle.core_machine.specs.seat.Seat.{Seat, absent_seat}
 use Rattle.core_machine.proofs.table_lemmas.Free.{sum_same, sum_but_one}
 use Rattle.core_rule.specs.Book.{Book, Colour}
-use Rattle.core_rule.specs.Budgets.{BudgetsStand, SweepCounts, of_seats, granted_at, placed_at, refused_at, kept_weight, dead_weight, kept_sum, dead_sum, words_of, words_in_half, nodes_in, returned_in_cycle}
+use Rattle.core_rule.specs.Budgets.{BudgetsStand, SweepCounts, of_seats, granted_at, placed_at, refused_at, kept_weight, dead_weight, kept_sum, dead_sum, words_of_object, words_in_half, nodes_in, returned_in_cycle}
 use Rattle.core_rule.specs.Owners.{Owner, Kept, Dead}
 use Rattle.core_rule.specs.Spines.{next_spine}
 use Rattle.core_rule.proofs.graph.SameNodes.{SameShape, shape_words, shape_same}
@@ -139,14 +139,14 @@ grants_on heap book middle now first second = record {
 
 module _ (heap : Heap) (book now : Book) (grants : SameGrants heap book now) where
   -- what is kept, what of it stands in a half, and what is to be freed has as many words
-  words_same : (i : ℕ) → words_of (nodes_in heap now) i ≡ words_of (nodes_in heap book) i
+  words_same : (i : ℕ) → words_of_object (nodes_in heap now) i ≡ words_of_object (nodes_in heap book) i
   words_same i = shape_words (nodes_in heap now i) (nodes_in heap book i) (grants.shapes i)
 
-  pub kept_same : kept_sum heap (words_of (nodes_in heap now)) now.owner ≡ kept_sum heap (words_of (nodes_in heap book)) book.owner
-  kept_same = kept_sum_stays (words_of (nodes_in heap book)) (words_of (nodes_in heap now)) words_same heap book.owner now.owner grants.kept
+  pub kept_same : kept_sum heap (words_of_object (nodes_in heap now)) now.owner ≡ kept_sum heap (words_of_object (nodes_in heap book)) book.owner
+  kept_same = kept_sum_stays (words_of_object (nodes_in heap book)) (words_of_object (nodes_in heap now)) words_same heap book.owner now.owner grants.kept
 
-  pub dead_same : dead_sum heap (words_of (nodes_in heap now)) now.owner ≡ dead_sum heap (words_of (nodes_in heap book)) book.owner
-  dead_same = dead_sum_stays (words_of (nodes_in heap book)) (words_of (nodes_in heap now)) words_same heap book.owner now.owner grants.dead
+  pub dead_same : dead_sum heap (words_of_object (nodes_in heap now)) now.owner ≡ dead_sum heap (words_of_object (nodes_in heap book)) book.owner
+  dead_same = dead_sum_stays (words_of_object (nodes_in heap book)) (words_of_object (nodes_in heap now)) words_same heap book.owner now.owner grants.dead
 
   pub here_same : (half : ℕ) → kept_sum heap (words_in_half half (nodes_in heap now) now.spines) now.owner ≡ kept_sum heap (words_in_half half (nodes_in heap book) book.spines) book.owner
   here_same half = kept_sum_stays (words_in_half half (nodes_in heap book) book.spines) (words_in_half half (nodes_in heap now) now.spines)
@@ -154,12 +154,12 @@ module _ (heap : Heap) (book now : Book) (grants : SameGrants heap book now) whe
       heap book.owner now.owner grants.kept
 
   -- and the sweep has counted what it counted
-  group_same : (group n : ℕ) → sum_upto n (λ j. dead_weight (words_of (nodes_in heap now)) (now.owner (16 * group + j))) ≡ sum_upto n (λ j. dead_weight (words_of (nodes_in heap book)) (book.owner (16 * group + j)))
-  group_same group n = sum_same n (λ j. dead_weight (words_of (nodes_in heap now)) (now.owner (16 * group + j))) (λ j. dead_weight (words_of (nodes_in heap book)) (book.owner (16 * group + j)))
-      (λ j below. dead_weight_stays (words_of (nodes_in heap book)) (words_of (nodes_in heap now)) words_same (book.owner (16 * group + j)) (now.owner (16 * group + j))
+  group_same : (group n : ℕ) → sum_upto n (λ j. dead_weight (words_of_object (nodes_in heap now)) (now.owner (16 * group + j))) ≡ sum_upto n (λ j. dead_weight (words_of_object (nodes_in heap book)) (book.owner (16 * group + j)))
+  group_same group n = sum_same n (λ j. dead_weight (words_of_object (nodes_in heap now)) (now.owner (16 * group + j))) (λ j. dead_weight (words_of_object (nodes_in heap book)) (book.owner (16 * group + j)))
+      (λ j below. dead_weight_stays (words_of_object (nodes_in heap book)) (words_of_object (nodes_in heap now)) words_same (book.owner (16 * group + j)) (now.owner (16 * group + j))
       (grants.dead.stays (16 * group + j)) (grants.dead.was (16 * group + j)))
 
-  pub counts_same : (stage : Stage) → SweepCounts (words_of (nodes_in heap book)) book.owner stage → SweepCounts (words_of (nodes_in heap now)) now.owner stage
+  pub counts_same : (stage : Stage) → SweepCounts (words_of_object (nodes_in heap book)) book.owner stage → SweepCounts (words_of_object (nodes_in heap now)) now.owner stage
   counts_same (stages.Examining group dead place counted) is = is ∙ sym (group_same group place)
   counts_same (stages.Freeing group dead counted) is = is ∙ sym (group_same group 16)
   counts_same _ is = tt

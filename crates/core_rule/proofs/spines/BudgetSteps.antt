@@ -1,5 +1,5 @@
 -- The budget at the steps that change it: spine words are asked for, taken back, get their place, and become an array's.
-use Rattle.std.proofs.Common.{◌≡◌, ℕ, ◌+◌, ◌-◌, ◌%◌, ◌^◌, ◌<◌, ◌≤◌, List, length, sym, ◌∙◌, subst, arith}
+use Rattle.std.proofs.Common.{◌≡◌, ℕ, ◌+◌, ◌-◌, ◌%◌, ◌^◌, ◌<◌, ◌≤◌, List, length, refl, sym, ◌∙◌, subst, arith}
 use Rattle.heap_model.specs.declared.entry.Entry.{Entry}
 use Rattle.heap_model.specs.declared.heap.Heap.{Heap}
 use Rattle.heap_model.specs.account.Space.{words_granted, words_returned}
@@ -10,7 +10,7 @@ use Rattle.core_machine.specs.machine.Value.{IsMachine}
 use Rattle.core_machine.specs.seat.Seat.{Seat}
 use Rattle.core_machine.specs.table.Layout.{at}
 use Rattle.core_rule.specs.Book.{Book}
-use Rattle.core_rule.specs.Budgets.{BudgetsStand, SweepCounts, of_seats, granted, granted_at, placed_at, refused_at, kept_sum, dead_sum, words_of, words_in_half, nodes_in, placed_words, unreturned, returned_in_cycle}
+use Rattle.core_rule.specs.Budgets.{BudgetsStand, SweepCounts, of_seats, granted, granted_at, placed_at, refused_at, kept_sum, dead_sum, words_of_object, words_in_half, nodes_in, placed_words, unreturned, returned_in_cycle}
 use Rattle.core_rule.specs.Owners.{SpineOwner}
 use Rattle.core_rule.specs.Spines.{next_spine}
 use Rattle.core_rule.proofs.spines.BudgetFrames.{stepped, seats_change, SameGrants, kept_same, dead_same, here_same, counts_same}
@@ -31,10 +31,10 @@ pub record TellsBorn (history now : List Entry) (given : ℕ) : Type 0 where
 
 -- it keeps an array with so many words, of which so many are in this half, and what is to be freed is as before
 pub record KeepsBorn (heap : Heap) (book now : Book) (stage : Stage) (half given placed : ℕ) : Type 0 where
-  pub kept : kept_sum heap (words_of (nodes_in heap now)) now.owner ≡ kept_sum heap (words_of (nodes_in heap book)) book.owner + given
+  pub kept : kept_sum heap (words_of_object (nodes_in heap now)) now.owner ≡ kept_sum heap (words_of_object (nodes_in heap book)) book.owner + given
   pub in_half : kept_sum heap (words_in_half half (nodes_in heap now) now.spines) now.owner ≡ kept_sum heap (words_in_half half (nodes_in heap book) book.spines) book.owner + placed
-  pub dead : dead_sum heap (words_of (nodes_in heap now)) now.owner ≡ dead_sum heap (words_of (nodes_in heap book)) book.owner
-  pub counts : SweepCounts (words_of (nodes_in heap book)) book.owner stage → SweepCounts (words_of (nodes_in heap now)) now.owner stage
+  pub dead : dead_sum heap (words_of_object (nodes_in heap now)) now.owner ≡ dead_sum heap (words_of_object (nodes_in heap book)) book.owner
+  pub counts : SweepCounts (words_of_object (nodes_in heap book)) book.owner stage → SweepCounts (words_of_object (nodes_in heap now)) now.owner stage
 
 module _ (heap : Heap) (state : State) (book : Book) (number : ℕ) (here : number < heap.seats) (seated : length state.seats ≡ heap.seats) (words : List ℕ) (seat : Seat)
     (given placed refused : ℕ) (was : HasWeights (next_spine heap state.words).half (seat_at state number) given placed refused)
@@ -88,10 +88,11 @@ module _ (heap : Heap) (state : State) (book : Book) (number : ℕ) (here : numb
     counts = keeps.counts old.counts;
   }
 
--- it stands where no more than words change, but not the budget's nor that of the next spine's place
-pub budgets_words : (heap : Heap) (state : State) (book : Book) (words : List ℕ) → at heap words addresses.Spot ≡ at heap state.words addresses.Spot
-    → at heap words addresses.Budget ≡ at heap state.words addresses.Budget → BudgetsStand heap state book → BudgetsStand heap (record state { words = words }) book
-budgets_words heap state book words spot budget old = record {
+-- it stands where no more changes than words, but not the budget's nor that of the next spine's place, than the collector's entries, and than the owners of spine words
+budgets_beside : (heap : Heap) (state : State) (book : Book) (words : List ℕ) (log : List Entry) (spine_owner : ℕ → ℕ → SpineOwner)
+    → at heap words addresses.Spot ≡ at heap state.words addresses.Spot → at heap words addresses.Budget ≡ at heap state.words addresses.Budget → BudgetsStand heap state book
+    → BudgetsStand heap (record state { words = words; collector = record state.collector { log = log } }) (record book { spine_owner = spine_owner })
+budgets_beside heap state book words log spine_owner spot budget old = record {
   level = rw spot old.level;
   leaving = rw spot old.leaving;
   word = budget ∙ old.word;
@@ -102,18 +103,16 @@ budgets_words heap state book words spot budget old = record {
   counts = old.counts;
 }
 
--- and whatever becomes of the owners of spine words
+pub budgets_words : (heap : Heap) (state : State) (book : Book) (words : List ℕ) → at heap words addresses.Spot ≡ at heap state.words addresses.Spot
+    → at heap words addresses.Budget ≡ at heap state.words addresses.Budget → BudgetsStand heap state book → BudgetsStand heap (record state { words = words }) book
+budgets_words heap state book words spot budget old = budgets_beside heap state book words state.collector.log book.spine_owner spot budget old
+
 pub budgets_owners : (heap : Heap) (state : State) (book : Book) (spine_owner : ℕ → ℕ → SpineOwner) → BudgetsStand heap state book → BudgetsStand heap state (record book { spine_owner = spine_owner })
-budgets_owners heap state book spine_owner old = record {
-  level = old.level;
-  leaving = old.leaving;
-  word = old.word;
-  told = old.told;
-  low = old.low;
-  returned = old.returned;
-  early = old.early;
-  counts = old.counts;
-}
+budgets_owners heap state book spine_owner old = budgets_beside heap state book state.words state.collector.log spine_owner refl refl old
+
+pub budgets_told : (heap : Heap) (state : State) (book : Book) (log : List Entry) → BudgetsStand heap state book
+    → BudgetsStand heap (record state { collector = record state.collector { log = log } }) book
+budgets_told heap state book log old = budgets_beside heap state book state.words log book.spine_owner refl refl old
 
 -- the budget word is far below 2^64
 pub budget_small : (heap : Heap) (state : State) (book : Book) → IsMachine heap state → BudgetsStand heap state book → at heap state.words addresses.Budget ≤ 32768

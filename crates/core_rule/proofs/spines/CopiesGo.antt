@@ -15,7 +15,7 @@ use Rattle.core_rule.specs.Book.{Colour, fragment_at, id_at}
 use Rattle.core_rule.specs.Colours.{IsMarked}
 use Rattle.core_rule.specs.Halves.{WhileCopying}
 use Rattle.core_rule.specs.Owners.{Owner, Kept}
-use Rattle.core_rule.specs.Replicas.{AreMarked, BeginsArray, IsFound, IsToCopy, CopyingStands}
+use Rattle.core_rule.specs.Replicas.{VisitIsMarked, BeginsArray, HasFoundArray, IsToCopy, CopyingStands}
 use Rattle.core_rule.proofs.graph.SameNodes.{SameShape, shape_words}
 
 -- the object of this number is kept, with its name, its fragments, its spine and its shape
@@ -34,10 +34,10 @@ module _ (nodes now_nodes : ℕ → Node) (made now_made : List Id) (owner now_o
       let one = heads f is.index is.kept in
       record { index = is.index; kept = one.kept; is_array = one.shape.kind ∙ is.is_array; as_many = is.as_many ∙ sym (shape_words (now_nodes is.index) (nodes is.index) one.shape) }
 
-  marked_go : (visit : Visit) → AreMarked colour visit → AreMarked now_colour visit
+  marked_go : (visit : Visit) → VisitIsMarked colour visit → VisitIsMarked now_colour visit
   marked_go visit are place set = marked (16 * visit.group + place) (are place set)
 
-  abbrev found_go : (array : ArrayAt) → IsFound nodes made owner colour array → IsFound now_nodes now_made now_owner now_colour array
+  abbrev found_go : (array : ArrayAt) → HasFoundArray nodes made owner colour array → HasFoundArray now_nodes now_made now_owner now_colour array
   found_go array is = record {
     marked = marked_go array.visit is.marked;
     begins = begins_go (sentinel_at array) array.words is.begins;

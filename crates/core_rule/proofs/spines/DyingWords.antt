@@ -3,9 +3,7 @@ use Rattle.std.proofs.Common.{◌≡◌, ◌≢◌, ℕ, ◌<◌, ◌⊎◌, Lis
 use Rattle.heap_words.specs.declared.spot.Spot.{Spot}
 use Rattle.heap_model.specs.declared.heap.Heap.{Heap}
 use Rattle.heap_model.specs.graph.Graph.{Node}
-use Rattle.core_machine.specs.declared.place.Access.TheVariants.{Indexing}
 use Rattle.core_machine.specs.declared.place.Place.{Place}
-use Rattle.core_machine.specs.declared.place.Place.TheVariants as places
 use Rattle.core_machine.specs.seat.Seat.{Seat}
 use Rattle.core_rule.specs.Book.{Book, Colour, White, Grey, Black, fragment_at}
 use Rattle.core_rule.specs.Owners.{Owner, Kept, SpineOwner, Placed, Spined, Gone}
@@ -15,6 +13,7 @@ use Rattle.core_rule.proofs.marking.Settled.{settled_owners, settled_was, settle
 use Rattle.core_rule.specs.Sweep.{TellsWords}
 use Rattle.core_machine.specs.declared.table.address.Address.TheVariants.{Word}
 use Rattle.core_machine.specs.table.Layout.{at}
+use Rattle.core_rule.proofs.ways.LoadedPlaces.{loaded_goes}
 
 -- what becomes of an array's spine word by the colour of the array's first fragment
 abbrev pub settled_array : Colour → ℕ → ℕ → SpineOwner
@@ -115,10 +114,9 @@ module _ (heap : Heap) (words : List ℕ) (owner : ℕ → Owner) (colour : ℕ 
   -- and the place of a spine that a call has loaded
   pub address_settles : (nodes : ℕ → Node) (spines : ℕ → Spot) (seat : Seat) (place : Place)
       → AddressStands heap words nodes owner fragments spines spine_owner seat place → AddressStands heap words nodes later fragments spines words_later seat place
-  address_settles nodes spines seat (places.Access Indexing) stands = λ i is.
-      elim (stands i (settled_was (owner seat.reached) (colour seat.reached) i 0 is).0)
+  address_settles nodes spines seat place = loaded_goes place (λ has reads i f calls is an_array.
+      elim (reads i f calls (settled_was (owner f) (colour f) i 0 is).0 an_array)
       as (λ _. (seat.address ≡ spines i) ⊎ IsLeftReplica heap words (nodes i) (fragments i) words_later seat.answered seat.address) [
         | inl own ↦ inl own
         | inr replica ↦ inr record { late = replica.late; left = λ k less. ap (settled_word heads) (replica.left k less); listed = replica.listed }
-      ]
-  address_settles nodes spines seat _ stands = tt
+      ])

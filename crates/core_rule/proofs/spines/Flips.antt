@@ -14,7 +14,7 @@ use Rattle.core_machine.specs.declared.place.Making.TheVariants.{Listing, Storin
 use Rattle.core_machine.specs.declared.place.Place.{Place}
 use Rattle.core_machine.specs.declared.place.Place.TheVariants as places
 use Rattle.core_machine.specs.machine.Machine.{State, seat_at}
-use Rattle.core_machine.specs.seat.Commands.{IsArray}
+use Rattle.core_machine.specs.seat.Commands.{IsArrayCall}
 use Rattle.core_machine.specs.seat.Seat.{Seat}
 use Rattle.core_machine.proofs.table_lemmas.Free.{sum_zero}
 use Rattle.core_rule.specs.Book.{Book}
@@ -35,7 +35,7 @@ use Rattle.core_rule.proofs.steps.TurnSteps.{after_turn, quiet}
 use Rattle.core_rule.proofs.ways.ArrayWords.{spot_in-word}
 
 -- a call whose spine stands in another half has no words in this one
-command_away : (command : Command) (half other : ℕ) → (IsArray command → half ≢ other) → (if half == other then spine_need_of command else 0) ≡ 0
+command_away : (command : Command) (half other : ℕ) → (IsArrayCall command → half ≢ other) → (if half == other then spine_need_of command else 0) ≡ 0
 command_away (Array d cells) half other away = grind (arith, nat_tests, away tt)
 command_away _ half other away = grind (arith, nat_tests)
 

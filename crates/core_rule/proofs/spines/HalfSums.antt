@@ -5,7 +5,7 @@ use Rattle.heap_words.specs.declared.spot.Spot.{Spot}
 use Rattle.heap_model.specs.declared.heap.Heap.{Heap}
 use Rattle.heap_model.specs.graph.Graph.{Node}
 use Rattle.core_machine.proofs.table_lemmas.Free.{sum_same}
-use Rattle.core_rule.specs.Budgets.{kept_weight, dead_weight, kept_sum, dead_sum, words_of, words_in_half}
+use Rattle.core_rule.specs.Budgets.{kept_weight, dead_weight, kept_sum, dead_sum, words_of_object, words_in_half}
 use Rattle.core_rule.specs.Owners.{Owner, Kept}
 use Rattle.core_rule.proofs.lists.SumLemmas.{sum_plus}
 
@@ -20,10 +20,10 @@ kept_sum_agrees heap owner weight other agree =
 
 module _ (half : ℕ) (nodes : ℕ → Node) (spines : ℕ → Spot) (i : ℕ) where
   -- an object has all its words in the half where its spine stands, or is a record, which has none
-  pub words_here : ((nodes i).array ≡ true → (spines i).half ≡ half) → words_in_half half nodes spines i ≡ words_of nodes i
+  pub words_here : ((nodes i).array ≡ true → (spines i).half ≡ half) → words_in_half half nodes spines i ≡ words_of_object nodes i
   words_here here = by (nodes i).array refl
     where
-      by : (b : Bool) → (nodes i).array ≡ b → words_in_half half nodes spines i ≡ words_of nodes i
+      by : (b : Bool) → (nodes i).array ≡ b → words_in_half half nodes spines i ≡ words_of_object nodes i
       by true kind = rw (here kind) (grind (arith, nat_tests))
       by false kind = rw kind (grind (arith, nat_tests))
 

@@ -14,7 +14,7 @@ use Rattle.core_machine.specs.declared.collector.stage.Stage.TheVariants as stag
 use Rattle.core_machine.specs.machine.Machine.{State, seat_at}
 use Rattle.core_machine.specs.seat.Seat.{Seat, absent_seat}
 use Rattle.core_rule.specs.Book.{Book, fragment_at, id_at}
-use Rattle.core_rule.specs.Budgets.{BudgetsStand, SweepCounts, words_of, nodes_in, returning, copying_words}
+use Rattle.core_rule.specs.Budgets.{BudgetsStand, SweepCounts, words_of_object, nodes_in, returning, copying_words}
 use Rattle.core_rule.specs.Colours.{IsMarked, IsBetween}
 use Rattle.core_rule.specs.Halves.{HalvesStand, AwaitsCopy, IsBeforeNext, IsEarlyRange, IsLeaving, IsLeftBehind, WhileCopying, half_at}
 use Rattle.core_rule.specs.Objects.{IsKept}
@@ -120,7 +120,7 @@ pub record StageGoesOn (heap : Heap) (words : List ℕ) (now : Book) (was is : C
   pub copied : copying_words is.stage ≡ copying_words was.stage
   pub early : IsBetween barriers copying_phase is.phase → IsBetween barriers copying_phase was.phase
   pub in_copying : is.phase % 7 ≡ copying_phase → was.phase % 7 ≡ copying_phase
-  pub counts : SweepCounts (words_of (nodes_in heap now)) now.owner is.stage
+  pub counts : SweepCounts (words_of_object (nodes_in heap now)) now.owner is.stage
   pub copies : WhileCopying (CopyingStands (nodes_in heap now) now.made now.owner now.colour now.fragments now.spines (next_spine heap words).half) is.stage
   pub copy : CopyInHand heap words now.spine_owner is.stage
 

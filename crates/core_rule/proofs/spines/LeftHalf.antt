@@ -5,15 +5,14 @@ use Rattle.heap_words.specs.declared.spot.Spot.{Spot}
 use Rattle.heap_model.specs.declared.heap.Heap.{Heap}
 use Rattle.heap_model.specs.graph.Graph.{Node}
 use Rattle.heap_model.specs.graph.Sizes.{spine_words_of}
-use Rattle.core_machine.specs.declared.place.Access.TheVariants.{Indexing}
 use Rattle.core_machine.specs.declared.place.Place.{Place}
-use Rattle.core_machine.specs.declared.place.Place.TheVariants as places
 use Rattle.core_machine.specs.seat.Seat.{Seat}
 use Rattle.core_rule.specs.Colours.{IsBetween}
 use Rattle.core_rule.specs.Objects.{IsKept}
 use Rattle.core_rule.specs.Owners.{Owner, SpineOwner, Open, Placed, Spined}
 use Rattle.core_rule.specs.Replicas.{IsLeftReplica, AddressStands}
 use Rattle.core_rule.specs.Spines.{SpinesStand, SpineInHand, HasPlace}
+use Rattle.core_rule.proofs.ways.LoadedPlaces.{loaded_goes}
 
 -- whose a word is once the other half is let go
 abbrev pub let_go : ℕ → (ℕ → ℕ → SpineOwner) → ℕ → ℕ → SpineOwner
@@ -73,9 +72,8 @@ module _ (here : ℕ) (spine_owner : ℕ → ℕ → SpineOwner) where
     -- and the place that a seat has loaded which has answered since
     pub address_let_go : (nodes : ℕ → Node) (owner : ℕ → Owner) (fragments : ℕ → List ℕ) (spines : ℕ → Spot) (seat : Seat) (place : Place) → ¬ IsBetween 3 4 seat.answered
         → AddressStands heap words nodes owner fragments spines spine_owner seat place → AddressStands heap words nodes owner fragments spines (let_go here spine_owner) seat place
-    address_let_go nodes owner fragments spines seat (places.Access Indexing) late stands = λ i is.
-        elim (stands i is) as (λ _. (seat.address ≡ spines i) ⊎ IsLeftReplica heap words (nodes i) (fragments i) (let_go here spine_owner) seat.answered seat.address) [
+    address_let_go nodes owner fragments spines seat place late = loaded_goes place (λ has reads i f calls is an_array.
+        elim (reads i f calls is an_array) as (λ _. (seat.address ≡ spines i) ⊎ IsLeftReplica heap words (nodes i) (fragments i) (let_go here spine_owner) seat.answered seat.address) [
           | inl own ↦ inl own
           | inr replica ↦ absurd (late replica.late)
-        ]
-    address_let_go nodes owner fragments spines seat _ late stands = tt
+        ])

@@ -22,7 +22,7 @@ use Rattle.core_machine.specs.declared.place.Making.TheVariants.{Listing}
 use Rattle.core_machine.specs.declared.place.Place.TheVariants as places
 use Rattle.core_machine.specs.declared.table.address.Address.TheVariants.{Word}
 use Rattle.core_machine.specs.machine.Machine.{State, seat_at}
-use Rattle.core_machine.specs.seat.Commands.{MakesObject, IsArray}
+use Rattle.core_machine.specs.seat.Commands.{MakesObject, IsArrayCall}
 use Rattle.core_machine.specs.seat.Fits.{HasArrayBody, Fits}
 use Rattle.core_machine.specs.seat.Making.{newborn_word, newborn_word_of, next_name}
 use Rattle.core_machine.specs.seat.Seat.{Seat, spine_need}
@@ -54,14 +54,14 @@ use Rattle.core_rule.proofs.spines.SpineStores.{unowned, others_stored, gone_sto
 use Rattle.core_rule.proofs.ways.ArrayWords.{words_in-meta, spot_in-word}
 
 -- an object that makes an array needs a fragment
-needs_some : (command : Command) → IsArray command → 1 ≤ need_of command
+needs_some : (command : Command) → IsArrayCall command → 1 ≤ need_of command
 needs_some (commands.Array d cells) array = omega arith
 needs_some _ array = absurd array
 
 -- a newborn object has a spine where it is an array, in its first fragment, which tells where it stands
 module _ (name : Name) (spine : Spot) (body : List ℕ) (small : (i : ℕ) → i < length body → get_or body i 0 < 2 ^ 30) where
   newborn_spine : (command : Command) → MakesObject command → IsCommand command → (k j : ℕ) → j < spine_words_in (newborn_word command name spine body k 0)
-      → (IsArray command) × (j < spine_need_of command) × (newborn_word command name spine body k 2 ≡ spot_word spine)
+      → (IsArrayCall command) × (j < spine_need_of command) × (newborn_word command name spine body k 2 ≡ spot_word spine)
   newborn_spine (commands.New d fields) made range k j less =
       let none : spine_words_in (newborn_word (commands.New d fields) name spine body k 0) ≡ 0 = newborn_no_spine body small name fields k (omega (arith, range.1.1)) in absurd (omega (arith, less, none))
   newborn_spine (commands.Array d cells) made range zero j less = (tt, omega (arith, less, words_in-meta cells (omega (arith, range.1.1))), refl)
@@ -209,7 +209,7 @@ module _ (heap : Heap) (state : State) (book : Book) (rule : Rule heap state boo
       placed_by r s j k o a b = cc
 
       -- a seat that lists its spine has stored nothing of its object
-      another : (r : ℕ) → (seat_at state r).stored ≡ 4 * length (seat_at state r).body → length (seat_at state r).body ≡ need_of (seat_at state r).command → r ≡ number → IsArray (seat_at state r).command → ⊥
+      another : (r : ℕ) → (seat_at state r).stored ≡ 4 * length (seat_at state r).body → length (seat_at state r).body ≡ need_of (seat_at state r).command → r ≡ number → IsArrayCall (seat_at state r).command → ⊥
       another r all whole same array =
           let none : (seat_at state r).stored ≡ 0 = ap (λ x. (seat_at state x).stored) same ∙ fits.0.2.none_stored in
           omega (arith, none, all, whole, needs_some (seat_at state r).command array)

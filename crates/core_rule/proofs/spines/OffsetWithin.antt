@@ -19,7 +19,7 @@ use Rattle.core_machine.specs.machine.Machine.{State, seat_at}
 use Rattle.core_machine.specs.machine.Sums.{sum_upto}
 use Rattle.core_machine.specs.seat.Seat.{Seat, spine_need}
 use Rattle.core_rule.specs.Book.{Book, Colour}
-use Rattle.core_rule.specs.Budgets.{BudgetsStand, granted, granted_at, placed_at, kept_weight, kept_sum, words_of, words_in_half, nodes_in, copying_words}
+use Rattle.core_rule.specs.Budgets.{BudgetsStand, granted, granted_at, placed_at, kept_weight, kept_sum, words_of_object, words_in_half, nodes_in, copying_words}
 use Rattle.core_rule.specs.ControlWords.{Bits}
 use Rattle.core_rule.specs.Halves.{HalvesStand, IsLeaving, WhileCopying}
 use Rattle.core_rule.specs.Owners.{Owner, Free, Kept, Open}
@@ -76,29 +76,29 @@ placed_few half seat _ = omega arith
 
 module _ (nodes : ℕ → Node) (spines : ℕ → Spot) (half : ℕ) where
   -- so it is with what is kept
-  pub kept_few : (o : Owner) → kept_weight (words_in_half half nodes spines) o ≤ kept_weight (words_of nodes) o
+  pub kept_few : (o : Owner) → kept_weight (words_in_half half nodes spines) o ≤ kept_weight (words_of_object nodes) o
   kept_few (Kept i k) = by (k == 0)
     where
-      by : (b : Bool) → (if b then words_in_half half nodes spines i else 0) ≤ (if b then words_of nodes i else 0)
-      by true = some_or_none ((spines i).half == half) (words_of nodes i)
+      by : (b : Bool) → (if b then words_in_half half nodes spines i else 0) ≤ (if b then words_of_object nodes i else 0)
+      by true = some_or_none ((spines i).half == half) (words_of_object nodes i)
       by false = omega arith
   kept_few _ = omega arith
 
   module _ (heap : Heap) (words : List ℕ) (made : List Id) (owner : ℕ → Owner) (colour : ℕ → Colour) (fragments : ℕ → List ℕ) (bits : Bits heap words owner) where
-    pub kept_in_half : kept_sum heap (words_in_half half nodes spines) owner ≤ kept_sum heap (words_of nodes) owner
-    kept_in_half = sum_le (16 * heap.groups) (λ f. kept_weight (words_in_half half nodes spines) (owner f)) (λ f. kept_weight (words_of nodes) (owner f)) (λ f below. kept_few (owner f))
+    pub kept_in_half : kept_sum heap (words_in_half half nodes spines) owner ≤ kept_sum heap (words_of_object nodes) owner
+    kept_in_half = sum_le (16 * heap.groups) (λ f. kept_weight (words_in_half half nodes spines) (owner f)) (λ f. kept_weight (words_of_object nodes) (owner f)) (λ f below. kept_few (owner f))
 
     -- an array that is copied has none of its words in this half
     pub copy_within : (array : ArrayAt) (from : Spot) → IsToCopy nodes made owner colour spines half array from
-        → kept_sum heap (words_in_half half nodes spines) owner + array.words ≤ kept_sum heap (words_of nodes) owner
+        → kept_sum heap (words_in_half half nodes spines) owner + array.words ≤ kept_sum heap (words_of_object nodes) owner
     copy_within array from copies =
         let f : ℕ = sentinel_at array in
         let i : ℕ = copies.found.begins.index in
         let kept : owner f ≡ Kept i 0 = copies.found.begins.kept in
         let away : (spines i).half ≢ half = λ same. copies.left (ap (λ (s : Spot). s.half) copies.own ∙ same) in
         let none : kept_weight (words_in_half half nodes spines) (owner f) ≡ 0 = ap (kept_weight (words_in_half half nodes spines)) kept ∙ grind (arith, nat_tests, away) in
-        let all : kept_weight (words_of nodes) (owner f) ≡ words_of nodes i = ap (kept_weight (words_of nodes)) kept in
-        let less = sum_within (16 * heap.groups) f (λ x. kept_weight (words_in_half half nodes spines) (owner x)) (λ x. kept_weight (words_of nodes) (owner x)) (λ x below. kept_few (owner x)) (inside f i kept) in
+        let all : kept_weight (words_of_object nodes) (owner f) ≡ words_of_object nodes i = ap (kept_weight (words_of_object nodes)) kept in
+        let less = sum_within (16 * heap.groups) f (λ x. kept_weight (words_in_half half nodes spines) (owner x)) (λ x. kept_weight (words_of_object nodes) (owner x)) (λ x below. kept_few (owner x)) (inside f i kept) in
         omega (arith, less, none, all, copies.found.begins.as_many)
       where
         inside : (f i : ℕ) → owner f ≡ Kept i 0 → f < 16 * heap.groups
@@ -109,7 +109,7 @@ module _ (nodes : ℕ → Node) (spines : ℕ → Spot) (half : ℕ) where
 
     -- so it is with a copy in progress
     pub kept_beside_copy : (stage : Stage) → WhileCopying (CopyingStands nodes made owner colour fragments spines half) stage
-        → kept_sum heap (words_in_half half nodes spines) owner + copying_words stage ≤ kept_sum heap (words_of nodes) owner
+        → kept_sum heap (words_in_half half nodes spines) owner + copying_words stage ≤ kept_sum heap (words_of_object nodes) owner
     kept_beside_copy (stages.Copying (copying.Loading copy)) copies = copy_within copy.array copy.from copies.0
     kept_beside_copy (stages.Copying (copying.Storing copy word)) copies = copy_within copy.array copy.from copies.0
     kept_beside_copy (stages.Copying (copying.Swinging copy)) copies = copy_within copy.array copy.from copies.0

@@ -18,7 +18,7 @@ use Rattle.core_machine.specs.declared.collector.stage.Stage.TheVariants as stag
 use Rattle.core_machine.specs.machine.Machine.{State, seat_at}
 use Rattle.core_machine.proofs.table_lemmas.Free.{sum_zero}
 use Rattle.core_rule.specs.Book.{Book, fragment_at, id_at}
-use Rattle.core_rule.specs.Budgets.{BudgetsStand, dead_weight, kept_sum, dead_sum, words_of, words_in_half, nodes_in, placed_words, unreturned, returned_in_cycle}
+use Rattle.core_rule.specs.Budgets.{BudgetsStand, dead_weight, kept_sum, dead_sum, words_of_object, words_in_half, nodes_in, placed_words, unreturned, returned_in_cycle}
 use Rattle.core_rule.specs.Halves.{HalvesStand, AwaitsCopy, IsBeforeNext, IsEarlyRange, IsLeaving, IsLeftBehind, half_at}
 use Rattle.core_rule.specs.Objects.{node_at}
 use Rattle.core_rule.specs.Owners.{Owner, Dead, SpineOwner, Open}
@@ -107,20 +107,20 @@ module _ (heap : Heap) (state : State) (book : Book) (rule : Rule heap state boo
   abbrev begun : State
   begun = after_turn state words (record state.collector { phase = p + 1; stage = stages.Looking; looked = 0; log = log })
 
-  kept : kept_sum heap (words_of (nodes_in heap now)) book.owner ≡ kept_sum heap (words_of (nodes_in heap book)) book.owner
-  kept = ap (λ (g : Graph). kept_sum heap (words_of (node_at g book.made)) book.owner) graph
+  kept : kept_sum heap (words_of_object (nodes_in heap now)) book.owner ≡ kept_sum heap (words_of_object (nodes_in heap book)) book.owner
+  kept = ap (λ (g : Graph). kept_sum heap (words_of_object (node_at g book.made)) book.owner) graph
 
   here : (half : ℕ) → kept_sum heap (words_in_half half (nodes_in heap now) book.spines) book.owner ≡ kept_sum heap (words_in_half half (nodes_in heap book) book.spines) book.owner
   here half = ap (λ (g : Graph). kept_sum heap (words_in_half half (node_at g book.made) book.spines) book.owner) graph
 
-  dead : dead_sum heap (words_of (nodes_in heap now)) book.owner ≡ dead_sum heap (words_of (nodes_in heap book)) book.owner
-  dead = ap (λ (g : Graph). dead_sum heap (words_of (node_at g book.made)) book.owner) graph
+  dead : dead_sum heap (words_of_object (nodes_in heap now)) book.owner ≡ dead_sum heap (words_of_object (nodes_in heap book)) book.owner
+  dead = ap (λ (g : Graph). dead_sum heap (words_of_object (node_at g book.made)) book.owner) graph
 
   -- at the end of the sweep's phase nothing is to be returned any more
-  none_dead : p % 7 ≡ 5 → dead_sum heap (words_of (nodes_in heap book)) book.owner ≡ 0
-  none_dead swept = sum_zero (16 * heap.groups) (λ f. dead_weight (words_of (nodes_in heap book)) (book.owner f)) (λ f below. undead (book.owner f) (alive swept f))
+  none_dead : p % 7 ≡ 5 → dead_sum heap (words_of_object (nodes_in heap book)) book.owner ≡ 0
+  none_dead swept = sum_zero (16 * heap.groups) (λ f. dead_weight (words_of_object (nodes_in heap book)) (book.owner f)) (λ f below. undead (book.owner f) (alive swept f))
     where
-      undead : (o : Owner) → ((i k : ℕ) → o ≢ Dead i k) → dead_weight (words_of (nodes_in heap book)) o ≡ 0
+      undead : (o : Owner) → ((i k : ℕ) → o ≢ Dead i k) → dead_weight (words_of_object (nodes_in heap book)) o ≡ 0
       undead (Dead i k) never = absurd (never i k refl)
       undead _ never = refl
 

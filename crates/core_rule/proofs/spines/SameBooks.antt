@@ -21,21 +21,7 @@ dead_handed o owner fs undead alive = record {
   was = dead_unhanded o owner fs undead;
 }
 
--- a book with a longer history, whose objects have their shapes
-pub grants_alike : (heap : Heap) (book : Book) (history : List Entry) → SameTold book.history history
-    → ((i : ℕ) → SameShape (node_at (graph_of heap history) book.made i) (nodes_in heap book i)) → SameGrants heap book (record book { history = history })
-grants_alike heap book history told shapes = record {
-  told = told;
-  kept = same_kept book.owner;
-  dead = same_dead book.owner;
-  shapes = shapes;
-  made = refl;
-  fragments = refl;
-  spines = refl;
-  spine_owner = refl;
-}
-
--- and with other owners, by which the same is kept and is to be freed
+-- a book with a longer history, whose objects have their shapes, and with other owners, by which the same is kept and is to be freed
 pub grants_owned : (heap : Heap) (book : Book) (history : List Entry) (owner : ℕ → Owner) → SameTold book.history history → SameKept book.owner owner → SameDead book.owner owner
     → ((i : ℕ) → SameShape (node_at (graph_of heap history) book.made i) (nodes_in heap book i)) → SameGrants heap book (record book { history = history; owner = owner })
 grants_owned heap book history owner told kept dead shapes = record {
@@ -48,3 +34,8 @@ grants_owned heap book history owner told kept dead shapes = record {
   spines = refl;
   spine_owner = refl;
 }
+
+-- and with the same owners
+pub grants_alike : (heap : Heap) (book : Book) (history : List Entry) → SameTold book.history history
+    → ((i : ℕ) → SameShape (node_at (graph_of heap history) book.made i) (nodes_in heap book i)) → SameGrants heap book (record book { history = history })
+grants_alike heap book history told shapes = grants_owned heap book history book.owner told (same_kept book.owner) (same_dead book.owner) shapes

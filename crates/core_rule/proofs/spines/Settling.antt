@@ -5,7 +5,7 @@ use Rattle.core_machine.specs.collector.Collector.{Collector}
 use Rattle.core_machine.specs.declared.collector.stage.Stage.TheVariants as stages
 use Rattle.core_machine.specs.machine.Machine.{State}
 use Rattle.core_rule.specs.Book.{Book, fragment_at}
-use Rattle.core_rule.specs.Budgets.{BudgetsStand, kept_weight, dead_weight, kept_sum, dead_sum, words_of, words_in_half, nodes_in, returning, copying_words, returned_in_cycle}
+use Rattle.core_rule.specs.Budgets.{BudgetsStand, kept_weight, dead_weight, kept_sum, dead_sum, words_of_object, words_in_half, nodes_in, returning, copying_words, returned_in_cycle}
 use Rattle.core_rule.specs.Halves.{HalvesStand, AwaitsCopy, IsBeforeNext, IsLeftBehind}
 use Rattle.core_rule.specs.Objects.{IsKept}
 use Rattle.core_rule.specs.Owners.{Kept}
@@ -28,7 +28,7 @@ module _ (heap : Heap) (state : State) (book : Book) (rule : Rule heap state boo
   is = record state.collector { stage = stages.Flipping }
 
   abbrev words : ℕ → ℕ
-  words = words_of (nodes_in heap book)
+  words = words_of_object (nodes_in heap book)
 
   abbrev half : ℕ
   half = (next_spine heap state.words).half

@@ -1,13 +1,11 @@
 -- Whose the spine words are, and what they are, stands as before where a step leaves them.
-use Rattle.std.proofs.Common.{◌≡◌, ℕ, ◌+◌, ◌<◌, ◌⊎◌, inl, inr, List, length, refl, sym, ap, ◌∙◌, subst}
+use Rattle.std.proofs.Common.{true, ◌≡◌, ℕ, ◌+◌, ◌<◌, ◌⊎◌, inl, inr, List, length, refl, sym, ap, ◌∙◌, subst}
 use Rattle.heap_words.specs.declared.spot.Spot.{Spot}
 use Rattle.heap_model.specs.declared.heap.Heap.{Heap}
 use Rattle.heap_model.specs.declared.id.Id.{Id}
 use Rattle.heap_model.specs.graph.Graph.{Node}
 use Rattle.heap_model.specs.graph.Sizes.{spine_words_of}
-use Rattle.core_machine.specs.declared.place.Access.TheVariants.{Indexing}
 use Rattle.core_machine.specs.declared.place.Place.{Place}
-use Rattle.core_machine.specs.declared.place.Place.TheVariants as places
 use Rattle.core_machine.specs.declared.table.address.Address.TheVariants as addresses
 use Rattle.core_machine.specs.seat.Seat.{Seat, spine_need}
 use Rattle.core_machine.specs.table.Layout.{at, spine_place}
@@ -24,6 +22,7 @@ use Rattle.core_rule.proofs.spines.OtherWords.{LeavesPlaces, LeavesSpines, place
 use Rattle.core_rule.proofs.ways.WayFrames.{ObjectStays}
 use Rattle.core_rule.proofs.words.Addresses.{SameSpines}
 use Rattle.core_rule.proofs.spines.DeadWords.{DeadStay, dead_tell}
+use Rattle.core_rule.proofs.ways.LoadedPlaces.{loaded_goes, loaded_way, called_head}
 
 -- the same fragments are kept where whose they are is as before
 pub same_kept : (owner : ℕ → Owner) → SameKept owner owner
@@ -156,23 +155,24 @@ module _ (heap : Heap) (words now_words : List ℕ) (nodes now_nodes : ℕ → N
   pub address_stays : ((i : ℕ) → i < length made → IsKept owner fragments i → ObjectStays nodes now_nodes made now_made owner now_owner fragments now_fragments i)
       → (seat : Seat) (place : Place) → WayStands nodes made owner fragments seat place
       → AddressStands heap words nodes owner fragments spines was seat place → AddressStands heap now_words now_nodes now_owner now_fragments now_spines now seat place
-  address_stays stay seat (places.Access Indexing) way address = λ i is.
-      let one = stay way.index way.way.below way.way.kept in
-      let same : now_owner seat.reached ≡ Kept way.index 0 = ap now_owner way.way.here ∙ ap (λ fs. now_owner (fragment_at fs 0)) (sym one.fragments_stay) ∙ one.kept in
-      let index : way.index ≡ i = sym (kept_index i 0 way.index 0 (sym is ∙ same)) in
+  address_stays stay seat place stands = loaded_goes place (λ has reads i f calls is an_array.
+      let on = loaded_way nodes made owner fragments seat place has stands in
+      let one = stay on.index on.way.below on.way.kept in
+      let head : f ≡ fragment_at (fragments on.index) 0 = called_head made owner fragments seat on.index on.row f on.way calls in
+      let same : now_owner f ≡ Kept on.index 0 = ap now_owner head ∙ ap (λ fs. now_owner (fragment_at fs 0)) (sym one.fragments_stay) ∙ one.kept in
+      let index : on.index ≡ i = sym (kept_index i 0 on.index 0 (sym is ∙ same)) in
+      let kind : (nodes on.index).array ≡ true = sym one.shape.kind ∙ ap (λ n. (now_nodes n).array) index ∙ an_array in
       subst (λ n. (seat.address ≡ now_spines n) ⊎ IsLeftReplica heap now_words (now_nodes n) (now_fragments n) now seat.answered seat.address) index
-      (elim (address way.index (ap owner way.way.here ∙ way.way.kept)) as (λ _. (seat.address ≡ now_spines way.index) ⊎ IsLeftReplica heap now_words (now_nodes way.index) (now_fragments way.index) now seat.answered seat.address) [
-        | inl own ↦ inl (own ∙ sym (still.stay way.index way.way.below))
-        | inr left ↦ inr (replica_stays way.index seat.answered seat.address one.shape one.fragments_stay left)
-      ])
-  address_stays stay seat _ way address = tt
+      (elim (reads on.index f calls (ap owner head ∙ on.way.kept) kind) as (λ _. (seat.address ≡ now_spines on.index) ⊎ IsLeftReplica heap now_words (now_nodes on.index) (now_fragments on.index) now seat.answered seat.address) [
+        | inl own ↦ inl (own ∙ sym (still.stay on.index on.way.below))
+        | inr left ↦ inr (replica_stays on.index seat.answered seat.address one.shape one.fragments_stay left)
+      ]))
 
 -- so it is where no more than words change
 pub address_words : (heap : Heap) (words now : List ℕ) → SameSpines heap words now → (nodes : ℕ → Node) (owner : ℕ → Owner) (fragments : ℕ → List ℕ) (spines : ℕ → Spot) (spine_owner : ℕ → ℕ → SpineOwner)
     (seat : Seat) (place : Place) → AddressStands heap words nodes owner fragments spines spine_owner seat place → AddressStands heap now nodes owner fragments spines spine_owner seat place
-address_words heap words now same nodes owner fragments spines spine_owner seat (places.Access Indexing) address = λ i is.
-    elim (address i is) as (λ _. (seat.address ≡ spines i) ⊎ IsLeftReplica heap now (nodes i) (fragments i) spine_owner seat.answered seat.address) [
+address_words heap words now same nodes owner fragments spines spine_owner seat place = loaded_goes place (λ has reads i f calls is an_array.
+    elim (reads i f calls is an_array) as (λ _. (seat.address ≡ spines i) ⊎ IsLeftReplica heap now (nodes i) (fragments i) spine_owner seat.answered seat.address) [
       | inl own ↦ inl own
       | inr left ↦ inr record { late = left.late; left = left.left; listed = λ k less. same _ _ ∙ left.listed k less }
-    ]
-address_words heap words now same nodes owner fragments spines spine_owner seat _ address = tt
+    ])

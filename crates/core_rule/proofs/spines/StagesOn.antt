@@ -8,7 +8,7 @@ use Rattle.core_machine.specs.declared.collector.stage.Copying.TheVariants as co
 use Rattle.core_machine.specs.declared.collector.stage.Stage.{Stage}
 use Rattle.core_machine.specs.declared.collector.stage.Stage.TheVariants as stages
 use Rattle.core_rule.specs.Book.{Book}
-use Rattle.core_rule.specs.Budgets.{SweepCounts, words_of, nodes_in, returning, copying_words}
+use Rattle.core_rule.specs.Budgets.{SweepCounts, words_of_object, nodes_in, returning, copying_words}
 use Rattle.core_rule.specs.Halves.{AwaitsCopy, IsLeaving, WhileCopying, half_at, is_advancing}
 use Rattle.core_rule.specs.Owners.{Owner, SpineOwner}
 use Rattle.core_rule.specs.Replicas.{CopyingStands, CopyInHand, copy_in}
@@ -55,7 +55,7 @@ module _ (heap : Heap) (words : List ℕ) (now : Book) (was is : Collector) (pha
 
   -- a turn within a phase that doesn't flip: what awaits a copy does, and as many words are copied and returned
   pub goes_within : ((f : ℕ) → AwaitsCopy was.phase was.stage f → AwaitsCopy was.phase is.stage f) → returning is.stage ≡ returning was.stage → copying_words is.stage ≡ copying_words was.stage
-      → SweepCounts (words_of (nodes_in heap now)) now.owner is.stage
+      → SweepCounts (words_of_object (nodes_in heap now)) now.owner is.stage
       → WhileCopying (CopyingStands (nodes_in heap now) now.made now.owner now.colour now.fragments now.spines (next_spine heap words).half) is.stage
       → CopyInHand heap words now.spine_owner is.stage → StageGoesOn heap words now was is
   goes_within awaits returns copied counts copies copy = record {
@@ -100,7 +100,7 @@ quiet_copies P visiting _ still = tt
 
 -- so a turn from one such stage to another goes on, where what awaits a copy does, and the sweep has counted
 pub quiet_goes_on : (heap : Heap) (words later : List ℕ) (now : Book) (was is : Collector) → is.phase ≡ was.phase → IsBeforeFlip was.phase was.stage is.stage → IsQuiet was.stage → IsQuiet is.stage
-    → ((f : ℕ) → AwaitsCopy was.phase was.stage f → AwaitsCopy was.phase is.stage f) → SweepCounts (words_of (nodes_in heap now)) now.owner is.stage
+    → ((f : ℕ) → AwaitsCopy was.phase was.stage f → AwaitsCopy was.phase is.stage f) → SweepCounts (words_of_object (nodes_in heap now)) now.owner is.stage
     → SameSpines heap words later → CopyInHand heap words now.spine_owner was.stage → StageGoesOn heap later now was is
 quiet_goes_on heap words later now was is phase flip before after awaits counts same copy =
     goes_within heap later now was is phase flip awaits (quiet_returns is.stage after ∙ sym (quiet_returns was.stage before)) (quiet_copied is.stage after ∙ sym (quiet_copied was.stage before)) counts
@@ -126,7 +126,7 @@ idle_counts words owner _ idle = tt
 pub idle_goes_on : (heap : Heap) (words later : List ℕ) (now : Book) (was is : Collector) → is.phase ≡ was.phase → IsBeforeFlip was.phase was.stage is.stage → IsIdle was.stage → IsIdle is.stage
     → ((f : ℕ) → AwaitsCopy was.phase was.stage f → AwaitsCopy was.phase is.stage f) → SameSpines heap words later → CopyInHand heap words now.spine_owner was.stage → StageGoesOn heap later now was is
 idle_goes_on heap words later now was is phase flip before after awaits =
-    quiet_goes_on heap words later now was is phase flip (idle_quiet was.stage before) (idle_quiet is.stage after) awaits (idle_counts (words_of (nodes_in heap now)) now.owner is.stage after)
+    quiet_goes_on heap words later now was is phase flip (idle_quiet was.stage before) (idle_quiet is.stage after) awaits (idle_counts (words_of_object (nodes_in heap now)) now.owner is.stage after)
 
 -- at a plain stage nothing is, and nothing awaits a copy
 plain_idle : (stage : Stage) → IsPlain stage → IsIdle stage

@@ -13,7 +13,7 @@ use Rattle.core_machine.specs.declared.table.address.Address.TheVariants.{Budget
 use Rattle.core_machine.specs.machine.Machine.{State, seat_at}
 use Rattle.core_machine.specs.table.Layout.{at}
 use Rattle.core_rule.specs.Book.{Book, fragment_at}
-use Rattle.core_rule.specs.Budgets.{BudgetsStand, SweepCounts, kept_sum, words_of, words_in_half, nodes_in, copying_words, unreturned, returned_in_cycle}
+use Rattle.core_rule.specs.Budgets.{BudgetsStand, SweepCounts, kept_sum, words_of_object, words_in_half, nodes_in, copying_words, unreturned, returned_in_cycle}
 use Rattle.core_rule.specs.Halves.{HalvesStand, AwaitsCopy, IsBeforeNext, IsEarlyRange, IsLeaving, IsLeftBehind, WhileCopying, half_at}
 use Rattle.core_rule.specs.Objects.{IsKept, node_at}
 use Rattle.core_rule.specs.Owners.{Owner}
@@ -72,13 +72,13 @@ module _ (heap : Heap) (state : State) (book : Book) (rule : Rule heap state boo
     pub granted : words_granted history ≡ words_granted book.history
     pub told : words_returned history ≡ words_returned book.history + returns
     pub in_cycle : returned_in_cycle history ≡ returned_in_cycle book.history + returns
-    pub counts : SweepCounts (words_of (nodes_in heap later)) owner stage
+    pub counts : SweepCounts (words_of_object (nodes_in heap later)) owner stage
 
   leaves : (stage : Stage) → IsLeaving p stage
   leaves stage = inr (inr swept)
 
-  kept : kept_sum heap (words_of (nodes_in heap later)) owner ≡ kept_sum heap (words_of (nodes_in heap book)) book.owner
-  kept = kept_sum_stays (words_of (nodes_in heap book)) (words_of (nodes_in heap later)) (λ i. ap (λ (g : Graph). words_of (node_at g book.made) i) graph) heap book.owner owner same
+  kept : kept_sum heap (words_of_object (nodes_in heap later)) owner ≡ kept_sum heap (words_of_object (nodes_in heap book)) book.owner
+  kept = kept_sum_stays (words_of_object (nodes_in heap book)) (words_of_object (nodes_in heap later)) (λ i. ap (λ (g : Graph). words_of_object (node_at g book.made) i) graph) heap book.owner owner same
 
   here : kept_sum heap (words_in_half next.half (nodes_in heap later) book.spines) owner ≡ kept_sum heap (words_in_half next.half (nodes_in heap book) book.spines) book.owner
   here = kept_sum_stays (words_in_half next.half (nodes_in heap book) book.spines) (words_in_half next.half (nodes_in heap later) book.spines)

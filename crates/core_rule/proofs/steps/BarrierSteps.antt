@@ -1,5 +1,5 @@
 -- How a set with the barrier on goes on, up to its swap.
-use Rattle.std.proofs.Common.{◌≡◌, ℕ, ◌<◌, true, List, [], filter, Option, Some, None, refl, sym, subst, arith, ◌/◌, slice_set}
+use Rattle.std.proofs.Common.{◌≡◌, ℕ, ◌<◌, true, [], filter, Option, Some, None, refl, sym, subst, arith, ◌/◌, slice_set}
 use Rattle.std.proofs.lemmas.List.{append-nil}
 use Rattle.heap_model.specs.declared.heap.Heap.{Heap}
 use Rattle.heap_model.specs.account.Cycles.{graph_of}
@@ -77,25 +77,22 @@ module _ (heap : Heap) (state : State) (book : Book) (number : ℕ) (rule : Rule
   abbrev Unnamed : Access → Type 0
   Unnamed next = (seat_now : Seat) → Awaits g book.made book.owner book.fragments number seat_now (places.Access next) []
 
-  -- no spine word is loaded next
-  abbrev NoAddress : Access → Type 0
-  NoAddress next = (words : List ℕ) (book_now : Book) (seat_now : Seat) → AddressAt heap words book_now seat_now (places.Access next)
-
   -- a load that leads on
-  pub loads_on : (loaded : ℕ) (next : Access) → Unnamed next → NoAddress next
+  pub loads_on : (loaded : ℕ) (next : Access) → Unnamed next
+      → AddressAt heap state.words book (went seat seat.registers seat.reached seat.links seat.part seat.address loaded (places.Access next) seat.looks []) (places.Access next)
       → AccessStands (node_at g book.made) book.made book.owner book.fragments (went seat seat.registers seat.reached seat.links seat.part seat.address loaded (places.Access next) seat.looks []) next
       → (IsBetween 2 5 p → FieldStands heap state.words book.colour (went seat seat.registers seat.reached seat.links seat.part seat.address loaded (places.Access next) seat.looks []) next)
       → ShadedStands book.colour (went seat seat.registers seat.reached seat.links seat.part seat.address loaded (places.Access next) seat.looks []) next
       → CallGoesOn (went seat seat.registers seat.reached seat.links seat.part seat.address loaded (places.Access next) seat.looks []) next
       → IsMachine heap (loaded_state heap state number (Word seat.reached seat.part) (went seat seat.registers seat.reached seat.links seat.part seat.address loaded (places.Access next) seat.looks []))
       → Keeps heap state (loaded_state heap state number (Word seat.reached seat.part) (went seat seat.registers seat.reached seat.links seat.part seat.address loaded (places.Access next) seat.looks [])) book book.begun []
-  loads_on loaded next names none way field shaded comes machine =
+  loads_on loaded next names address way field shaded comes machine =
       let stands = rule.seats_stand number here in
       let new : Seat = went seat seat.registers seat.reached seat.links seat.part seat.address loaded (places.Access next) seat.looks [] in
       load_goes heap state book number rule here (Word seat.reached seat.part) seat.registers seat.reached seat.links seat.part seat.address loaded (places.Access next) seat.looks [] machine (rw place tt) tt
       (λ r unawaited. holds_all r)
       (list_more g book.made book.owner book.fragments number seat book.history busy stands.told.list g book.history new [] [] [] refl refl (sym (append-nil (filter (is_of number) book.history))) (names new))
-      way (none state.words book new)
+      way address
       (began_on book.history number (book.begun number) seat.place (places.Access next) busy stands.told.began)
       (cycle_by_flight heap state.words state.words book.owner book.owner book.colour book.colour p (last_answer number book.history) (has_left number book.history) number seat new
       record { answered = refl; left = refl; asked = refl } refl tt
@@ -116,7 +113,7 @@ module _ (heap : Heap) (state : State) (book : Book) (number : ℕ) (rule : Rule
     leads_back x leads = leads_control heap state.words (f / 16) _ (omega (arith, shade_within heap state book number rule here f head.index head.kept head.is)) _ _ x leads
 
     -- a shade that leads on
-    pub shades_on : (next : Access) → Unnamed next → NoAddress next
+    pub shades_on : (next : Access) → Unnamed next → AddressAt heap state.words book (shading seat seat.shaded (places.Access next)) (places.Access next)
         → AccessStands (node_at g book.made) book.made book.owner book.fragments (shading seat seat.shaded (places.Access next)) next
         → (IsBetween 2 5 p → IsBetween 2 5 seat.answered → FieldStands heap (words_shaded heap state book number rule here f head.index head.kept head.is) coloured (shading seat seat.shaded (places.Access next)) next)
         → (IsBetween 1 5 p → ShadedStands coloured (shading seat seat.shaded (places.Access next)) next)
@@ -125,13 +122,13 @@ module _ (heap : Heap) (state : State) (book : Book) (number : ℕ) (rule : Rule
         → IsNamed heap state book f
         → IsMachine heap (shaded_state (shading seat seat.shaded (places.Access next)))
         → Keeps heap state (shaded_state (shading seat seat.shaded (places.Access next))) book book.begun []
-    shades_on next names none way field shaded marked comes named machine =
+    shades_on next names address way field shaded marked comes named machine =
         let stands = rule.seats_stand number here in
         let new : Seat = shading seat seat.shaded (places.Access next) in
         shade_keeps heap state book number rule here f head.index head.kept head.is seat.shaded (places.Access next) (barrier_runs p seat.answered (is_near heap state book number rule here from place) (barrier_window seat on)) machine
         (λ r unawaited. holds_all r)
         (list_more g book.made book.owner book.fragments number seat book.history busy stands.told.list g book.history new [] [] [] refl refl (sym (append-nil (filter (is_of number) book.history))) (names new))
-        way (rw place tt) tt none busy
+        way (rw place tt) tt address busy
         (cycle_by_flight heap state.words (words_shaded heap state book number rule here f head.index head.kept head.is) book.owner book.owner book.colour coloured p
         (last_answer number book.history) (has_left number book.history) number seat new
         record { answered = refl; left = refl; asked = refl } (answer_shaded heap state book number rule here f head.index head.kept head.is number here) tt

@@ -42,7 +42,7 @@ use Rattle.core_rule.proofs.colours.ShadeColours.{with_mark, mark_keeps, mark_ma
 use Rattle.core_rule.proofs.hand.StoredFrames.{stored_control}
 use Rattle.core_rule.proofs.spines.NoneMade.{MakesNone, none_has_place, none_used, none_weights}
 use Rattle.core_rule.proofs.spines.OtherWords.{spines_left_control}
-use Rattle.core_rule.proofs.spines.SpineFrames.{spine_away}
+use Rattle.core_rule.proofs.spines.SpineFrames.{address_words, spine_away}
 
 -- the seat after a shade: elsewhere, and with so many roots shaded
 abbrev pub shading : Seat → ℕ → Place → Seat
@@ -87,13 +87,13 @@ module _ (heap : Heap) (state : State) (book : Book) (number : ℕ) (rule : Rule
       → Registers (graph_of heap book.history) book.made book.owner book.fragments number (seat_at state number).registers place (target_of (seat_at state number).command)
       → OwnList (graph_of heap book.history) book.history book.made book.owner book.fragments number (shading (seat_at state number) shaded place)
       → WayStands (node_at (graph_of heap book.history) book.made) book.made book.owner book.fragments (shading (seat_at state number) shaded place) place
-      → MakesNone (seat_at state number).place → MakesNone place → ((words : List ℕ) (book_now : Book) (seat_now : Seat) → AddressAt heap words book_now seat_now place)
+      → MakesNone (seat_at state number).place → MakesNone place → AddressAt heap state.words book (shading (seat_at state number) shaded place) place
       → ¬ IsAnswered (seat_at state number).place
       → SeatInCycle heap words_shaded (phase book.history) (last_answer number book.history) (has_left number book.history) book.owner (with_mark book.colour f) number (shading (seat_at state number) shaded place)
       → (IsInMarking state.collector → (seat_at state number).answered ≡ state.collector.phase → IsReached heap state.words book.owner book.colour f)
       → RootsGoOn heap state book rule number here (shading (seat_at state number) shaded place) → (seat_at state number).answered % 7 ≢ 6
       → IsNamed heap state book f → Keeps heap state (record state { words = words_shaded; seats = slice_set state.seats number (shading (seat_at state number) shaded place) }) book book.begun []
-  shade_keeps shaded place runs machine held list way before after none busy cycle comes roots early named =
+  shade_keeps shaded place runs machine held list way before after address busy cycle comes roots early named =
       let seat : Seat = seat_at state number in
       let new : Seat = shading seat shaded place in
       let stands = rule.seats_stand number here in
@@ -108,7 +108,11 @@ module _ (heap : Heap) (state : State) (book : Book) (number : ℕ) (rule : Rule
           together = stands.own.together;
           spine = spine_away heap state.words words_shaded book.spine_owner number seat new (none_has_place seat seat.place before) (none_has_place new place after) stands.own.spine;
         };
-        names = record { registers = held; way = way; address = none words_shaded now new };
+        names = record {
+          registers = held;
+          way = way;
+          address = address_words heap state.words words_shaded leaves.spines (node_at (graph_of heap book.history) book.made) book.owner book.fragments book.spines book.spine_owner new place address;
+        };
         told = record {
           list = list;
           counts = counts_same (graph_of heap book.history) book.history number seat new refl refl refl refl stands.told.counts;

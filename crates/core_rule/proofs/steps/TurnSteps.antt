@@ -15,11 +15,11 @@ use Rattle.core_machine.specs.machine.Machine.{State, seat_at, state_after_turn}
 use Rattle.core_machine.specs.machine.Value.{IsMachine}
 use Rattle.core_machine.proofs.table_lemmas.Addresses.{put-at}
 use Rattle.core_rule.specs.Book.{Book}
-use Rattle.core_rule.specs.Budgets.{BudgetsStand}
 use Rattle.core_rule.specs.Halves.{HalvesStand}
 use Rattle.core_rule.specs.Phases.{CollectorAgrees}
 use Rattle.core_rule.specs.Rule.{Rule, HeapStands, SeatStands, MarksStand, SpaceStands}
 use Rattle.core_rule.proofs.footprint.BookGoing.{BookGoesOn, book_stays}
+use Rattle.core_rule.proofs.spines.BudgetSteps.{budgets_told}
 use Rattle.core_rule.proofs.spines.BudgetFrames.{SameGrants, grants_same}
 use Rattle.core_rule.proofs.spines.HalvesFrames.{StageGoesOn, budgets_turn, halves_turn}
 use Rattle.core_rule.proofs.spines.OtherWords.{LeavesSpines, spines_left_none}
@@ -64,19 +64,6 @@ abbrev pub quiet : Collector → Collector
 quiet collector = record collector { log = collector.log ++ [] }
 
 -- the spine space takes no note of the collector's entries
-quiet_budgets : (heap : Heap) (state : State) (words : List ℕ) (collector : Collector) (book : Book) → BudgetsStand heap (after_turn state words collector) book
-    → BudgetsStand heap (after_turn state words (quiet collector)) book
-quiet_budgets heap state words collector book old = record {
-  level = old.level;
-  leaving = old.leaving;
-  word = old.word;
-  told = old.told;
-  low = old.low;
-  returned = old.returned;
-  early = old.early;
-  counts = old.counts;
-}
-
 quiet_halves : (heap : Heap) (state : State) (words : List ℕ) (collector : Collector) (book : Book) → HalvesStand heap (after_turn state words collector) book
     → HalvesStand heap (after_turn state words (quiet collector)) book
 quiet_halves heap state words collector book old = record {
@@ -101,7 +88,7 @@ load_turns_with heap state book a collector now rule machine told heap_after sea
     (λ same. turn_steps heap state book state.words (quiet collector) now [] rule same (told ∙ sym (append-nil book.history)) heap_after seats
     (subst (λ log. CollectorAgrees heap (record collector { log = log }) now.history) (sym (append-nil collector.log)) stands)
     record { heap_marks = marks.heap_marks; roots = λ r below is answered. marks.roots r below (record { phase = is.phase; goes_on = is.goes_on }) answered }
-    record { budgets = quiet_budgets heap state state.words collector now space.budgets; halves = quiet_halves heap state state.words collector now space.halves } goes) machine
+    record { budgets = budgets_told heap (after_turn state state.words collector) now (collector.log ++ []) space.budgets; halves = quiet_halves heap state state.words collector now space.halves } goes) machine
 
 -- and after one that leaves the book
 pub load_turns : (heap : Heap) (state : State) (book : Book) (a : Address) (collector : Collector) → Rule heap state book

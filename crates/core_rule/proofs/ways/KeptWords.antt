@@ -24,7 +24,7 @@ use Rattle.core_rule.specs.Book.{fragment_at, id_at, object_head}
 use Rattle.core_rule.specs.ControlWords.{Bits}
 use Rattle.core_rule.specs.Objects.{AreMade, Objects, KeptObject, NamesKept, IsKept, IsSized, node_at, cells_at, value_word}
 use Rattle.core_rule.specs.Owners.{Owner, Kept}
-use Rattle.core_rule.specs.Ways.{Finds, row_in, part_in}
+use Rattle.core_rule.specs.Ways.{Finds, row_in, field_part}
 use Rattle.core_rule.proofs.graph.SameNodes.{made_size, node_cases}
 use Rattle.core_rule.proofs.objects.ObjectWords.{record_meta_at, record_link_at, array_meta_at, spine_place_at, name_at, word_of_cell}
 use Rattle.core_rule.proofs.ways.ArrayWords.{array_length_in-meta, length_in-array_meta, words_in-meta, spot_in-word, payload_in-word}
@@ -153,9 +153,9 @@ module _ (heap : Heap) (words : List ℕ) (g : Graph) (made : List Id) (owner : 
 
     -- and in it the field's cell
     pub field_found : (i : ℕ) (cell : Cell) → slice_get (cells_at g made index) i ≡ Some cell
-        → at heap words (Word (fragment_at (fragments index) (row_in object i)) (part_in object i)) ≡ value_word (object_head made fragments) cell.value cell.stamp
+        → at heap words (Word (fragment_at (fragments index) (row_in object i)) (field_part object i)) ≡ value_word (object_head made fragments) cell.value cell.stamp
     field_found i cell there =
-        the_object.stored (row_in object i) (part_in object i) (row_there i (slice_get_within _ i cell there)) (part_fits object i)
+        the_object.stored (row_in object i) (field_part object i) (row_there i (slice_get_within _ i cell there)) (part_fits object i)
         ∙ word_of_cell _ _ _ _ object i cell there
 
   module _ {spines : ℕ → Spot} (ids : AreMade g made) (objects : Objects heap words g made owner fragments spines) (seat : Seat) (finds : Finds (node_at g made) made owner fragments seat) where
@@ -180,7 +180,7 @@ module _ (heap : Heap) (words : List ℕ) (g : Graph) (made : List Id) (owner : 
 
     -- where none does, the way stands at the field
     pub field_reached : seat.links ≡ 0
-        → Word seat.reached seat.part ≡ Word (fragment_at (fragments finds.index) (row_in (node_at g made finds.index) (field_of seat.command))) (part_in (node_at g made finds.index) (field_of seat.command))
+        → Word seat.reached seat.part ≡ Word (fragment_at (fragments finds.index) (row_in (node_at g made finds.index) (field_of seat.command))) (field_part (node_at g made finds.index) (field_of seat.command))
     field_reached arrived = cc (finds.way.here, finds.field.there, row)
       where
         row : finds.row ≡ row_in (node_at g made finds.index) (field_of seat.command)

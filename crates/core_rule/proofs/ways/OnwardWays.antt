@@ -29,6 +29,7 @@ use Rattle.core_rule.specs.Ways.{Finds, Locates, LoadedKept, OldKept, AccessStan
 use Rattle.core_rule.proofs.ways.KeptWords.{link_ahead, payload_found}
 use Rattle.core_rule.proofs.ways.Rows.{array_word}
 use Rattle.core_rule.proofs.cycle.Unwatched.{IsUnwatched}
+use Rattle.core_rule.proofs.ways.LoadedPlaces.{calls_head}
 
 -- so the way leads to one of four places
 pub way_cases : (P : Access → Type 0) (seat : Seat) → P Walking → P Getting → (has_barrier_of seat ≡ true → P LoadingOld) → (has_barrier_of seat ≡ false → P Swapping)
@@ -121,7 +122,7 @@ module _ (heap : Heap) (words : List ℕ) (g : Graph) (made : List Id) (owner : 
   -- so it is where the place that it loaded is the array's, or one that this has left
   pub names_cell : (spine_owner : ℕ → ℕ → SpineOwner) (seat : Seat) (locates : Locates (node_at g made) made owner fragments seat)
       → AddressStands heap words (node_at g made) owner fragments spines spine_owner seat (places.Access Indexing) → NamesCell seat locates
-  names_cell spine_owner seat locates address = elim (address locates.index (ap owner locates.way.here ∙ locates.way.kept)) as (λ _. NamesCell seat locates) [
+  names_cell spine_owner seat locates reads = elim (reads locates.index (fragment_at (fragments locates.index) 0) (calls_head made owner fragments seat locates.index 0 locates.way) locates.way.kept locates.an_array) as (λ _. NamesCell seat locates) [
     | inl own ↦ ap (λ (s : Spot). at heap words (spine_place s (field_of seat.command / 4))) own
         ∙ (objects.kept locates.index locates.way.below locates.way.kept).listed (field_of seat.command / 4) (word_ahead seat locates)
     | inr left ↦ left.listed (field_of seat.command / 4) (word_ahead seat locates)

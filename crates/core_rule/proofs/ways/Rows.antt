@@ -7,7 +7,7 @@ use Rattle.heap_model.specs.graph.Graph.{Node}
 use Rattle.heap_model.specs.graph.Sizes.{fragments_of, spine_words_of}
 use Rattle.core_machine.specs.seat.Access.{row_of, part_of}
 use Rattle.core_rule.specs.Objects.{is_cell}
-use Rattle.core_rule.specs.Ways.{row_in, part_in}
+use Rattle.core_rule.specs.Ways.{row_in, field_part}
 use Rattle.core_rule.proofs.graph.SameNodes.{node_cases}
 
 -- the field of a row and a part
@@ -33,8 +33,8 @@ pub cell_back : (i : ℕ) → 4 * (i / 4 + 1 - 1) + i % 4 ≡ i
 cell_back i = omega arith
 
 -- an object has the row of each of its cells, and there the part
-pub part_fits : (object : Node) (i : ℕ) → part_in object i < 4
-part_fits object i = node_cases (λ o. part_in o i < 4) (λ cells. omega arith) (λ cells. omega arith) object
+pub part_fits : (object : Node) (i : ℕ) → field_part object i < 4
+part_fits object i = node_cases (λ o. field_part o i < 4) (λ cells. omega arith) (λ cells. omega arith) object
 
 pub row_fits : (object : Node) (i : ℕ) → i < length object.cells → row_in object i < fragments_of object
 row_fits object i = node_cases (λ (o : Node). i < length o.cells → row_in o i < fragments_of o)

@@ -1,4 +1,4 @@
-ghost use Rattle.std.specs.Prelude.{◌≡◌, ◌+◌, ◌<◌, ◌≤◌, ◌^◌, false, length, IsTrue};
+ghost use Rattle.std.specs.Prelude.{◌≡◌, ◌+◌, ◌*◌, ◌<◌, ◌≤◌, ◌^◌, false, length, IsTrue};
 ghost use Rattle.heap_model.specs.calls.SeatCalls.{IsReady};
 ghost use Rattle.heap_model.specs.calls.SeatState.{own_graph_seat};
 
@@ -157,6 +157,18 @@ fn does_as_told(rt: HostRuntime) -> Result<(), Fail> {
     Ok(())
 }
 
+/// Polls so often, in room for two entries each time and two more.
+fn poll_often<S: SeatCalls>(seat: &mut S, times: u8)
+    requires present { (own_graph_seat (S.state seat.old)).left ≡ false }
+    requires room { 2 * times + 2 ≤ (S.state seat.old).spare }
+    ensures { (own_graph_seat (S.state seat.new)).left ≡ false }
+{
+    seat_laws();
+    for _i in 0..times {
+        let _ = seat.poll();
+    }
+}
+
 /// Makes an object of one fragment and polls five times, in room for 16 entries.
 fn make_and_poll<S: SeatCalls>(seat: &mut S)
     requires present { (own_graph_seat (S.state seat.old)).left ≡ false }
@@ -166,20 +178,7 @@ fn make_and_poll<S: SeatCalls>(seat: &mut S)
 {
     seat_laws();
     let _ = seat.new_record(1, 2);
-    for _i in 0..5_u8 {
-        let _ = seat.poll();
-    }
-}
-
-/// Polls seven times, in room for 16 entries.
-fn poll_seven_times<S: SeatCalls>(seat: &mut S)
-    requires present { (own_graph_seat (S.state seat.old)).left ≡ false }
-    requires room { 16 ≤ (S.state seat.old).spare }
-{
-    seat_laws();
-    for _i in 0..7_u8 {
-        let _ = seat.poll();
-    }
+    poll_often(seat, 5);
 }
 
 #[test]
@@ -189,7 +188,7 @@ fn finds_its_room(rt: HostRuntime) -> Result<(), Fail> {
     assert!(rt; !seat.left() && seat.names_left() > 0);
     make_and_poll(&mut seat);
     seat.room(16)?;
-    poll_seven_times(&mut seat);
+    poll_often(&mut seat, 7);
     assert_eq!(rt; seat.log().len(), 14);
     Ok(())
 }

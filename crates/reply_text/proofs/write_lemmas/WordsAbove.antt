@@ -127,18 +127,18 @@ collecting-above (replies.Waits seat answered phase) h = waits-above seat answer
 collecting-above _ h = absurd h
 
 reply-above : (command : Command) (reply : Reply) → IsReply command reply → AreWords (reply_words reply)
-reply-above (New d fields) reply h = making-above reply h
-reply-above (Array d cells) reply h = arraying-above reply h
-reply-above (Get d r i) reply h = getting-above reply h
-reply-above (Set r i v) reply h = setting-above reply h
-reply-above (Num d n) reply h = done-above reply h
-reply-above (Nil d) reply h = done-above reply h
-reply-above (Copy d r) reply h = done-above reply h
-reply-above (Same a b) reply h = comparing-above reply h
-reply-above (Len r) reply h = measuring-above reply h
-reply-above Poll reply h = polling-above reply h
-reply-above Collect reply h = collecting-above reply h
-reply-above Leave reply h = done-above reply h
+reply-above (Num d n) = done-above
+reply-above (Nil d) = done-above
+reply-above (Copy d r) = done-above
+reply-above Leave = done-above
+reply-above (New d fields) = making-above
+reply-above (Array d cells) = arraying-above
+reply-above (Get d r i) = getting-above
+reply-above (Set r i v) = setting-above
+reply-above (Same a b) = comparing-above
+reply-above (Len r) = measuring-above
+reply-above Poll = polling-above
+reply-above Collect = collecting-above
 
 turn_reply-above : (command : TurnCommand) (reply : TurnReply) → IsTurnReply command reply → AreWords (turn_reply_words reply)
 turn_reply-above command turns.Done h = (IsAbove-from_test 32 (codes "done") refl, tt)

@@ -1,5 +1,5 @@
 -- The parts of a line that are read one after the other: each function answers what stands first, and the words after it.
-use Rattle.std.specs.Prelude.{ℕ, ◌+◌, ◌*◌, ◌^◌, ◌==◌, List, [], ◌∷◌, Option, Some, None, option_map, bytes_eq, codes, if◌then◌else◌}
+use Rattle.std.specs.Prelude.{ℕ, ◌+◌, ◌*◌, ◌==◌, List, [], ◌∷◌, Option, Some, None, option_map, bytes_eq, codes, if◌then◌else◌}
 use Rattle.std.specs.List.{slice_split}
 use Rattle.heap_model.specs.Limits.{most_seats, name_limit, stamp_limit}
 use Rattle.heap_model.specs.declared.id.Id.{Id}

@@ -36,7 +36,7 @@ fn push_entries(text: &mut Vec<u8>, entries: &[Entry]) -> Result<(), Memory>
 
 /// Appends the space line and its line feed.
 #[tactic(auto, using(crate::proofs::write_lemmas::Lines::spelling))]
-fn push_space(text: &mut Vec<u8>, mark: SpaceMark) -> Result<(), Memory>
+pub fn push_space(text: &mut Vec<u8>, mark: SpaceMark) -> Result<(), Memory>
     ensures { OnOk result
         (text.new.items ≡ text.old.items ++ (history_line (space_line mark) ++ 10 ∷ [])) }
 {
@@ -51,7 +51,7 @@ fn push_space(text: &mut Vec<u8>, mark: SpaceMark) -> Result<(), Memory>
 
 /// Appends the end line and its line feed.
 #[tactic(auto, using(crate::proofs::write_lemmas::Lines::spelling))]
-fn push_end(text: &mut Vec<u8>, used: u64) -> Result<(), Memory>
+pub fn push_end(text: &mut Vec<u8>, used: u64) -> Result<(), Memory>
     ensures { OnOk result
         (text.new.items ≡ text.old.items ++ (history_line (lines.End used) ++ 10 ∷ [])) }
 {

@@ -4,13 +4,29 @@ use super::several_seats::plays;
 use std::test::Fail;
 
 /// A script, the history of its play, and how many entries that has. Lines stand with "; " between them.
-const PLAYS: [(&str, &str, &str); 6] = [RESERVE, RAGGED, MOVED, CYCLIC, IN_THE_BOARD, SILENT];
+const PLAYS: [(&str, &str, &str); 7] = [
+    RESERVE,
+    SCATTERED,
+    RAGGED,
+    MOVED,
+    CYCLIC,
+    IN_THE_BOARD,
+    SILENT,
+];
 
 // A refused record leaves the four fragments of the reserve alone, and these are no garbage: the cycle frees the one of the dropped record.
 const RESERVE: (&str, &str, &str) = (
     "schism 1; heap 1 0 1; 0 new 1 2; 0 new 2 47; 0 nil 1; 0 collect",
     "history 1 play; heap 1 0 1; 0 takes 5; 0 new 1 2 = 0.0; 0 new 2 47 = full need 16 found 4; 0 nil 1 = ok; c phase 1; 0 answers 1; c phase 2; 0 answers 2; c phase 3; 0 answers 3; c phase 4; 0 answers 4; c phase 5; 0 answers 5; c frees 1; c phase 6; 0 answers 6; c ends 0 kept 15; 0 collect = cycle 0; space used 15 of 16 spine 0 of 0; 0 gives back 4; 0 leave = ok; c phase 8; c phase 9; c phase 10; c phase 11; c phase 12; c frees 11; c phase 13; c ends 1 kept 0; end used 0",
     "legal 29",
+);
+
+// Five records of a fragment each are all that there is beside the board. The second and the fourth are dropped, and the cycle frees
+// their two fragments, which lie apart: a record of five fields takes just these.
+const SCATTERED: (&str, &str, &str) = (
+    "schism 1; heap 1 0 1; 0 new 1 2; 0 new 2 2; 0 new 3 2; 0 new 4 2; 0 new 5 2; 0 nil 2; 0 nil 4; 0 collect; 0 new 6 5",
+    "history 1 play; heap 1 0 1; 0 takes 5; 0 new 1 2 = 0.0; 0 new 2 2 = 0.1; 0 new 3 2 = 0.2; 0 new 4 2 = 0.3; 0 new 5 2 = 0.4; 0 nil 2 = ok; 0 nil 4 = ok; c phase 1; 0 answers 1; c phase 2; 0 answers 2; c phase 3; 0 answers 3; c phase 4; 0 answers 4; c phase 5; 0 answers 5; c frees 2; c phase 6; 0 answers 6; c ends 0 kept 14; 0 collect = cycle 0; 0 takes 2; 0 new 6 5 = 0.5; space used 16 of 16 spine 0 of 0; 0 leave = ok; c phase 8; c phase 9; c phase 10; c phase 11; c phase 12; c frees 16; c phase 13; c ends 1 kept 0; end used 0",
+    "legal 34",
 );
 
 // The first seat answers phase 1 and then waits for the second. Once that has answered too, phase 2 begins, which it hasn't answered.

@@ -7,7 +7,7 @@ use Rattle.heap_model.specs.graph.Objects.{register_value}
 use Rattle.heap_model.specs.account.PhaseCounts.{phase, last_answer, has_left}
 use Rattle.heap_model.specs.graph.Graph.{Graph}
 use Rattle.core_machine.specs.declared.place.Place.TheVariants as places
-use Rattle.core_machine.specs.seat.Commands.{IsRecord, target_of}
+use Rattle.core_machine.specs.seat.Commands.{IsRecordCall, target_of}
 use Rattle.core_machine.specs.seat.Fits.{IsAtRest}
 use Rattle.core_machine.specs.machine.Machine.{State, seat_at, call_start, MayBegin, Begins, state_after}
 use Rattle.core_machine.specs.seat.Registers.{register_in}
@@ -32,7 +32,7 @@ use Rattle.core_rule.proofs.entries.Starting.{bare_spineless, Starts, starts_oth
 
 -- the begin of any call but a new record's keeps the rule
 pub begin_others_keep : (heap : Heap) (state : State) (book : Book) (number : ℕ) (command : Command) → Rule heap state book → number < heap.seats
-    → MayBegin (seat_at state number) command → (IsRecord command → ⊥) → IsMachine heap (state_after heap state (Begins number command))
+    → MayBegin (seat_at state number) command → (IsRecordCall command → ⊥) → IsMachine heap (state_after heap state (Begins number command))
     → Keeps heap state (state_after heap state (Begins number command)) book (begins number (length book.history) book.begun) []
 begin_others_keep heap state book number command rule here may other machine =
     let old : Seat = seat_at state number in

@@ -14,6 +14,7 @@ use Rattle.core_machine.specs.machine.Machine.{seat_at}
 use Rattle.core_machine.specs.table.Decode.{payload_in}
 use Rattle.core_machine.specs.table.Layout.{at, spine_place}
 use Rattle.core_machine.proofs.seat_lemmas.FieldPlaces.{field_cases}
+use Rattle.core_rule.specs.Replicas.{ReadsSpine}
 use Rattle.core_rule.specs.Counts.{Awaits}
 use Rattle.core_rule.specs.Objects.{node_at}
 use Rattle.core_rule.specs.Roots.{AtCall}
@@ -37,8 +38,8 @@ index_keeps heap state book number rule here place machine =
     let index : ℕ = locates.index in
     let way = locates.way in
     let k : ℕ = field_of seat.command / 4 in
-    let address : AddressAt heap state.words book seat (places.Access Indexing) = rw place at names.address in
-    let its = names_cell heap state.words g book.made book.owner book.fragments rule.machine.limits stands.control_words stands.ids stands.objects book.spine_owner seat locates address in
+    let reads : ReadsSpine heap state.words (node_at g book.made) book.owner book.fragments book.spines book.spine_owner seat = rw place at names.address in
+    let its = names_cell heap state.words g book.made book.owner book.fragments rule.machine.limits stands.control_words stands.ids stands.objects book.spine_owner seat locates reads in
     let found : ℕ = payload_in (at heap state.words (spine_place seat.address k)) in
     let to : Access = field_place_of (record seat { reached = found }) seat.command in
     let new : Seat = on_way heap state book number rule here Indexing place (λ answered. answered) (λ d r awaited. awaited) found seat.links seat.part seat.address to in
@@ -49,7 +50,7 @@ index_keeps heap state book number rule here place machine =
     way_goes heap state book number rule here Indexing place (λ answered. answered) (λ d r awaited. awaited) (spine_place seat.address k) found seat.links seat.part seat.address to
     (field_cases (λ to. Awaits g book.made book.owner book.fragments number new (places.Access to) []) seat seat.command refl (λ on. refl) (λ off. refl))
     (field_cases (λ to. AccessStands (node_at g book.made) book.made book.owner book.fragments new to) seat seat.command finds (λ on. finds) (λ off. (finds, unloaded)))
-    (field_cases (λ to. AddressAt heap state.words book new (places.Access to)) seat seat.command tt (λ on. tt) (λ off. tt))
+    (field_cases (λ to. AddressAt heap state.words book new (places.Access to)) seat seat.command reads (λ on. reads) (λ off. reads))
     (field_cases (λ to. IsUnwatched (has_barrier_of seat) to) seat seat.command tt (λ on. tt) (λ off. off))
     (λ marks roots.
     let comes : IsReachedNow heap state book found

@@ -11,6 +11,7 @@ use Rattle.core_machine.specs.table.Layout.{at}
 use Rattle.core_machine.specs.machine.Machine.{seat_at}
 use Rattle.core_machine.specs.seat.AccessMoves.{locate_move}
 use Rattle.core_machine.specs.seat.Seat.{Seat}
+use Rattle.core_rule.specs.Book.{fragment_at}
 use Rattle.core_rule.specs.Objects.{node_at}
 use Rattle.core_rule.specs.Owners.{Kept}
 use Rattle.core_rule.specs.Ways.{Locates}
@@ -20,6 +21,7 @@ use Rattle.core_rule.proofs.steps.Assemble.{StepKeeps}
 use Rattle.core_rule.proofs.steps.access.WaySteps.{way_goes}
 use Rattle.core_rule.proofs.ways.KeptWords.{spine_found}
 use Rattle.core_rule.proofs.ways.OnwardWays.{locates_at}
+use Rattle.core_rule.proofs.ways.LoadedPlaces.{called_head}
 
 pub locate_keeps : StepKeeps (places.Access Locating) (λ heap number. locate_move)
 locate_keeps heap state book number rule here place machine =
@@ -34,8 +36,10 @@ locate_keeps heap state book number rule here place machine =
     = ap (λ f. spot_in (at heap state.words (Word f 2))) way.here
     ∙ spine_found heap state.words g book.made book.owner book.fragments rule.machine.limits stands.control_words stands.ids stands.objects index way.below way.kept locates.an_array
     (spine_placed rule index way.below way.kept locates.an_array) in
-    let sentinel : book.owner seat.reached ≡ Kept index 0 = ap book.owner way.here ∙ way.kept in
     way_goes heap state book number rule here Locating place (λ answered. answered) (λ d r awaited. awaited) (Word seat.reached 2) seat.reached seat.links seat.part found Indexing refl
     (locates_at (node_at g book.made) book.made book.owner book.fragments seat found Indexing _ locates)
-    (λ i is. let both : Kept index 0 ≡ Kept i 0 = sym sentinel ∙ is in let same : index ≡ i = cc in inl (spine ∙ ap book.spines same))
+    (λ i f calls is an_array.
+    let head : f ≡ fragment_at (book.fragments index) 0 = called_head book.made book.owner book.fragments seat index 0 f way calls in
+    let both : Kept index 0 ≡ Kept i 0 = sym way.kept ∙ ap book.owner (sym head) ∙ is in
+    let same : index ≡ i = cc in inl (spine ∙ ap book.spines same))
     tt (λ marks roots. at_call (IsReachedNow heap state book) seat Locating place roots) machine

@@ -15,6 +15,7 @@ use Rattle.core_machine.specs.seat.AccessMoves.{old_move, new_register_of}
 use Rattle.core_machine.specs.seat.Registers.{register_head}
 use Rattle.core_machine.specs.seat.Seat.{Seat, with_entries}
 use Rattle.core_machine.specs.machine.Value.{IsMachine}
+use Rattle.core_rule.specs.Replicas.{ReadsSpine}
 use Rattle.core_rule.specs.Colours.{IsMarked, WordPointsTo}
 use Rattle.core_rule.specs.Roots.{IsInMarking, OfRoots}
 use Rattle.core_rule.specs.Objects.{node_at}
@@ -41,6 +42,7 @@ old_keeps heap state book number rule here place machine =
     let plain : is_meta found ≡ false = field_plain heap state.words g book.made book.owner book.fragments rule.machine.limits old.control_words old.ids old.objects seat fits.0.2.arrived finds in
     let new_head : Option ℕ = register_head (new_register_of seat) in
     let on = loads_on heap state book number rule here LoadingOld place (λ answered. answered) (λ d r awaited. awaited) found in
+    let reads : ReadsSpine heap state.words (node_at g book.made) book.owner book.fragments book.spines book.spine_owner seat = rw place at (rule.seats_stand number here).names.address in
     let at_next = λ (next : Access). finds_at (node_at g book.made) book.made book.owner book.fragments seat found next (seat.mine ++ []) finds in
     let leads : (x : ℕ) → WordPointsTo heap state.words seat.reached seat.part x → head_of found ≡ Some x = λ x leads. sym (plain_lead seat.part found plain) ∙ lead_of_word heap state.words seat.reached seat.part x fits.0.2.part_within leads in
     let unloaded = λ (next : Access). none_old book.made book.owner book.fragments (went seat seat.registers seat.reached seat.links seat.part seat.address found (places.Access next) seat.looks []) in
@@ -50,12 +52,12 @@ old_keeps heap state book number rule here place machine =
     let by_head : (o : Option ℕ) → head_of found ≡ o → goal o = λ o. elim o as (λ x. head_of found ≡ x → goal x) [
       | None ↦ λ none. new_cases (λ next. IsMachine heap (loaded_state heap state number (Word seat.reached seat.part) (went seat seat.registers seat.reached seat.links seat.part seat.address found (places.Access next) seat.looks []))
           → Keeps heap state (loaded_state heap state number (Word seat.reached seat.part) (went seat seat.registers seat.reached seat.links seat.part seat.address found (places.Access next) seat.looks [])) book book.begun []) new_head
-          (λ no_new. on Swapping (λ s. refl) (λ words b s. tt) (at_next Swapping, unloaded Swapping none) (λ making x lead. absurd (cc (none, leads x lead)))
+          (λ no_new. on Swapping (λ s. refl) reads (at_next Swapping, unloaded Swapping none) (λ making x lead. absurd (cc (none, leads x lead)))
           (λ is_on. (none_holds (IsMarked book.colour) (head_of found) none, none_holds (IsMarked book.colour) new_head no_new)) reached)
-          (λ f some. on ShadingNew (λ s. refl) (λ words b s. tt) (at_next ShadingNew, unloaded ShadingNew none) (λ making x lead. absurd (cc (none, leads x lead))) (none_holds (IsMarked book.colour) (head_of found) none) reached)
+          (λ f some. on ShadingNew (λ s. refl) reads (at_next ShadingNew, unloaded ShadingNew none) (λ making x lead. absurd (cc (none, leads x lead))) (none_holds (IsMarked book.colour) (head_of found) none) reached)
       | Some f ↦ λ some.
           let head = loaded_kept heap state.words g book.made book.owner book.fragments rule.machine.limits old.control_words old.ids old.objects seat fits.0.2.arrived finds f some in
-          on ShadingOld (λ s. refl) (λ words b s. tt) (at_next ShadingOld, record { index = head.index; below = head.below; kept = head.kept; loads = some ∙ ap Some head.is })
+          on ShadingOld (λ s. refl) reads (at_next ShadingOld, record { index = head.index; below = head.below; kept = head.kept; loads = some ∙ ap Some head.is })
           (λ making x lead. inl (leads x lead)) tt
           (λ marks roots. (reached marks roots, some_holds (IsReachedNow heap state book) (head_of found) f some (field_comes heap state book number rule here marks (reached marks roots) fits.0.2.part_within plain f head some)))
     ] in

@@ -1,5 +1,5 @@
 -- Going on by a fragment's first word keeps the rule.
-use Rattle.std.proofs.Common.{◌≡◌, ℕ, ◌-◌, ◌<◌, [], refl, subst}
+use Rattle.std.proofs.Common.{◌≡◌, ℕ, ◌-◌, ◌<◌, Bool, true, false, [], refl, subst, arith}
 use Rattle.heap_model.specs.declared.heap.Heap.{Heap}
 use Rattle.heap_model.specs.account.Cycles.{graph_of}
 use Rattle.heap_model.specs.graph.Graph.{Graph}
@@ -21,6 +21,7 @@ use Rattle.core_rule.specs.Gathers.{IsAnswered}
 use Rattle.core_rule.specs.Roots.{IsInMarking, AtCall, OfRoots}
 use Rattle.core_rule.specs.Objects.{node_at}
 use Rattle.core_rule.specs.Registers.{IsAwaited}
+use Rattle.core_rule.specs.Replicas.{ReadsSpine}
 use Rattle.core_rule.specs.Rule.{Rule}
 use Rattle.core_rule.specs.Ways.{Finds}
 use Rattle.core_rule.proofs.frames.SeatFrames.{AddressAt}
@@ -28,6 +29,7 @@ use Rattle.core_rule.proofs.steps.Assemble.{Keeps, StepKeeps, seat_fits}
 use Rattle.core_rule.proofs.marking.CallRoots.{IsReachedNow, at_call, link_comes}
 use Rattle.core_rule.proofs.steps.Loads.{loaded_state}
 use Rattle.core_rule.proofs.steps.access.WaySteps.{on_way, way_goes}
+use Rattle.core_rule.proofs.ways.LoadedPlaces.{record_reads}
 use Rattle.core_rule.proofs.ways.OnwardWays.{way_unwatched, way_cases, onward_cases, way_stands, finds_at, finds_on}
 use Rattle.core_rule.proofs.cycle.Unwatched.{IsUnwatched}
 
@@ -51,15 +53,16 @@ module _ (heap : Heap) (state : State) (book : Book) (number : ℕ) (rule : Rule
   -- a seat that goes on to this place
   goes_to : (reached links part : ℕ) (next : Seat) → has_barrier_of next ≡ has_barrier_of seat
       → Finds (node_at g book.made) book.made book.owner book.fragments (gone reached links part next)
+      → ReadsSpine heap state.words (node_at g book.made) book.owner book.fragments book.spines book.spine_owner seat
       → (IsInMarking state.collector → IsReachedNow heap state book seat.reached → IsReachedNow heap state book reached)
       → IsMachine heap (loaded_state heap state number (Word seat.reached 0) (gone reached links part next))
       → Keeps heap state (loaded_state heap state number (Word seat.reached 0) (gone reached links part next)) book book.begun []
-  goes_to reached links part next same finds comes machine =
+  goes_to reached links part next same finds reads comes machine =
       let new : Seat = gone reached links part next in
       way_goes heap state book number rule here from place unanswered unnamed (Word seat.reached 0) reached links part seat.address (way_place_of next)
       (way_cases (λ place. Awaits g book.made book.owner book.fragments number new (places.Access place) []) next refl refl (λ on. refl) (λ off. refl))
       (way_stands (node_at g book.made) book.made book.owner book.fragments new next unloaded finds)
-      (way_cases (λ place. AddressAt heap state.words book new (places.Access place)) next tt tt (λ on. tt) (λ off. tt))
+      (way_cases (λ place. AddressAt heap state.words book new (places.Access place)) next tt reads (λ on. reads) (λ off. reads))
       (subst (λ b. IsUnwatched b (way_place_of next)) same (way_unwatched next))
       (λ marks roots.
       let there = comes marks (reaches roots) in
@@ -67,19 +70,22 @@ module _ (heap : Heap) (state : State) (book : Book) (number : ℕ) (rule : Rule
       machine
 
   -- the way goes on, or the field's fragment is reached
-  pub onward_keeps : (links part : ℕ) → Finds (node_at g book.made) book.made book.owner book.fragments (record seat { links = links; part = part })
+  pub onward_keeps : (links part : ℕ) (finds : Finds (node_at g book.made) book.made book.owner book.fragments (record seat { links = links; part = part }))
+      → (node_at g book.made finds.index).array ≡ false
       → IsMachine heap (loaded_state heap state number (Word seat.reached 0) (with_entries (after_walk (record seat { links = links; part = part }) found_first) []))
       → Keeps heap state (loaded_state heap state number (Word seat.reached 0) (with_entries (after_walk (record seat { links = links; part = part }) found_first) [])) book book.begun []
-  onward_keeps links part finds =
+  onward_keeps links part finds kind =
       let on : Seat = record seat { links = links; part = part } in
+      let reads : ReadsSpine heap state.words (node_at g book.made) book.owner book.fragments book.spines book.spine_owner seat
+      = record_reads heap state.words (node_at g book.made) book.made book.owner book.fragments book.spines book.spine_owner on finds.index finds.row finds.way kind in
       onward_cases (λ s. IsMachine heap (loaded_state heap state number (Word seat.reached 0) (with_entries s []))
       → Keeps heap state (loaded_state heap state number (Word seat.reached 0) (with_entries s [])) book book.begun []) on found_first
       (λ arrived. goes_to seat.reached links part on refl
-      (finds_at (node_at g book.made) book.made book.owner book.fragments on seat.loaded (way_place_of on) _ finds) (λ marks comes. comes))
+      (finds_at (node_at g book.made) book.made book.owner book.fragments on seat.loaded (way_place_of on) _ finds) reads (λ marks comes. comes))
       (λ more. goes_to (link_of found_first) (links - 1) part (after_link on found_first) refl
       (finds_on heap state.words g book.made book.owner book.fragments rule.machine.limits rule.heap_stands.control_words rule.heap_stands.ids rule.heap_stands.objects
       on seat.loaded (way_place_of (after_link on found_first)) _ more finds)
-      (λ marks comes. link_comes heap state book number rule here marks comes links part more finds))
+      reads (λ marks comes. link_comes heap state book number rule here marks comes links part more finds))
 
 -- walking a link keeps the rule
 pub walk_keeps : StepKeeps (places.Access Walking) (λ heap number. walk_move)
@@ -88,4 +94,13 @@ walk_keeps heap state book number rule here place machine =
     = rw place at (rule.seats_stand number here).names.way in
     let walks : SeatIsOnWay (seat_at state number) = rw place at (seat_fits rule number here).way_at_place in
     onward_keeps heap state book number rule here Walking place (λ answered. answered) (λ d r awaited. awaited)
-    walks.none_loaded (at_call (IsReachedNow heap state book) (seat_at state number) Walking place) (seat_at state number).links (seat_at state number).part finds machine
+    walks.none_loaded (at_call (IsReachedNow heap state book) (seat_at state number) Walking place) (seat_at state number).links (seat_at state number).part finds (no_array finds walks.more) machine
+  where
+    -- to a cell of an array no link leads
+    no_array : (finds : Finds (node_at (graph_of heap book.history) book.made) book.made book.owner book.fragments (seat_at state number)) → 0 < (seat_at state number).links
+        → (node_at (graph_of heap book.history) book.made finds.index).array ≡ false
+    no_array finds more = by (node_at (graph_of heap book.history) book.made finds.index).array refl
+      where
+        by : (b : Bool) → (node_at (graph_of heap book.history) book.made finds.index).array ≡ b → (node_at (graph_of heap book.history) book.made finds.index).array ≡ false
+        by false is = is
+        by true is = absurd (omega (arith, more, finds.field.linked is))

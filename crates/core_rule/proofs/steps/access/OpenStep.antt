@@ -133,7 +133,7 @@ module _ (heap : Heap) (state : State) (book : Book) (number : ℕ) (rule : Rule
         row = 0;
         way = record { below = way.below; kept = way.kept; holds = way.holds; here = way.here };
         field = record { within = within; leads = (let row : 0 + row_of (field_of seat.command) ≡ row_of (field_of seat.command) = omega arith in row) ∙ rw kind refl; linked = λ array. absurd (cc (kind, array)); there = rw kind refl };
-      }))
+      } kind))
 
 -- loading the length keeps the rule
 pub open_keeps : StepKeeps (places.Access LoadingMeta) (λ heap. open_move)

@@ -15,6 +15,7 @@ use Rattle.core_machine.specs.seat.Access.{has_barrier_of}
 use Rattle.core_machine.specs.seat.AccessMoves.{shade_new_move, new_register_of}
 use Rattle.core_machine.specs.seat.Registers.{register_head}
 use Rattle.core_machine.specs.seat.Seat.{Seat}
+use Rattle.core_rule.specs.Replicas.{ReadsSpine}
 use Rattle.core_rule.specs.Book.{Colour}
 use Rattle.core_rule.specs.Colours.{IsMarked, IsBetween}
 use Rattle.core_rule.specs.Flight.{DeletionBarrier, FieldStands, ShadedStands, WhileAccess}
@@ -40,6 +41,7 @@ shade_new_keeps heap state book number rule here place machine =
     let stands = rule.seats_stand number here in
     let fits : SeatIsAtSet seat × (has_barrier_of seat ≡ true) × IsSome (register_head (new_register_of seat)) = rw place at (seat_fits rule number here).way_at_place in
     let way : Finds (node_at g book.made) book.made book.owner book.fragments seat × OldKept book.made book.owner book.fragments seat = rw place at stands.names.way in
+    let reads : ReadsSpine heap state.words (node_at g book.made) book.owner book.fragments book.spines book.spine_owner seat = rw place at stands.names.address in
     let f : ℕ = unwrap_or (register_head (new_register_of seat)) 0 in
     let some : register_head (new_register_of seat) ≡ Some f = whole (register_head (new_register_of seat)) fits.2 in
     let refers = held_refers book.made book.owner book.fragments (new_register_of seat) (register_value g number (source_of seat.command))
@@ -51,7 +53,7 @@ shade_new_keeps heap state book number rule here place machine =
     = subst (λ x. IsBetween 2 5 p → IsBetween 2 5 seat.answered → WhileAccess (FieldStands heap state.words book.colour seat) x) place stands.cycle.flight.set in
     let was : IsBetween 1 5 p → IfSome (head_of seat.loaded) (IsMarked book.colour)
     = subst (λ x. IsBetween 1 5 p → WhileAccess (ShadedStands book.colour seat) x) place stands.cycle.flight.shaded in
-    shades_on heap state book number rule here ShadingNew place (λ answered. answered) (λ d r awaited. awaited) f head fits.1 Swapping (λ s. refl) (λ words b s. tt) (
+    shades_on heap state book number rule here ShadingNew place (λ answered. answered) (λ d r awaited. awaited) f head fits.1 Swapping (λ s. refl) reads (
       finds_at (node_at g book.made) book.made book.owner book.fragments seat seat.loaded Swapping (seat.mine ++ []) way.0,
       λ (some : IsSome (head_of seat.loaded)). loaded_at book.made book.owner book.fragments seat Swapping (seat.mine ++ []) (way.1 some),
     )

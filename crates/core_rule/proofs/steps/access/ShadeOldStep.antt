@@ -14,6 +14,7 @@ use Rattle.core_machine.specs.seat.AccessMoves.{shade_old_move, loaded_head_of, 
 use Rattle.core_machine.specs.seat.Registers.{register_head}
 use Rattle.core_machine.specs.seat.Seat.{Seat}
 use Rattle.core_machine.specs.machine.Value.{IsMachine}
+use Rattle.core_rule.specs.Replicas.{ReadsSpine}
 use Rattle.core_rule.specs.Book.{Colour, fragment_at}
 use Rattle.core_rule.specs.Colours.{IsMarked, WordPointsTo, IsBetween}
 use Rattle.core_rule.specs.Flight.{DeletionBarrier, FieldStands, WhileAccess}
@@ -39,6 +40,7 @@ shade_old_keeps heap state book number rule here place machine =
     let stands = rule.seats_stand number here in
     let fits : SeatIsAtSet seat × (has_barrier_of seat ≡ true) × IsSome (head_of seat.loaded) = rw place at (seat_fits rule number here).way_at_place in
     let way : Finds (node_at g book.made) book.made book.owner book.fragments seat × LoadedKept book.made book.owner book.fragments seat = rw place at stands.names.way in
+    let reads : ReadsSpine heap state.words (node_at g book.made) book.owner book.fragments book.spines book.spine_owner seat = rw place at stands.names.address in
     let f : ℕ = loaded_head_of seat in
     let is : f ≡ fragment_at (book.fragments way.1.index) 0 = from_some (head_of seat.loaded) _ way.1.loads in
     let loads : head_of seat.loaded ≡ Some f = way.1.loads ∙ ap Some (sym is) in
@@ -64,7 +66,7 @@ shade_old_keeps heap state book number rule here place machine =
     new_cases (λ next. IsMachine heap (record state { words = words_shaded heap state book number rule here f head.index head.kept head.is; seats = slice_set state.seats number (shading seat seat.shaded (places.Access next)) })
     → Keeps heap state (record state { words = words_shaded heap state book number rule here f head.index head.kept head.is; seats = slice_set state.seats number (shading seat seat.shaded (places.Access next)) }) book book.begun [])
     (register_head (new_register_of seat))
-    (λ no_new. on Swapping (λ s. refl) (λ words b s. tt) (at_next Swapping, kept_at Swapping) (λ making snapped. field making snapped)
+    (λ no_new. on Swapping (λ s. refl) reads (at_next Swapping, kept_at Swapping) (λ making snapped. field making snapped)
     (λ making is_on. (marked, none_holds (IsMarked coloured) (register_head (new_register_of seat)) no_new)) comes reached named)
-    (λ x some. on ShadingNew (λ s. refl) (λ words b s. tt) (at_next ShadingNew, kept_at ShadingNew) field (λ making. marked) comes reached named)
+    (λ x some. on ShadingNew (λ s. refl) reads (at_next ShadingNew, kept_at ShadingNew) field (λ making. marked) comes reached named)
     machine

@@ -40,7 +40,7 @@ use Rattle.core_machine.specs.seat.Seat.{Seat, HasNumberLeft}
 use Rattle.core_rule.specs.Book.{fragment_at, id_at, object_head}
 use Rattle.core_rule.specs.Objects.{AreMade, NamesKept, Objects, node_at, value_word}
 use Rattle.core_rule.specs.Registers.{HoldsValue}
-use Rattle.core_rule.specs.Ways.{Finds, OldKept, row_in, part_in}
+use Rattle.core_rule.specs.Ways.{Finds, OldKept, row_in, field_part}
 use Rattle.core_rule.proofs.steps.Assemble.{StepKeeps}
 use Rattle.core_rule.proofs.entries.AtRest.{seat_fits, in_flight, spent_own, few_own, none_awaited}
 use Rattle.core_rule.proofs.graph.CellSet.{Sets, sets_cell}
@@ -116,7 +116,7 @@ swap_keeps heap state book number rule here place machine =
     let there : node g id ≡ Some object = made_node (node g id) (ids.in_graph n finds.way.below) in
     let old : Cell = get_or cells i unset in
     let old_there : slice_get cells i ≡ Some old = slice_get-get_or cells i unset finds.field.within in
-    let field : Address = Word (fragment_at (book.fragments n) (row_in object i)) (part_in object i) in
+    let field : Address = Word (fragment_at (book.fragments n) (row_in object i)) (field_part object i) in
     let arrived : Word seat.reached seat.part ≡ field
     = field_reached heap state.words g book.made book.owner book.fragments rule.machine.limits rule.heap_stands.control_words ids objects seat finds fits.0.2.arrived in
     let word : ℕ = new_word_of number seat in

@@ -28,7 +28,7 @@ use Rattle.core_rule.proofs.spines.Leaving.{has_place_present, arrays_here, hand
 use Rattle.core_rule.proofs.spines.LeftHalf.{let_go, spines_let_go, hand_let_go, address_let_go}
 use Rattle.core_rule.proofs.spines.PhaseSpaces.{EndsPhase, lets_other}
 use Rattle.core_rule.proofs.steps.TurnSteps.{StageKeeps, TurnKeeps}
-use Rattle.core_rule.proofs.steps.collector.PhaseTurn.{BeginsNext, MayLetGo, words_next, later, graph, leads_next, all_answer, next_told, all_stay, phase_turns}
+use Rattle.core_rule.proofs.steps.collector.PhaseTurn.{BeginsNext, MayLetGo, words_next, later, graph, leads_next, all_answer, next_told, all_stay, phase_turns, marks_next}
 
 pub advance_begins : (now : ℕ) → BeginsNext now (Advance (now + 1))
 advance_begins now = record {
@@ -83,15 +83,7 @@ module _ (heap : Heap) (state : State) (book : Book) (rule : Rule heap state boo
   ]
 
   marks_then : MarkingStands heap (words_next heap state book rule has_looked.all (Advance (p + 1)) (advance_begins p)) book.owner book.colour book.fragments (p + 1) stages.Looking
-  marks_then = record {
-    grey = rule.marks_stand.heap_marks.grey;
-    scan = tt;
-    few = tt;
-    pass = tt;
-    sweep_stands = tt;
-    alive = alive_then;
-    after = after_then;
-  }
+  marks_then = marks_next heap state book rule has_looked.all (Advance (p + 1)) (advance_begins p) alive_then after_then
 
   -- nothing is copied or returned then
   ends_phase : EndsPhase p state.collector.stage

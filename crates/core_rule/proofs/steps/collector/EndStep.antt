@@ -19,7 +19,7 @@ use Rattle.core_rule.proofs.cycle.NextPhase.{coloured_rest}
 use Rattle.core_rule.proofs.entries.Legality.{legal_more, keeps_ends}
 use Rattle.core_rule.proofs.spines.PhaseSpaces.{EndsPhase}
 use Rattle.core_rule.proofs.steps.TurnSteps.{TurnKeeps}
-use Rattle.core_rule.proofs.steps.collector.PhaseTurn.{BeginsNext, words_next, all_stay, phase_turns}
+use Rattle.core_rule.proofs.steps.collector.PhaseTurn.{BeginsNext, words_next, all_stay, phase_turns, marks_next}
 
 end_begins : (now cycle kept : ℕ) → now % 7 ≡ 6 → BeginsNext now (Ends cycle kept)
 end_begins now cycle kept last = record {
@@ -79,15 +79,7 @@ module _ (kept : ℕ) (heap : Heap) (state : State) (book : Book) (rule : Rule h
   ]
 
   marks_then : MarkingStands heap (words_next heap state book rule has_cleared.all entry (end_begins p (p / 7) kept has_cleared.for_clearing)) book.owner book.colour book.fragments (p + 1) stages.Looking
-  marks_then = record {
-    grey = rule.marks_stand.heap_marks.grey;
-    scan = tt;
-    few = tt;
-    pass = tt;
-    sweep_stands = tt;
-    alive = λ unsettled. none_dead;
-    after = not_after;
-  }
+  marks_then = marks_next heap state book rule has_cleared.all entry (end_begins p (p / 7) kept has_cleared.for_clearing) (λ unsettled. none_dead) not_after
 
 -- the end of a cycle keeps the rule
 pub end_keeps : (kept : ℕ) (heap : Heap) (state : State) (book : Book) → Rule heap state book → state.collector.stage ≡ stages.Ending kept

@@ -17,7 +17,7 @@ use Rattle.core_machine.specs.table.Decode.{id_of}
 use Rattle.core_machine.specs.table.Layout.{at, FitsSpot}
 use Rattle.core_rule.specs.Book.{Book, fragment_at}
 use Rattle.core_rule.specs.Objects.{IsKept, node_at}
-use Rattle.core_rule.specs.Replicas.{AreMarked, BeginsArray, IsFound}
+use Rattle.core_rule.specs.Replicas.{VisitIsMarked, BeginsArray, HasFoundArray}
 use Rattle.core_rule.specs.Rule.{Rule}
 use Rattle.core_rule.specs.Spines.{next_spine}
 use Rattle.core_rule.proofs.copies.BegunArrays.{begun_name, begun_fits, begun_spine, begun_alone}
@@ -26,7 +26,7 @@ use Rattle.core_rule.proofs.copies.VisitsOn.{arrays_from, arrays_behind, found_f
 use Rattle.core_rule.proofs.steps.TurnSteps.{StageKeeps}
 
 module _ (heap : Heap) (state : State) (book : Book) (rule : Rule heap state book) (visit : Visit) (words : ℕ) (naming : state.collector.stage ≡ stages.Copying (Naming visit words)) where
-  found : AreMarked book.colour visit × BeginsArray (node_at (graph_of heap book.history) book.made) book.owner (visited visit) words
+  found : VisitIsMarked book.colour visit × BeginsArray (node_at (graph_of heap book.history) book.made) book.owner (visited visit) words
   found = found_from heap state book rule (Naming visit words) naming
 
   abbrev named : ArrayAt
@@ -48,7 +48,7 @@ module _ (heap : Heap) (state : State) (book : Book) (rule : Rule heap state boo
   abbrev from : Spot
   from = spot_in (at heap state.words (Word (sentinel_at array) 2))
 
-  located : IsFound (node_at (graph_of heap book.history) book.made) book.made book.owner book.colour array
+  located : HasFoundArray (node_at (graph_of heap book.history) book.made) book.made book.owner book.colour array
   located = found_from heap state book rule (Locating array) locating
 
   free : IsFree (stages.Copying (Locating array))

@@ -1,7 +1,6 @@
 -- The collector frees the dead fragments of a group: that keeps the rule.
 use Rattle.std.proofs.Common.{◌≡◌, ℕ, zero, suc, ◌%◌, ◌≤◌, List, [], ◌∷◌, ◌++◌, length, count_ones, inl, inr, refl, sym, ap, ◌∙◌, subst, arith}
 use Rattle.std.proofs.lemmas.Bool.Decides.{eqb_tells}
-use Rattle.std.proofs.lemmas.List.Elements.{filter-append}
 use Rattle.std.proofs.lemmas.Nat.{zero_from_ones}
 use Rattle.heap_model.specs.declared.entry.Entry.TheVariants.{Frees}
 use Rattle.heap_model.specs.declared.heap.Heap.{Heap}
@@ -15,14 +14,13 @@ use Rattle.core_machine.specs.machine.Machine.{State}
 use Rattle.core_machine.specs.machine.Sums.{sum_upto}
 use Rattle.core_machine.specs.machine.Value.{IsMachine}
 use Rattle.core_rule.specs.Book.{Book}
-use Rattle.core_rule.specs.Budgets.{SweepCounts, dead_sum, words_of, nodes_in, returning}
-use Rattle.core_rule.specs.Counts.{is_collectors}
+use Rattle.core_rule.specs.Budgets.{SweepCounts, dead_sum, words_of_object, nodes_in, returning}
 use Rattle.core_rule.specs.Marking.{AfterMarking, MarkingStands}
 use Rattle.core_rule.specs.Sweep.{AreFreed, AreDead, SweepStands}
 use Rattle.core_rule.specs.Objects.{node_at}
 use Rattle.core_rule.specs.Phases.{CollectorAgrees}
 use Rattle.core_rule.specs.Rule.{Rule}
-use Rattle.core_rule.proofs.entries.PhaseEntries.{phase_stays, answered_stays, left_stays}
+use Rattle.core_rule.proofs.entries.ToldTurns.{agrees_told}
 use Rattle.core_rule.proofs.footprint.BookGoing.{owners_go}
 use Rattle.core_rule.proofs.footprint.OwnersGo.{free_goes}
 use Rattle.core_rule.proofs.frames.Freeing.{words_freed, book_freed, graph_freed, same, leaves_spines, told_freed, heap_freed, seat_freed}
@@ -69,15 +67,7 @@ module _ (heap : Heap) (state : State) (book : Book) (rule : Rule heap state boo
   freed n = record state.collector { stage = after_freed heap group counted; log = state.collector.log ++ Frees n ∷ [] }
 
   agrees : CollectorAgrees heap (freed (length (set_in group dead))) now.history
-  agrees =
-      let entry = Frees (length (set_in group dead)) in
-      let stands = rule.collector_stands in
-      record {
-        log = rw (filter-append is_collectors book.history (entry ∷ []), stands.log) refl;
-        phase_told = stands.phase_told ∙ sym (phase_stays book.history entry refl);
-        looked = λ number less below present.
-            answered_stays book.history entry number refl ∙ stands.looked number less below (sym (left_stays book.history entry number refl) ∙ present) ∙ sym (phase_stays book.history entry refl);
-      }
+  agrees = agrees_told heap book.history state.collector (after_freed heap group counted) (Frees (length (set_in group dead))) refl refl refl (λ number. refl) rule.collector_stands
 
   marks : MarkingStands heap words now.owner book.colour book.fragments state.collector.phase (after_freed heap group counted)
   marks = freed_further heap words now.owner book.colour book.fragments state.collector.phase fits.sweeps.for_sweep
@@ -85,7 +75,7 @@ module _ (heap : Heap) (state : State) (book : Book) (rule : Rule heap state boo
       (owners.freed_further book.owner group dead fits.dead_within told.1 told.0)
 
   abbrev spine_words : ℕ → ℕ
-  spine_words = words_of (nodes_in heap book)
+  spine_words = words_of_object (nodes_in heap book)
 
   -- the spine words of what is freed are returned next
   counts : counted ≡ sum_upto 16 (at_place heap spine_words book.owner group dead told.1)
@@ -116,14 +106,14 @@ module _ (heap : Heap) (state : State) (book : Book) (rule : Rule heap state boo
       let history = told_freed heap state book rule group dead fits.sweeps.group_within fits.dead_within told.1 in
       let none : returning state.collector.stage ≡ 0 = rw freeing refl in
       let less = dead_less heap spine_words book.owner group dead fits.sweeps.group_within fits.dead_within told.1 in
-      let same_graph = ap (λ (g : Graph). dead_sum heap (words_of (node_at g book.made)) now.owner) (graph_freed heap state book rule group dead fits.sweeps.group_within fits.dead_within told.1) in
+      let same_graph = ap (λ (g : Graph). dead_sum heap (words_of_object (node_at g book.made)) now.owner) (graph_freed heap state book rule group dead fits.sweeps.group_within fits.dead_within told.1) in
       record {
         less = omega (arith, none, less, same_graph, counts, returns_next);
         budget = omega (arith, leaves.budget);
         granted = history.granted;
         told = omega (arith, history.returned);
         in_cycle = omega (arith, history.in_cycle);
-        counts = after_freed_either (SweepCounts (words_of (nodes_in heap now)) now.owner) heap group counted (after_swept_either (SweepCounts (words_of (nodes_in heap now)) now.owner) heap group tt (λ last. tt)) tt;
+        counts = after_freed_either (SweepCounts (words_of_object (nodes_in heap now)) now.owner) heap group counted (after_swept_either (SweepCounts (words_of_object (nodes_in heap now)) now.owner) heap group tt (λ last. tt)) tt;
       }
 
   keeps : IsMachine heap (after_turn state words (freed (length (set_in group dead))))

@@ -14,7 +14,7 @@ use Rattle.core_machine.specs.table.Decode.{array_length_of}
 use Rattle.core_machine.specs.table.Layout.{at}
 use Rattle.core_rule.specs.Book.{Book, fragment_at}
 use Rattle.core_rule.specs.Objects.{IsKept, node_at}
-use Rattle.core_rule.specs.Replicas.{AreMarked}
+use Rattle.core_rule.specs.Replicas.{VisitIsMarked}
 use Rattle.core_rule.specs.Rule.{Rule}
 use Rattle.core_rule.specs.Spines.{next_spine}
 use Rattle.core_rule.proofs.copies.CopyingStages.{IsFree, LeadsTo, copying_loads, leads_free, fits_from, after_marking}
@@ -29,7 +29,7 @@ module _ (heap : Heap) (state : State) (book : Book) (rule : Rule heap state boo
   fits : FitsVisit heap visit
   fits = fits_from heap state book rule (Inspecting visit) inspecting
 
-  marked : AreMarked book.colour visit
+  marked : VisitIsMarked book.colour visit
   marked = found_from heap state book rule (Inspecting visit) inspecting
 
   free : IsFree (stages.Copying (Inspecting visit))

@@ -11,7 +11,7 @@ use Rattle.core_rule.specs.Colours.{IsMarked, WordPointsTo}
 use Rattle.core_rule.specs.Flight.{DeletionBarrier}
 use Rattle.core_rule.specs.Marking.{IsSeen, MayMark, ComesAfter, MarkingStands}
 use Rattle.core_rule.specs.Rule.{Rule}
-use Rattle.core_rule.specs.Sources.{HasNoSpine}
+use Rattle.core_rule.specs.Sources.{TellsNoSpine}
 use Rattle.core_rule.proofs.colours.LeadsFrames.{SameSources, still_no_spine}
 use Rattle.core_rule.proofs.colours.ShadeColours.{with_mark, mark_keeps, mark_marks}
 use Rattle.core_rule.proofs.footprint.BookGoing.{by_scan, mark_goes}
@@ -37,7 +37,7 @@ module _ (heap : Heap) (state : State) (book : Book) (rule : Rule heap state boo
   fits = rw shading at rule.machine.collector_fit.at_stage
 
   scanned : IsSeen heap state.words book.colour f scan.part × DeletionBarrier heap state.words book.colour f scan.part (Some m)
-      × MayMark book.owner book.colour book.fragments m × ComesAfter book.owner f scan.part next × HasNoSpine heap state.words f
+      × MayMark book.owner book.colour book.fragments m × ComesAfter book.owner f scan.part next × TellsNoSpine heap state.words f
   scanned = rw shading at rule.marks_stand.heap_marks.scan
 
   abbrev words : List ℕ

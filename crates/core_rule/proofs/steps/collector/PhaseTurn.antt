@@ -25,7 +25,8 @@ use Rattle.core_rule.specs.Cycle.{HeapInCycle}
 use Rattle.core_rule.specs.Owners.{Dead, SpineOwner}
 use Rattle.core_rule.specs.Rule.{Rule, HeapStands, SeatStands}
 use Rattle.core_rule.specs.Spines.{HasPlace, next_spine}
-use Rattle.core_rule.specs.Marking.{MarkingStands}
+use Rattle.core_rule.specs.Marking.{MarkingStands, AfterMarking}
+use Rattle.core_rule.specs.Sweep.{IsSettled}
 use Rattle.core_rule.specs.Roots.{OfRoots}
 use Rattle.core_rule.specs.Paths.{IsReached}
 use Rattle.core_rule.proofs.marking.GoneRoots.{gone_roots}
@@ -72,6 +73,11 @@ module _ (heap : Heap) (state : State) (book : Book) (rule : Rule heap state boo
 
   pub next_told : next ≡ phase book.history + 1
   next_told = ap (λ p. p + 1) rule.collector_stands.phase_told
+
+  -- what is marked is as before, where that is right in the next phase
+  pub marks_next : (¬ IsSettled next stages.Looking → (f i k : ℕ) → book.owner f ≢ Dead i k) → (IsSettled next stages.Looking → AfterMarking book.owner book.colour)
+      → MarkingStands heap words_next book.owner book.colour book.fragments next stages.Looking
+  marks_next alive after = record { grey = rule.marks_stand.heap_marks.grey; scan = tt; few = tt; pass = tt; sweep_stands = tt; alive = alive; after = after }
 
   grown : phase later.history ≡ phase book.history + 1
   grown = phase_rises book.history entry begins.phases

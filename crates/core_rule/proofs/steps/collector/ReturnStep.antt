@@ -1,6 +1,5 @@
 -- The collector returns the spine words of a group's arrays that it has freed: that keeps the rule.
 use Rattle.std.proofs.Common.{◌≡◌, ℕ, ◌+◌, ◌-◌, ◌%◌, ◌^◌, ◌<◌, false, List, [], ◌∷◌, ◌++◌, inr, refl, sym, ap, ◌∙◌, subst, arith}
-use Rattle.std.proofs.lemmas.List.Elements.{filter-append}
 use Rattle.heap_model.specs.declared.entry.Entry.{Entry}
 use Rattle.heap_model.specs.declared.entry.Entry.TheVariants.{Returns}
 use Rattle.heap_model.specs.declared.heap.Heap.{Heap}
@@ -23,8 +22,7 @@ use Rattle.core_machine.specs.machine.Machine.{State, seat_at}
 use Rattle.core_machine.specs.table.Layout.{at}
 use Rattle.core_machine.proofs.table_lemmas.Addresses.{at-put_same}
 use Rattle.core_rule.specs.Book.{Book}
-use Rattle.core_rule.specs.Budgets.{SweepCounts, dead_sum, words_of, nodes_in, returning}
-use Rattle.core_rule.specs.Counts.{is_collectors}
+use Rattle.core_rule.specs.Budgets.{SweepCounts, dead_sum, words_of_object, nodes_in, returning}
 use Rattle.core_rule.specs.Marking.{MarkingStands}
 use Rattle.core_rule.specs.Objects.{node_at}
 use Rattle.core_rule.specs.Phases.{CollectorAgrees}
@@ -32,7 +30,7 @@ use Rattle.core_rule.specs.Rule.{Rule, HeapStands, SeatStands}
 use Rattle.core_rule.specs.Sweep.{AreFreed, SweepStands}
 use Rattle.core_rule.proofs.cycle.CycleHistory.{heap_cycle_more, cycle_other}
 use Rattle.core_rule.proofs.entries.Legality.{legal_more, keeps_returns}
-use Rattle.core_rule.proofs.entries.PhaseEntries.{phase_stays, answered_stays, left_stays}
+use Rattle.core_rule.proofs.entries.ToldTurns.{agrees_told}
 use Rattle.core_rule.proofs.footprint.BookGoing.{book_stays}
 use Rattle.core_rule.proofs.frames.BudgetWritten.{budget_words, budget_places, heap_budget, seat_budget}
 use Rattle.core_rule.proofs.frames.EntryFrames.{fragments_same, heap_past, seat_past}
@@ -108,14 +106,7 @@ module _ (heap : Heap) (state : State) (book : Book) (rule : Rule heap state boo
   returned = record state.collector { stage = after_swept heap group; log = state.collector.log ++ entry ∷ [] }
 
   agrees : CollectorAgrees heap returned later.history
-  agrees =
-      let stands = rule.collector_stands in
-      record {
-        log = rw (filter-append is_collectors book.history (entry ∷ []), stands.log) refl;
-        phase_told = stands.phase_told ∙ sym (phase_stays book.history entry refl);
-        looked = λ number less below present.
-            answered_stays book.history entry number refl ∙ stands.looked number less below (sym (left_stays book.history entry number refl) ∙ present) ∙ sym (phase_stays book.history entry refl);
-      }
+  agrees = agrees_told heap book.history state.collector (after_swept heap group) (entry) refl refl refl (λ number. refl) rule.collector_stands
 
   marks : MarkingStands heap words book.owner book.colour book.fragments state.collector.phase (after_swept heap group)
   marks = swept_further heap words book.owner book.colour book.fragments state.collector.phase fits.sweeps.for_sweep (rule.marks_stand.heap_marks.after (inr (inr fits.sweeps.for_sweep))) group told
@@ -135,14 +126,14 @@ module _ (heap : Heap) (state : State) (book : Book) (rule : Rule heap state boo
       (same_kept book.owner) counted
   sweeps_on =
       let none = next (λ stage. returning stage ≡ 0) refl refl in
-      let same = ap (λ (g : Graph). dead_sum heap (words_of (node_at g book.made)) book.owner) graph in
+      let same = ap (λ (g : Graph). dead_sum heap (words_of_object (node_at g book.made)) book.owner) graph in
       record {
         less = omega (arith, about, none, same);
         budget = fallen;
         granted = none_granted_by book.history entry refl;
         told = total-more (λ e. e.returned) book.history entry;
         in_cycle = ap words_returned (after_last-no begins_cycle book.history entry refl) ∙ total-more (λ e. e.returned) (since_cycle book.history) entry;
-        counts = next (SweepCounts (words_of (nodes_in heap later)) book.owner) tt tt;
+        counts = next (SweepCounts (words_of_object (nodes_in heap later)) book.owner) tt tt;
       }
 
 pub return_keeps : (group counted : ℕ) → StageKeeps (stages.Returning group counted)

@@ -19,7 +19,7 @@ use Rattle.core_rule.specs.Colours.{WordPointsTo, IsBetween}
 use Rattle.core_rule.specs.Marking.{IsSeen, IsPart, ScanStands, IsFewWords, PassStands, MarkingStands}
 use Rattle.core_rule.specs.Sweep.{SweepStands, HasMarked}
 use Rattle.core_rule.specs.Rule.{Rule}
-use Rattle.core_rule.specs.Sources.{HasNoSpine}
+use Rattle.core_rule.specs.Sources.{TellsNoSpine}
 use Rattle.core_rule.proofs.colours.SourceCases.{word_leads, lead_of_word}
 use Rattle.core_rule.proofs.marking.MarkingStages.{OfMarking}
 use Rattle.core_rule.proofs.marking.Marks.{marks_at, none_dead}
@@ -41,13 +41,13 @@ module _ (heap : Heap) (state : State) (book : Book) (rule : Rule heap state boo
   fits : IsScanning heap state.collector.phase state.collector.looked scan
   fits = rw scanning at rule.machine.collector_fit.at_stage
 
-  scanned : IsSeen heap state.words book.colour f scan.part × (0 < scan.part → HasNoSpine heap state.words f)
+  scanned : IsSeen heap state.words book.colour f scan.part × (0 < scan.part → TellsNoSpine heap state.words f)
   scanned = rw scanning at rule.marks_stand.heap_marks.scan
 
   seen : IsSeen heap state.words book.colour f scan.part
   seen = scanned.0
 
-  none_there : 0 < scan.part → HasNoSpine heap state.words f
+  none_there : 0 < scan.part → TellsNoSpine heap state.words f
   none_there = scanned.1
 
   part_of : IsPart book.owner f
@@ -76,7 +76,7 @@ module _ (heap : Heap) (state : State) (book : Book) (rule : Rule heap state boo
   few_steps = omega (arith, fits.few_steps, fits.part_within)
 
   -- what the word of a fragment without a spine leads to, if it leads anywhere, is marked next
-  loaded : HasNoSpine heap state.words f → (found : Option ℕ) → pointer_in scan.part word ≡ found → MarksNow (after_scan_load scan next found)
+  loaded : TellsNoSpine heap state.words f → (found : Option ℕ) → pointer_in scan.part word ≡ found → MarksNow (after_scan_load scan next found)
   loaded none None is = marks_after (after_scan_load scan next None) (scan_on_marks (scan_step scan) next)
       (scan_stands heap state.words book.owner book.colour book.fragments (scan_step scan) next none
       (seen_next heap state book rule f part_of state.words book.colour scan.part next (λ p g leads. leads) seen (λ g leads. absurd (cc (is, lead g leads))) (comes_after heap state book rule f part_of scan.part)))

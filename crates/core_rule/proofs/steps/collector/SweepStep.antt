@@ -15,7 +15,7 @@ use Rattle.core_machine.proofs.table_lemmas.DeadBits.{dead_few}
 use Rattle.core_machine.proofs.table_lemmas.Free.{sum_upto-none, sum_upto-more}
 use Rattle.core_machine.specs.table.Layout.{at}
 use Rattle.core_rule.specs.Book.{Book}
-use Rattle.core_rule.specs.Budgets.{SweepCounts, dead_weight, words_of, nodes_in}
+use Rattle.core_rule.specs.Budgets.{SweepCounts, dead_weight, words_of_object, nodes_in}
 use Rattle.core_rule.specs.Halves.{AwaitsCopy}
 use Rattle.core_rule.specs.Marking.{AfterMarking}
 use Rattle.core_rule.specs.Sweep.{AreFreed, AreDead, SweepStands}
@@ -40,7 +40,7 @@ module _ (heap : Heap) (state : State) (book : Book) (rule : Rule heap state boo
 
   -- so the spine space stands, where it has counted right
   spines_on : (from : Stage) → state.collector.stage ≡ from → IsQuiet from → ((f : ℕ) → ¬ AwaitsCopy state.collector.phase from f) → (counted : ℕ) (next : Option ℕ)
-      → SweepCounts (words_of (nodes_in heap book)) book.owner (after_examined heap group dead counted next)
+      → SweepCounts (words_of_object (nodes_in heap book)) book.owner (after_examined heap group dead counted next)
       → StageGoesOn heap state.words book state.collector (at_stage state.collector (after_examined heap group dead counted next))
   spines_on from was before waits counted next counts =
       quiet_goes_on heap state.words state.words book state.collector (at_stage state.collector (after_examined heap group dead counted next)) refl
@@ -71,7 +71,7 @@ sweep_keeps group heap state book rule sweeping machine =
     group bits (dead_few (at heap state.words (Control group))) (freed heap state book rule group sweeping) told 0 (next_place_of bits 0))
     (λ e. e)
     (spines_on heap state book rule for_sweep group bits (stages.Sweeping group) sweeping tt (λ f waits. waits) 0 (next_place_of bits 0)
-    (counts_on heap (words_of (nodes_in heap book)) book.owner group bits told 0 0 (sym (sum_upto-none _)) (omega arith) (next_place_of bits 0) refl))
+    (counts_on heap (words_of_object (nodes_in heap book)) book.owner group bits told 0 0 (sym (sum_upto-none _)) (omega arith) (next_place_of bits 0) refl))
 
 module _ (heap : Heap) (state : State) (book : Book) (rule : Rule heap state book) (group dead place counted : ℕ) (examining : state.collector.stage ≡ stages.Examining group dead place counted) where
   examines : IsExamining heap state.collector.phase state.collector.looked group dead place counted
@@ -81,7 +81,7 @@ module _ (heap : Heap) (state : State) (book : Book) (rule : Rule heap state boo
   seen = subst (SweepStands heap book.owner book.colour state.collector.phase) examining rule.marks_stand.heap_marks.sweep_stands
 
   abbrev words : ℕ → ℕ
-  words = words_of (nodes_in heap book)
+  words = words_of_object (nodes_in heap book)
 
   abbrev f : ℕ
   f = 16 * group + place
@@ -115,4 +115,4 @@ examine_keeps group dead place counted heap state book rule examining machine =
     (rule.marks_stand.heap_marks.after (inr (inr fits.sweeps.for_sweep))) group dead fits.dead_within told.0 told.1 more next)
     (λ e. e)
     (spines_on heap state book rule fits.sweeps.for_sweep group dead (stages.Examining group dead place counted) examining tt (λ f waits. waits) more next
-    (counts_on heap (words_of (nodes_in heap book)) book.owner group dead told.1 more (place + 1) (counts_more heap state book rule group dead place counted examining) (omega (arith, fits.place_within)) next refl))
+    (counts_on heap (words_of_object (nodes_in heap book)) book.owner group dead told.1 more (place + 1) (counts_more heap state book rule group dead place counted examining) (omega (arith, fits.place_within)) next refl))

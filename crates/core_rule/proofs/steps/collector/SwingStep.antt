@@ -1,7 +1,6 @@
 -- An array swings to the collector's copy of its spine: that keeps the rule.
 use Rattle.std.specs.Option.{IsSomeAnd}
 use Rattle.std.proofs.Common.{◌≡◌, ◌%◌, true, false, List, [], ◌∷◌, ◌++◌, length, Some, inl, refl, sym, ap, ◌∙◌, subst, arith}
-use Rattle.std.proofs.lemmas.List.Elements.{filter-append}
 use Rattle.heap_words.specs.declared.spot.Spot.{Spot}
 use Rattle.heap_model.specs.declared.entry.Entry.{Entry}
 use Rattle.heap_model.specs.declared.heap.Heap.{Heap}
@@ -17,7 +16,6 @@ use Rattle.core_machine.specs.declared.collector.stage.SpineCopy.{SpineCopy}
 use Rattle.core_machine.specs.declared.collector.stage.Stage.TheVariants as stages
 use Rattle.core_machine.specs.machine.Machine.{State}
 use Rattle.core_rule.specs.Book.{Book, id_at}
-use Rattle.core_rule.specs.Counts.{is_collectors}
 use Rattle.core_rule.specs.Objects.{node_at}
 use Rattle.core_rule.specs.Phases.{CollectorAgrees}
 use Rattle.core_rule.specs.Rule.{Rule}
@@ -26,7 +24,7 @@ use Rattle.core_rule.proofs.copies.SwungBook.{to_copy, its, now, entry, book_swu
 use Rattle.core_rule.proofs.copies.SwungSeats.{heap_swung, seat_swung}
 use Rattle.core_rule.proofs.copies.SwungSpace.{collector_swung, stage, free, space_swung}
 use Rattle.core_rule.proofs.entries.Legality.{legal_more, keeps_swings}
-use Rattle.core_rule.proofs.entries.PhaseEntries.{phase_stays, answered_stays, left_stays}
+use Rattle.core_rule.proofs.entries.ToldTurns.{agrees_told}
 use Rattle.core_rule.proofs.footprint.BookGoing.{owners_stay}
 use Rattle.core_rule.proofs.graph.SameNodes.{made_node}
 use Rattle.core_rule.proofs.steps.TurnSteps.{StageKeeps, TurnKeeps, turn_steps}
@@ -65,15 +63,7 @@ module _ (heap : Heap) (state : State) (book : Book) (rule : Rule heap state boo
       (keeps_swings heap false book.history copy.array.id (fourth, is_array, unswung))
 
   agrees : CollectorAgrees heap (collector_swung heap state book rule copy swinging log) later.history
-  agrees =
-      let told = entry heap state book rule copy swinging in
-      let stands = rule.collector_stands in
-      record {
-        log = rw (filter-append is_collectors book.history (told ∷ []), stands.log) refl;
-        phase_told = stands.phase_told ∙ sym (phase_stays book.history told refl);
-        looked = λ number less below present.
-            answered_stays book.history told number refl ∙ stands.looked number less below (sym (left_stays book.history told number refl) ∙ present) ∙ sym (phase_stays book.history told refl);
-      }
+  agrees = agrees_told heap book.history state.collector (stage heap state book rule copy swinging) (entry heap state book rule copy swinging) refl refl refl (λ number. refl) rule.collector_stands
 
   swing_turns : TurnKeeps heap state book (turn_at heap state.collector (stages.Copying (Swinging copy)))
   swing_turns machine =

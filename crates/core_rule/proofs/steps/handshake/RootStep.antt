@@ -68,7 +68,7 @@ root_keeps heap state book number rule here place machine =
     (λ rests. omega (arith, rests, asks.now, is_third)) machine
     (λ r unawaited. held r)
     (list_more g book.made book.owner book.fragments number seat book.history busy stands.told.list g book.history new [] [] [] refl refl (sym (append-nil (filter (is_of number) book.history))) refl)
-    tt (rw place tt) tt (λ words b s. tt) busy
+    tt (rw place tt) tt tt busy
     (cycle_by_flight heap state.words (words_shaded heap state book number rule here f head.index head.kept head.is) book.owner book.owner book.colour (with_mark book.colour f) p
     (last_answer number book.history) (has_left number book.history) number seat new
     record { answered = refl; left = refl; asked = refl } (answer_shaded heap state book number rule here f head.index head.kept head.is number here)

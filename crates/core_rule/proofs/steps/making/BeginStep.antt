@@ -7,7 +7,7 @@ use Rattle.heap_model.specs.Needs.{spine_need_of}
 use Rattle.heap_model.specs.account.Cycles.{graph_of}
 use Rattle.heap_model.specs.account.PhaseCounts.{phase, last_answer, has_left}
 use Rattle.core_machine.specs.declared.place.Place.TheVariants as places
-use Rattle.core_machine.specs.seat.Commands.{IsRecord, target_of}
+use Rattle.core_machine.specs.seat.Commands.{IsRecordCall, target_of}
 use Rattle.core_machine.specs.seat.Fits.{IsAtRest}
 use Rattle.core_machine.specs.machine.Machine.{State, seat_at, MayBegin}
 use Rattle.core_machine.specs.seat.Making.{gather_next}
@@ -31,13 +31,13 @@ use Rattle.core_rule.proofs.spines.NoneMade.{MakesNone, none_has_place, none_gra
 use Rattle.core_rule.proofs.spines.SpineFrames.{spine_away}
 
 -- a record has no spine words
-needs_none : (command : Command) → IsRecord command → spine_need_of command ≡ 0
+needs_none : (command : Command) → IsRecordCall command → spine_need_of command ≡ 0
 needs_none (commands.New d fields) a_record = refl
 needs_none _ a_record = absurd a_record
 
 -- the begin of a call keeps the rule
 pub begin_keeps : (heap : Heap) (state : State) (book : Book) (number : ℕ) (command : Command) → Rule heap state book → number < heap.seats
-    → MayBegin (seat_at state number) command → IsRecord command → IsMachine heap (record state { seats = slice_set state.seats number (gather_next heap (record (seat_at state number) { command = command })) })
+    → MayBegin (seat_at state number) command → IsRecordCall command → IsMachine heap (record state { seats = slice_set state.seats number (gather_next heap (record (seat_at state number) { command = command })) })
     → Keeps heap state (record state { seats = slice_set state.seats number (gather_next heap (record (seat_at state number) { command = command })) }) book (begins number (length book.history) book.begun) []
 begin_keeps heap state book number command rule here may a_record machine =
     let seat : Seat = record (seat_at state number) { command = command } in

@@ -15,7 +15,7 @@ use Rattle.core_machine.specs.declared.table.address.Address.TheVariants.{Budget
 use Rattle.core_machine.specs.machine.Machine.{State, seat_at}
 use Rattle.core_machine.specs.machine.Value.{IsMachine}
 use Rattle.core_machine.specs.Moves.{grant_move}
-use Rattle.core_machine.specs.seat.Commands.{IsArray, target_of}
+use Rattle.core_machine.specs.seat.Commands.{IsArrayCall, target_of}
 use Rattle.core_machine.specs.seat.Fits.{IsAtRest, MakesNext}
 use Rattle.core_machine.specs.seat.Making.{gather_next}
 use Rattle.core_machine.specs.seat.Seat.{Seat, spine_need, with_entries}
@@ -66,7 +66,7 @@ module _ (heap : Heap) (state : State) (book : Book) (number : ℕ) (rule : Rule
   stands : SeatStands heap state.words book number seat
   stands = rule.seats_stand number here
 
-  fits : IsAtRest seat × MakesNext seat.command seat.made × IsArray seat.command
+  fits : IsAtRest seat × MakesNext seat.command seat.made × IsArrayCall seat.command
   fits = rw place at (seat_fits rule number here).at_place
 
   -- nothing is granted to the seat yet

@@ -20,13 +20,13 @@ use Rattle.core_machine.specs.declared.place.Making.TheVariants.{Bearing}
 use Rattle.core_machine.specs.declared.place.Place.TheVariants as places
 use Rattle.core_machine.specs.machine.Machine.{State, seat_at}
 use Rattle.core_machine.specs.Moves.{made_entry}
-use Rattle.core_machine.specs.seat.Commands.{IsArray, target_of}
-use Rattle.core_machine.specs.seat.Fits.{HasBody, IsListed}
+use Rattle.core_machine.specs.seat.Commands.{IsArrayCall, target_of}
+use Rattle.core_machine.specs.seat.Fits.{HasBody, SpineIsListed}
 use Rattle.core_machine.specs.seat.Making.{next_object_id, next_name, newborn_word_of, last_group_of}
 use Rattle.core_machine.specs.seat.Seat.{Seat, spine_need}
 use Rattle.core_machine.specs.table.Fragments.{tally}
 use Rattle.core_rule.specs.Book.{Book, fragment_at}
-use Rattle.core_rule.specs.Budgets.{granted_at, placed_at, refused_at, nodes_in, words_of, words_in_half}
+use Rattle.core_rule.specs.Budgets.{granted_at, placed_at, refused_at, nodes_in, words_of_object, words_in_half}
 use Rattle.core_rule.specs.Owners.{Kept, Dead}
 use Rattle.core_rule.specs.Phases.{IsNear}
 use Rattle.core_rule.specs.Rule.{Rule, SeatStands, SpaceStands}
@@ -62,7 +62,7 @@ fresh_has_words : (array : Bool) (cells : ℕ) → spine_words_of (fresh array c
 fresh_has_words true cells = ap array_words (length-replicate cells unset)
 fresh_has_words false cells = refl
 
-array_made : (command : Command) → makes_array command ≡ true → IsArray command
+array_made : (command : Command) → makes_array command ≡ true → IsArrayCall command
 array_made (commands.Array d cells) is = tt
 array_made _ is = absurd (cc)
 
@@ -97,7 +97,7 @@ module _ (heap : Heap) (state : State) (book : Book) (number : ℕ) (rule : Rule
   stands : SeatStands heap state.words book number seat
   stands = rule.seats_stand number here
 
-  at_place : HasBody seat × (0 < length seat.hand) × (length seat.hand ≤ length seat.body) × (seat.stored ≡ 4 * length seat.body) × IsListed seat.command seat.spine seat.listed
+  at_place : HasBody seat × (0 < length seat.hand) × (length seat.hand ≤ length seat.body) × (seat.stored ≡ 4 * length seat.body) × SpineIsListed seat.command seat.spine seat.listed
   at_place = rw place at (seat_fits rule number here).at_place
 
   some : 1 ≤ length seat.body
@@ -200,29 +200,29 @@ module _ (heap : Heap) (state : State) (book : Book) (number : ℕ) (rule : Rule
   in_half = if seat.spine.half == half then spine_need seat else 0
 
   -- so it is with the words that are kept, and those in the half of the next spine
-  words_as : (i : ℕ) → i < count → words_of (nodes_in heap now) i ≡ words_of (nodes_in heap book) i
+  words_as : (i : ℕ) → i < count → words_of_object (nodes_in heap now) i ≡ words_of_object (nodes_in heap book) i
   words_as i less = shape_words (nodes_in heap now i) (nodes_in heap book i) (shapes_now i less)
 
   halves_as : (i : ℕ) → i < count → words_in_half half (nodes_in heap now) now.spines i ≡ words_in_half half (nodes_in heap book) book.spines i
-  halves_as i less = ap (λ (s : Spot). if s.half == half then words_of (nodes_in heap now) i else 0) (spine_old book.spines count seat.spine i (apart i less))
+  halves_as i less = ap (λ (s : Spot). if s.half == half then words_of_object (nodes_in heap now) i else 0) (spine_old book.spines count seat.spine i (apart i less))
       ∙ ap (λ n. if (book.spines i).half == half then n else 0) (words_as i less)
 
   new_in_half : words_in_half half (nodes_in heap now) now.spines count ≡ in_half
-  new_in_half = ap (λ (s : Spot). if s.half == half then words_of (nodes_in heap now) count else 0) (spine_new book.spines count seat.spine) ∙ ap (λ n. if seat.spine.half == half then n else 0) as_many
+  new_in_half = ap (λ (s : Spot). if s.half == half then words_of_object (nodes_in heap now) count else 0) (spine_new book.spines count seat.spine) ∙ ap (λ n. if seat.spine.half == half then n else 0) as_many
 
   dead_below : (f i k : ℕ) → book.owner f ≡ Dead i k → i < count
   dead_below f i k is = (rule.heap_stands.spines.tells f i k is).0
 
   keeps_born : KeepsBorn heap book now state.collector.stage half (spine_need seat) in_half
   keeps_born =
-      let all = kept_born count book.owner seat.body (words_of (nodes_in heap book)) (words_of (nodes_in heap now)) words_as heap some each_once inside unkept_parts below_count in
+      let all = kept_born count book.owner seat.body (words_of_object (nodes_in heap book)) (words_of_object (nodes_in heap now)) words_as heap some each_once inside unkept_parts below_count in
       let here_more = kept_born count book.owner seat.body (words_in_half half (nodes_in heap book) book.spines) (words_in_half half (nodes_in heap now) now.spines) halves_as heap some each_once inside
       unkept_parts below_count in
       record {
         kept = omega (arith, all, as_many);
         in_half = omega (arith, here_more, new_in_half);
-        dead = dead_born count book.owner seat.body (words_of (nodes_in heap book)) (words_of (nodes_in heap now)) words_as undead_parts dead_below heap;
-        counts = counts_born count book.owner seat.body (words_of (nodes_in heap book)) (words_of (nodes_in heap now)) words_as undead_parts dead_below state.collector.stage;
+        dead = dead_born count book.owner seat.body (words_of_object (nodes_in heap book)) (words_of_object (nodes_in heap now)) words_as undead_parts dead_below heap;
+        counts = counts_born count book.owner seat.body (words_of_object (nodes_in heap book)) (words_of_object (nodes_in heap now)) words_as undead_parts dead_below state.collector.stage;
       }
 
   near : IsNear state.collector.phase seat.answered

@@ -12,7 +12,7 @@ use Rattle.core_machine.specs.declared.table.address.Address.TheVariants.{Contro
 use Rattle.core_machine.specs.declared.place.Making.TheVariants.{Bearing}
 use Rattle.core_machine.specs.declared.place.Place.TheVariants as places
 use Rattle.core_machine.specs.seat.Commands.{target_of, MakesObject}
-use Rattle.core_machine.specs.seat.Fits.{HasBody, IsListed, IsSilent}
+use Rattle.core_machine.specs.seat.Fits.{HasBody, SpineIsListed, IsSilent}
 use Rattle.core_machine.specs.table.Fragments.{part_in, mask_of}
 use Rattle.core_machine.specs.table.Layout.{at}
 use Rattle.core_machine.specs.machine.Machine.{State, seat_at}
@@ -94,7 +94,7 @@ part_keeps heap state book number rule here place last machine =
     let stands = rule.seats_stand number here in
     let present = present_at heap state book number Bearing rule here place in
     let list = making_list (graph_of heap book.history) book.history book.made book.owner book.fragments number seat Bearing place stands.told.list in
-    let at_place : HasBody seat × (0 < length seat.hand) × (length seat.hand ≤ length body) × (seat.stored ≡ 4 * length body) × IsListed seat.command seat.spine seat.listed
+    let at_place : HasBody seat × (0 < length seat.hand) × (length seat.hand ≤ length body) × (seat.stored ≡ 4 * length body) × SpineIsListed seat.command seat.spine seat.listed
     = rw place at (seat_fits rule number here).at_place in
     let has = at_place.0 in
     let silent : IsSilent seat = rw place at (seat_fits rule number here).answer_at_place in

@@ -16,8 +16,8 @@ use Rattle.core_machine.specs.declared.place.Place.{Place}
 use Rattle.core_machine.specs.declared.place.Place.TheVariants as places
 use Rattle.core_machine.specs.machine.Machine.{seat_at}
 use Rattle.core_machine.specs.Moves.{listing_move, seat_after}
-use Rattle.core_machine.specs.seat.Commands.{IsArray, target_of}
-use Rattle.core_machine.specs.seat.Fits.{FitsPlace, IsListed, HasArrayBody}
+use Rattle.core_machine.specs.seat.Commands.{IsArrayCall, target_of}
+use Rattle.core_machine.specs.seat.Fits.{FitsPlace, SpineIsListed, HasArrayBody}
 use Rattle.core_machine.specs.seat.Making.{list_place}
 use Rattle.core_machine.specs.seat.Seat.{Seat, spine_need}
 use Rattle.core_machine.specs.table.Layout.{at, put, spine_place}
@@ -57,7 +57,7 @@ list_cases P listed words more done = by (nat_lt listed words)
     by false = done
 
 -- an array's listed words are no more than it needs
-listed_all : (command : Command) (spine : SpinePlace) (listed : ℕ) → IsArray command → IsListed command spine listed → listed ≤ spine_need_of command
+listed_all : (command : Command) (spine : SpinePlace) (listed : ℕ) → IsArrayCall command → SpineIsListed command spine listed → listed ≤ spine_need_of command
 listed_all (commands.Array d cells) spine listed array all = omega (arith, all)
 listed_all _ spine listed array all = absurd array
 

@@ -11,7 +11,7 @@ use Rattle.core_machine.specs.declared.place.Making.{Making}
 use Rattle.core_machine.specs.declared.place.Making.TheVariants.{Storing, Bearing}
 use Rattle.core_machine.specs.declared.place.Place.TheVariants as places
 use Rattle.core_machine.specs.seat.Commands.{target_of}
-use Rattle.core_machine.specs.seat.Fits.{HasBody, IsListed}
+use Rattle.core_machine.specs.seat.Fits.{HasBody, SpineIsListed}
 use Rattle.core_machine.specs.table.Fragments.{tally}
 use Rattle.core_machine.specs.table.Layout.{at, put}
 use Rattle.core_machine.specs.machine.Machine.{seat_at}
@@ -81,7 +81,7 @@ store_keeps heap state book number rule here place machine =
     let found : ℕ = at heap state.words (Word f part) in
     let words : List ℕ = put heap state.words (Word f part) word in
     let stands = rule.seats_stand number here in
-    let at_place : HasBody seat × (seat.hand ≡ seat.body) × (seat.stored < 4 * length seat.body) × IsListed seat.command seat.spine seat.listed = rw place at (seat_fits rule number here).at_place in
+    let at_place : HasBody seat × (seat.hand ≡ seat.body) × (seat.stored < 4 * length seat.body) × SpineIsListed seat.command seat.spine seat.listed = rw place at (seat_fits rule number here).at_place in
     let row : seat.stored / 4 < length seat.body = omega (arith, at_place.2) in
     let within : f < 16 * heap.groups = (seat_fits rule number here).hand.body_within (seat.stored / 4) 0 row in
     let fits_part : part < 4 = omega arith in

@@ -37,14 +37,11 @@ module _ (heap : Heap) (state : State) (book : Book) (number : ℕ) (rule : Rule
   abbrev seat : Seat
   seat = seat_at state number
 
-  abbrev found : ℕ
-  found = at heap state.words Budget
-
   abbrev needs : ℕ
   needs = spine_need seat
 
   abbrev word : ℕ
-  word = (found + 2 ^ 64 - needs) % 2 ^ 64
+  word = (at heap state.words Budget + 2 ^ 64 - needs) % 2 ^ 64
 
   abbrev words : List ℕ
   words = budget_words heap state book rule word
@@ -56,7 +53,7 @@ module _ (heap : Heap) (state : State) (book : Book) (number : ℕ) (rule : Rule
   later = with_entry book entry
 
   abbrev new : Seat
-  new = seat_after (withdraw_move number seat) found
+  new = seat_after (withdraw_move number seat) (at heap state.words Budget)
 
   abbrev g : Graph
   g = graph_of heap book.history
@@ -74,13 +71,13 @@ module _ (heap : Heap) (state : State) (book : Book) (number : ℕ) (rule : Rule
   nothing : HasWeights (next_spine heap state.words).half new 0 0 0
   nothing = record { given_is = refl; placed_is = refl; refused_is = refl }
 
-  fallen : at heap words Budget + needs ≡ found
+  fallen : at heap words Budget + needs ≡ at heap state.words Budget
   fallen =
       let less = refused_change heap state book number here rule.machine.seated words new 0 0 needs asked 0 0 0 nothing in
       omega (
         arith,
         at-put_same heap state.words Budget word rule.machine.table tt,
-        budget_falls found needs (budget_small heap state book rule.machine rule.space.budgets) (omega (arith, less, rule.space.budgets.word)),
+        budget_falls (at heap state.words Budget) needs (budget_small heap state book rule.machine rule.space.budgets) (omega (arith, less, rule.space.budgets.word)),
       )
 
   same_place : next_spine heap words ≡ next_spine heap state.words

@@ -23,7 +23,8 @@ use std::test::Fail;
 /// - a word, what it is and where it stands in the table: `phase word`, `answer SEAT`, `budget`, `spot`,
 ///   `control GROUP`, `word FRAGMENT PART` and `spine OFFSET HALF`.
 ///
-/// Of what a party did the entries are found too that it added. Words and bits stand in hexadecimal digits.
+/// Of what a party did the entries are found too that it added. Words and bits stand in hexadecimal digits. A line without a finding
+/// stands for a stretch of several lines.
 pub(super) fn tries(
     rt: &(impl Abort + AllocGlobal),
     sizes: (u16, u16, u8),
@@ -33,11 +34,61 @@ pub(super) fn tries(
     let (groups, spine, seats) = sizes;
     let mut machine = machine_of(alloc, groups, spine, seats)?;
     for line in lines {
-        let (deed, wanted) = line.split_once(" => ").ok_or("a deed has a finding")?;
-        let found = found(alloc, &mut machine, deed)?;
-        assert_eq!(rt; found.as_str(), wanted, "{line}");
+        if let Some(stretch) = stretch(line) {
+            for line in stretch {
+                finds(rt, alloc, &mut machine, line)?;
+            }
+        } else {
+            finds(rt, alloc, &mut machine, line)?;
+        }
     }
     Ok(())
+}
+
+/// Does what the line says, and compares what comes of it with its finding.
+fn finds(
+    rt: &(impl Abort + AllocGlobal),
+    alloc: Global,
+    machine: &mut Machine,
+    line: &str,
+) -> Result<(), Fail> {
+    let (deed, wanted) = line.split_once(" => ").ok_or("a deed has a finding")?;
+    let found = found(alloc, machine, deed)?;
+    assert_eq!(rt; found.as_str(), wanted, "{line}");
+    Ok(())
+}
+
+/// The lines of a stretch: how the phases up to that of marking begin and are answered by the only seat, in the first cycle and in the second,
+/// and by both of two seats those up to black births.
+fn stretch(line: &str) -> Option<&'static [&'static str]> {
+    match line {
+        "three phases" => Some(&[
+            "c steps 2 => advance 1 found 0; c phase 1",
+            "0 poll => 0 answers 1; 0 poll = 1",
+            "c steps 2 => advance 2 found 1; c phase 2",
+            "0 poll => 0 answers 2; 0 poll = 2",
+            "c steps 2 => advance 3 found 2; c phase 3",
+            "0 poll => 0 answers 3; 0 poll = 3",
+        ]),
+        "three phases more" => Some(&[
+            "0 poll => 0 answers 7; 0 poll = 7",
+            "c steps 2 => advance 8 found 7; c phase 8",
+            "0 poll => 0 answers 8; 0 poll = 8",
+            "c steps 2 => advance 9 found 8; c phase 9",
+            "0 poll => 0 answers 9; 0 poll = 9",
+            "c steps 2 => advance 10 found 9; c phase 10",
+            "0 poll => 0 answers 10; 0 poll = 10",
+        ]),
+        "two phases of a pair" => Some(&[
+            "c steps 3 => advance 1 found 0; c phase 1",
+            "0 poll => 0 answers 1; 0 poll = 1",
+            "1 poll => 1 answers 1; 1 poll = 1",
+            "c steps 3 => advance 2 found 1; c phase 2",
+            "0 poll => 0 answers 2; 0 poll = 2",
+            "1 poll => 1 answers 2; 1 poll = 2",
+        ]),
+        _ => None,
+    }
 }
 
 /// What comes of the deed.

@@ -1,21 +1,14 @@
-use Rattle.std.proofs.Common.{arith, ◌<◌, length}
-use Rattle.std.proofs.lemmas.List.{length-map}
-use Rattle.core_machine.specs.machine.Value.{SeatWithRoom}
-use Rattle.core_machine.proofs.machine_lemmas.Stepping.{begin_machine, begin_value}
+use Rattle.core_machine.proofs.machine_lemmas.Stepping.{seated, begin_machine, begin_value}
 use Rattle.core_machine.proofs.machine.Machine.begin.Goals as goal
 
 pub invariant_of-self : goal.invariant_of-self
 invariant_of-self c =
     let can = rw (← c.self.view_is) at c.requires.can in
-    let within : c.args.seat < length c.self.inside.seats.items = omega (arith, can.0, length-map c.self.inside.seats.items (λ (s : SeatWithRoom). s.seat)) in
-    begin_machine c.self.inside.heap c.self.inside.words.items c.self.inside.seats.items c.self.inside.collector.collector 0 c.args.seat
-    c.index_mut-party.result.now c.begin.new.self within c.index_mut-party.ensures.value
-    c.args.command can.1 c.begin.ensures.seat c.self.invariant
+    begin_machine c.self.inside.heap c.self.inside.words.items c.self.inside.seats.items c.self.inside.collector.collector 0 c.args.seat c.index_mut-party.result.now c.begin.new.self
+    (seated c.self.inside.seats.items can.0) c.index_mut-party.ensures.value c.args.command can.1 c.begin.ensures.seat c.self.invariant
 
 pub returns : goal.returns
 returns c =
     let can = rw (← c.self.view_is) at c.requires.can in
-    let within : c.args.seat < length c.self.inside.seats.items = omega (arith, can.0, length-map c.self.inside.seats.items (λ (s : SeatWithRoom). s.seat)) in
-    rw (← c.self.view_is) (begin_value c.self.inside.heap c.self.inside.words.items c.self.inside.seats.items c.self.inside.collector.collector
-    c.self.inside.collector.spare c.args.seat c.index_mut-party.result.now c.begin.new.self within
-    c.index_mut-party.ensures.value c.args.command c.begin.ensures.seat c.begin.ensures.spare)
+    rw (← c.self.view_is) (begin_value c.self.inside.heap c.self.inside.words.items c.self.inside.seats.items c.self.inside.collector.collector c.self.inside.collector.spare c.args.seat
+    c.index_mut-party.result.now c.begin.new.self (seated c.self.inside.seats.items can.0) c.index_mut-party.ensures.value c.args.command c.begin.ensures.seat c.begin.ensures.spare)

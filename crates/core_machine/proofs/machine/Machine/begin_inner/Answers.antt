@@ -1,21 +1,14 @@
-use Rattle.std.proofs.Common.{arith, ◌<◌, length}
-use Rattle.std.proofs.lemmas.List.{length-map}
-use Rattle.core_machine.specs.machine.Value.{SeatWithRoom}
-use Rattle.core_machine.proofs.machine_lemmas.Stepping.{inner_machine, inner_value}
+use Rattle.core_machine.proofs.machine_lemmas.Stepping.{seated, inner_machine, inner_value}
 use Rattle.core_machine.proofs.machine.Machine.begin_inner.Goals as goal
 
 pub invariant_of-self : goal.invariant_of-self
 invariant_of-self c =
     let can = rw (← c.self.view_is) at c.requires.can in
-    let within : c.args.seat < length c.self.inside.seats.items = omega (arith, can.0, length-map c.self.inside.seats.items (λ (s : SeatWithRoom). s.seat)) in
-    inner_machine c.self.inside.heap c.self.inside.words.items c.self.inside.seats.items c.self.inside.collector.collector 0 c.args.seat
-    c.index_mut-party.result.now c.begin_inner.new.self within c.index_mut-party.ensures.value
-    c.args.inner can.1 c.begin_inner.ensures.seat c.self.invariant
+    inner_machine c.self.inside.heap c.self.inside.words.items c.self.inside.seats.items c.self.inside.collector.collector 0 c.args.seat c.index_mut-party.result.now c.begin_inner.new.self
+    (seated c.self.inside.seats.items can.0) c.index_mut-party.ensures.value c.args.inner can.1 c.begin_inner.ensures.seat c.self.invariant
 
 pub returns : goal.returns
 returns c =
     let can = rw (← c.self.view_is) at c.requires.can in
-    let within : c.args.seat < length c.self.inside.seats.items = omega (arith, can.0, length-map c.self.inside.seats.items (λ (s : SeatWithRoom). s.seat)) in
-    rw (← c.self.view_is) (inner_value c.self.inside.heap c.self.inside.words.items c.self.inside.seats.items c.self.inside.collector.collector
-    c.self.inside.collector.spare c.args.seat c.index_mut-party.result.now c.begin_inner.new.self within
-    c.index_mut-party.ensures.value c.args.inner c.begin_inner.ensures.seat c.begin_inner.ensures.spare)
+    rw (← c.self.view_is) (inner_value c.self.inside.heap c.self.inside.words.items c.self.inside.seats.items c.self.inside.collector.collector c.self.inside.collector.spare c.args.seat
+    c.index_mut-party.result.now c.begin_inner.new.self (seated c.self.inside.seats.items can.0) c.index_mut-party.ensures.value c.args.inner c.begin_inner.ensures.seat c.begin_inner.ensures.spare)

@@ -1,19 +1,10 @@
 use Rattle.std.proofs.Common.{◌∙◌, arith}
 use Rattle.log_merge.proofs.tests.seat_calls.make_and_poll.Goals as goal
 
-pub loop-i-preserved : goal.loop-i-preserved
-loop-i-preserved g c =
-    let law = c.seat_laws.ensures in
-    record {
-      present = (law.counts _ _ _ _ c.poll.ensures).present_stays (λ same. cc) ∙ c.loop-i.invariant.present;
-      room = omega (arith, law.room _ _ _ _ c.poll.ensures, c.loop-i.invariant.room);
-    }
+pub poll_often-requires-clause-present : goal.poll_often-requires-clause-present
+poll_often-requires-clause-present g c =
+    (c.seat_laws.ensures.counts _ _ _ _ c.new_record.ensures.added).present_stays (λ same. cc) ∙ c.requires.present
 
-pub loop-i-init : goal.loop-i-init
-loop-i-init g c =
-    let law = c.seat_laws.ensures in
-    let added = c.new_record.ensures.added in
-    record {
-      present = (law.counts _ _ _ _ added).present_stays (λ same. cc) ∙ c.requires.present;
-      room = omega (arith, law.room _ _ _ _ added, c.requires.room);
-    }
+pub poll_often-requires-clause-room : goal.poll_often-requires-clause-room
+poll_often-requires-clause-room g c =
+    omega (arith, c.seat_laws.ensures.room _ _ _ _ c.new_record.ensures.added, c.requires.room)

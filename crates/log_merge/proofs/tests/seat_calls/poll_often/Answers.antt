@@ -1,5 +1,5 @@
 use Rattle.std.proofs.Common.{◌∙◌, arith}
-use Rattle.log_merge.proofs.tests.seat_calls.poll_seven_times.Goals as goal
+use Rattle.log_merge.proofs.tests.seat_calls.poll_often.Goals as goal
 
 pub loop-i-preserved : goal.loop-i-preserved
 loop-i-preserved g c =

@@ -1,0 +1,15 @@
+-- The generator that scripts are made by: a linear congruence of 31 bits, of which a draw shows the upper 15.
+use Rattle.std.specs.Prelude.{ℕ, zero, suc, ◌+◌, ◌*◌, ◌/◌, ◌%◌, ◌^◌}
+
+-- the state after a draw
+unfoldable pub next_state : ℕ → ℕ
+next_state state = (1103515245 * state + 12345) % 2 ^ 31
+
+-- the state after so many draws
+abbrev pub state_after : ℕ → ℕ → ℕ
+state_after zero state = state
+state_after (suc n) state = next_state (state_after n state)
+
+-- what the draw of this place gives, counted from 1
+abbrev pub draw : ℕ → ℕ → ℕ
+draw place state = state_after place state / 65536
