@@ -8,6 +8,10 @@ mod progress;
 mod ran;
 mod recorder;
 mod running;
+mod working;
 
 pub use ran::LockedRan;
-pub use running::run_alone;
+pub use running::run_locked;
+
+#[cfg(test)]
+mod tests;

@@ -1,22 +1,22 @@
-ghost use Rattle.std.specs.Prelude.{◌≡◌, ◌≢◌, ◌≤◌, ◌<◌, false, OnOk, length};
+ghost use Rattle.std.specs.Prelude.{◌≡◌, ◌≢◌, ◌<◌, false, length};
 ghost use Rattle.heap_model.specs.declared.command.Command.TheVariants.{Collect};
-ghost use Rattle.heap_model.specs.account.PhaseCounts.{phase};
 ghost use Rattle.locked_heap.specs.Given.{IsGiven, script_of};
 ghost use Rattle.locked_heap.specs.Locked.{AllHaveCome, IsNext, KeepsGone};
 ghost use Rattle.locked_heap.specs.Progress.{progress_at};
-ghost use Rattle.locked_heap.specs.Recorded.{IsReached, StandsStill, MakesTurn};
+ghost use Rattle.locked_heap.specs.Recorded.{IsReached};
 
 use crate::handed::Handed;
 use crate::progress::Progress;
 use crate::recorder::Recorder;
 use core_machine::Machine;
 use core_rule::law_every_run;
-use heap_model::{Command, Memory, Turn};
+use heap_model::{Command, Memory};
 use std::alloc::Global;
 use std::marker::Model;
 
 mod collecting;
 mod finishing;
+mod turning;
 
 /// The heap under the lock of a run: the machine with its history, and how far each seat has come with its script. No seat has a call in flight.
 #[derive(Drop)]
@@ -26,6 +26,8 @@ pub struct Locked<N: Handed> {
     patience: u32,
     /// How many fragments were claimed since the collector last made its slack.
     owed: u64,
+    /// Whether the seats' workers have returned.
+    over: bool,
 }
 
 impl<N: Handed> Model for Locked<N> {
@@ -59,6 +61,7 @@ impl<N: Handed> Locked<N> {
             seats: vec![in alloc; begin; seats]?,
             patience,
             owed: 0,
+            over: false,
         })
     }
 
@@ -112,24 +115,5 @@ impl<N: Handed> Locked<N> {
             ..progress
         };
         Ok(())
-    }
-
-    /// Makes a turn of the collector.
-    pub fn turn(&mut self) -> Turn
-        requires room { 2 ≤ self.old.recorded.spare }
-        ensures makes { MakesTurn self.old.recorded self.new.recorded result }
-        ensures seats { self.new.seats ≡ self.old.seats }
-    {
-        self.recorder.turn()
-    }
-
-    /// Makes room for at least `n` more entries of the collector.
-    pub fn room(&mut self, n: usize) -> Result<(), Memory>
-        ensures still { StandsStill self.old.recorded self.new.recorded }
-        ensures more { self.old.recorded.spare ≤ self.new.recorded.spare }
-        ensures room { OnOk result (n ≤ self.new.recorded.spare) }
-        ensures seats { self.new.seats ≡ self.old.seats }
-    {
-        self.recorder.room(n)
     }
 }

@@ -6,19 +6,24 @@ ghost use Rattle.locked_heap.specs.Ran.{IsRun};
 use crate::handed::Handed;
 use crate::locked::Locked;
 use crate::ran::LockedRan;
+use crate::working::work_all;
 use core_machine::Machine;
-use heap_model::{Command, Memory};
+use heap_model::{Command, Gate, Memory};
+use slack_pace::Pace;
 use std::alloc::Global;
 use std::marker::Brand;
-use std::sync::Wait;
+use std::sync::{Mutex, Wait};
+use std::thread::Threads;
 
-/// A run of the seats one after another, on what it was given.
-fn run_named<N: Handed, R: Wait>(
+/// A run on what was given, which its name tells.
+fn run_named<N: Handed + Send + Sync, G: Gate, R: Threads + Wait + Sync>(
     rt: &R,
     alloc: Global,
     machine: Machine,
     scripts: &[Vec<Command>],
+    pace: Box<dyn Pace>,
     patience: u32,
+    gate: &G,
 ) -> Result<LockedRan, Memory>
     requires given { IsGiven N.given }
     requires heap { machine.heap ≡ N.given.heap }
@@ -27,17 +32,21 @@ fn run_named<N: Handed, R: Wait>(
     requires patience { patience ≡ N.given.patience }
     ensures { IfOk result (IsRun N.given) }
 {
-    let locked = Locked::<N>::new(alloc, machine, patience)?;
-    locked.finish(rt, alloc, scripts)
+    let held = Mutex::new(Locked::<N>::new(alloc, machine, patience)?);
+    work_all(rt, alloc, &held, scripts, pace, gate)?;
+    held.into_inner().finish(rt, alloc, scripts)
 }
 
-/// A run of the seats one after another.
-pub fn run_alone<R: Wait>(
+/// Runs the scripts on the machine, which has just been made: each seat's on a thread of its own, and the collector's slack turns, which the pace asks for, on one more.
+/// A seat passes the gate before each command. A collect answers that it waits once it has found another seat behind `patience` times. The only error is want of memory.
+pub fn run_locked<G: Gate, R: Threads + Wait + Sync>(
     rt: &R,
     alloc: Global,
     machine: Machine,
     scripts: &[Vec<Command>],
+    pace: Box<dyn Pace>,
     patience: u32,
+    gate: &G,
 ) -> Result<LockedRan, Memory>
     requires opening { IsOpening machine.heap machine.state }
     requires seated { length scripts.now ≡ machine.heap.seats }
@@ -52,5 +61,5 @@ pub fn run_alone<R: Wait>(
 {
     // What is true of every machine is known from here on.
     let _ = machine.heap();
-    run_named::<Brand, R>(rt, alloc, machine, scripts, patience)
+    run_named::<Brand, G, R>(rt, alloc, machine, scripts, pace, patience, gate)
 }

@@ -1,5 +1,5 @@
 -- Settings are told by their words, one after another.
-use Rattle.std.proofs.Common.{Bor, map, length, ◌==◌, ◌≡◌, ◌≢◌, ◌∷◌, [], ◌++◌, ℕ, List, Bool, true, false, refl, sym, ap, ◌∙◌, subst}
+use Rattle.std.proofs.Common.{Bor, map, length, ◌==◌, ◌≡◌, ◌≢◌, ◌∷◌, [], ◌++◌, ℕ, List, false, refl, sym, ap, ◌∙◌, subst}
 use Rattle.std.specs.Prelude.{IfSome, IfNone, Option, Some, None}
 use Rattle.std.specs.List.{flat_map}
 use Rattle.schism_program.specs.declared.setting.Setting.{Setting}

@@ -1,5 +1,6 @@
 -- Words and input call for one status alone.
-use Rattle.std.proofs.Common.{◌≡◌, ℕ, List, [], ◌∷◌, Option, Some, decimal, refl, sym, ap, subst, ◌∙◌, arith}
+use Rattle.std.proofs.Common.{◌≡◌, ◌≢◌, ℕ, get_or, List, [], ◌∷◌, Option, Some, decimal, refl, sym, ap, subst, ◌∙◌, arith}
+use Rattle.std.specs.Prelude.{codes}
 use Rattle.script_text.specs.declared.cause.Cause.{Cause}
 use Rattle.script_text.specs.declared.cause.LineFault.{LineFault}
 use Rattle.script_text.specs.declared.script.Form.TheVariants as forms
@@ -95,7 +96,20 @@ same_input (Play steady brief) left left' input input' all its = let gives : Giv
 same_input Check left left' input input' all its = let gives : GivesAll (Some input') left' input = subst (λ (l : Option (List ℕ)). GivesAll l left' input) its all in gives.0
 same_input (Make start seats lines) left left' input input' all its = all.0 ∙ sym its
 
--- words that begin alike go on alike
+-- no two forms begin with the same word
+play_check : codes "play" ≢ codes "check"
+play_check same = let first : 112 ≡ 99 = ap (λ (w : List ℕ). get_or w 0 0) same in omega (arith, first)
+
+play_make : codes "play" ≢ codes "make"
+play_make same = let first : 112 ≡ 109 = ap (λ (w : List ℕ). get_or w 0 0) same in omega (arith, first)
+
+check_make : codes "check" ≢ codes "make"
+check_make same = let first : 99 ≡ 109 = ap (λ (w : List ℕ). get_or w 0 0) same in omega (arith, first)
+
+-- words that begin alike begin with the same one, and go on alike
+first_same : {one other : List ℕ} {rest more : List (List ℕ)} → one ∷ rest ≡ other ∷ more → one ≡ other
+first_same same = cc
+
 rest_same : {one other : List ℕ} {rest more : List (List ℕ)} → one ∷ rest ≡ other ∷ more → rest ≡ more
 rest_same same = cc
 
@@ -118,13 +132,13 @@ asked_once words one other asked asked' = by one other asked.completes asked'.co
   by Check Check none none' same = refl
   by (Make start seats lines) (Make start' seats' lines') made made' same =
       let words : decimal start ∷ decimal seats ∷ decimal lines ∷ [] ≡ decimal start' ∷ decimal seats' ∷ decimal lines' ∷ [] = sym made.1 ∙ rest_same same ∙ made'.1 in
-      same_made start seats lines start' seats' lines' made.0 made'.0 cc cc cc
-  by (Play steady brief) Check gives none same = absurd cc
-  by (Play steady brief) (Make start seats lines) gives made same = absurd cc
-  by Check (Play steady brief) none gives same = absurd cc
-  by Check (Make start seats lines) none made same = absurd cc
-  by (Make start seats lines) (Play steady brief) made gives same = absurd cc
-  by (Make start seats lines) Check made none same = absurd cc
+      same_made start seats lines start' seats' lines' made.0 made'.0 (first_same words) (first_same (rest_same words)) (first_same (rest_same (rest_same words)))
+  by (Play steady brief) Check gives none same = absurd (play_check (first_same same))
+  by (Play steady brief) (Make start seats lines) gives made same = absurd (play_make (first_same same))
+  by Check (Play steady brief) none gives same = absurd (play_check (sym (first_same same)))
+  by Check (Make start seats lines) none made same = absurd (check_make (first_same same))
+  by (Make start seats lines) (Play steady brief) made gives same = absurd (play_make (sym (first_same same)))
+  by (Make start seats lines) Check made none same = absurd (check_make (sym (first_same same)))
 
 -- so where its input was read, and it calls for this status, no other is due
 pub only_due : (words : List (List ℕ)) (left left' : Option (List ℕ)) (work : Work) (input : List ℕ) (one other : Status) → AskFor words work → IsRead work left left' input → IsDueTo work input one → IsDue words left other → one ≡ other

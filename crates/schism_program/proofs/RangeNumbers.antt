@@ -1,5 +1,5 @@
 -- Words that are numbers.
-use Rattle.std.proofs.Common.{◌≡◌, ℕ, ◌<◌, ◌≤◌, ◌^◌, List, Option, Some, None, decimal, sym, ap, ◌∙◌, arith}
+use Rattle.std.proofs.Common.{◌≡◌, ℕ, ◌<◌, ◌≤◌, ◌^◌, List, Option, Some, None, decimal, ap, ◌∙◌, arith}
 use Rattle.script_text.specs.Numbers.{number_below}
 use Rattle.script_text.proofs.Numbers.{number_below-decimal}
 

@@ -23,8 +23,9 @@ pub fn read_input<S: Source>(
     ensures untouched { ¬ Reads work → source.new ≡ source.old }
     ensures count { CountsReadFault result (S.faults source.old) (S.faults source.new) }
 {
-    match work.most_bytes() {
-        Some(most) => read_all(alloc, source, most),
-        None => Ok(Vec::new(alloc)),
-    }
+    let Some(most) = work.most_bytes() else {
+        return Ok(Vec::new(alloc));
+    };
+    let input = read_all(alloc, source, most)?;
+    Ok(input)
 }

@@ -62,17 +62,13 @@ fn played_text(
 }
 
 /// The text of a script that is made.
-fn made_script_text(
-    alloc: Global,
-    start: u32,
-    seats: u8,
-    lines: u32,
-) -> Result<Vec<u8>, Memory>
+fn made_script_text(alloc: Global, start: u32, seats: u8, lines: u32) -> Result<Vec<u8>, Memory>
     requires { MayBeMade start seats lines }
     ensures { IfOk result (λ text. IsMadeText start seats lines text.items) }
 {
     let script = make_script(alloc, start, seats, lines)?;
-    write_script(alloc, &script)
+    let text = write_script(alloc, &script)?;
+    Ok(text)
 }
 
 /// The text that the work makes of the input.
@@ -90,7 +86,10 @@ pub fn made_text(
         IsIllegalAt work input.now line }
 {
     match work {
-        Work::Play { steady: true, brief } => played_text(alloc, input, Some(paces.steady), brief),
+        Work::Play {
+            steady: true,
+            brief,
+        } => played_text(alloc, input, Some(paces.steady), brief),
         Work::Play {
             steady: false,
             brief,

@@ -8,7 +8,7 @@ use crate::locked::Locked;
 use crate::progress::Progress;
 use core_rule::law_every_run;
 use heap_model::phase_plan::{CYCLE_PHASES, REST};
-use heap_model::{CollectReply, Inner, Memory, Turn};
+use heap_model::{CollectReply, CollectorCalls, Inner, Memory, Turn};
 
 /// The first cycle that begins at this phase or behind it.
 pub fn next_whole_cycle(phase: u64) -> u64

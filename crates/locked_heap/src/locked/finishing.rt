@@ -12,7 +12,7 @@ use crate::locked::collecting::next_whole_cycle;
 use crate::progress::Progress;
 use crate::ran::LockedRan;
 use core_rule::{law_every_run, law_sweep_exact};
-use heap_model::{Command, Memory, Turn};
+use heap_model::{CollectorCalls, Command, Memory, Turn};
 use std::alloc::Global;
 use std::sync::Wait;
 

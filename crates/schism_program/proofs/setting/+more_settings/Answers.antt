@@ -1,4 +1,4 @@
-use Rattle.std.proofs.Common.{◌≡◌, ◌≢◌, [], ◌++◌, ℕ, List, map, false, sym, ◌∙◌}
+use Rattle.std.proofs.Common.{sym, ◌∙◌}
 use Rattle.schism_program.proofs.GivenSettings.{none_begins, first_given, some_given, none_given, some_word}
 use Rattle.schism_program.proofs.setting.+more_settings.Goals as goal
 

@@ -1,4 +1,4 @@
-use Rattle.std.proofs.Common.{◌≡◌, ◌^◌, ◌≤◌, Some, sym, ap, ◌∙◌, arith}
+use Rattle.std.proofs.Common.{◌≡◌, ◌^◌, Some, sym, ap, ◌∙◌, arith}
 use Rattle.script_text.specs.Numbers.{number_below}
 use Rattle.script_text.proofs.Numbers.{number_below-Some}
 use Rattle.schism_program.proofs.RangeNumbers.{none_within, outside_none}

@@ -4,7 +4,7 @@ use Rattle.core_machine.specs.machine.Machine.{State, Turns, entries}
 use Rattle.locked_heap.specs.Locked.{AllHaveCome}
 use Rattle.locked_heap.proofs.Coming.{all_turned}
 use Rattle.locked_heap.proofs.TellsNone.{none_collectors}
-use Rattle.locked_heap.proofs.locked.Locked.turn.Goals as goal
+use Rattle.locked_heap.proofs.locked.turning.LockedCollectorCalls.turn.Goals as goal
 
 pub invariant_of-self : goal.invariant_of-self
 invariant_of-self g c =

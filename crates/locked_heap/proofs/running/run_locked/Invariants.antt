@@ -1,5 +1,5 @@
 use Rattle.std.proofs.Common.{map}
-use Rattle.locked_heap.proofs.running.run_alone.Given as goal
+use Rattle.locked_heap.proofs.running.run_locked.Given as goal
 
 abbrev pub ghosts-run_named : goal.ghosts-run_named
 ghosts-run_named g a = record {

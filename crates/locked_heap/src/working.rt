@@ -1,0 +1,129 @@
+ghost use Rattle.std.specs.Prelude.{◌≡◌, ◌<◌, ◌^◌, length, map, All};
+ghost use Rattle.locked_heap.specs.Given.{script_of};
+
+use crate::handed::Handed;
+use crate::locked::Locked;
+use heap_model::{Command, Gate, Memory};
+use slack_pace::Pace;
+use std::alloc::Global;
+use std::sync::{Mutex, Wait};
+use std::thread::{Threads, join, map_indices, yield_now};
+
+/// Goes on with the seat's script until its command `n` is answered, and takes the lock anew for each part of it.
+fn make_command<N: Handed, R: Wait>(
+    rt: &R,
+    held: &Mutex<Locked<N>>,
+    seat: u8,
+    script: &[Command],
+    n: usize,
+) -> Result<(), Memory>
+    requires within { seat < N.given.heap.seats }
+    requires script { script.now ≡ script_of N.given seat }
+{
+    for _ in rt.forever() {
+        let progress = held.lock(rt).go_on(seat, script)?;
+        if n < progress.place {
+            return Ok(());
+        }
+        yield_now();
+    }
+    unreachable!()
+}
+
+/// Makes each command of the seat's script once it has passed the gate, and lets the seat leave.
+fn work<N: Handed, G: Gate, R: Wait>(
+    rt: &R,
+    held: &Mutex<Locked<N>>,
+    seat: u8,
+    script: &[Command],
+    gate: &G,
+) -> Result<(), Memory>
+    requires within { seat < N.given.heap.seats }
+    requires script { script.now ≡ script_of N.given seat }
+    requires few { length script.now < 2 ^ 32 }
+{
+    for n in 0..script.len() {
+        gate.pass(seat, n as u32);
+        make_command(rt, held, seat, script, n)?;
+    }
+    held.lock(rt).go_on(seat, script)?;
+    Ok(())
+}
+
+/// Makes slack turns of the collector until the seats' workers have returned.
+fn collect<N: Handed, R: Wait>(
+    rt: &R,
+    held: &Mutex<Locked<N>>,
+    pace: &mut Box<dyn Pace>,
+) -> Result<(), Memory> {
+    for _ in rt.forever() {
+        let mut locked = held.lock(rt);
+        if locked.is_over() {
+            return Ok(());
+        }
+        locked.make_slack(pace)?;
+        drop(locked);
+        yield_now();
+    }
+    unreachable!()
+}
+
+/// Makes the scripts in a thread for each seat, and tells when all of these have returned.
+fn work_seats<N: Handed + Send + Sync, G: Gate, R: Threads + Wait + Sync>(
+    rt: &R,
+    alloc: Global,
+    held: &Mutex<Locked<N>>,
+    scripts: &[Vec<Command>],
+    gate: &G,
+) -> Result<(), Memory>
+    requires scripts { map (λ script. script.items) scripts.now ≡ N.given.scripts }
+    requires seated { length scripts.now ≡ N.given.heap.seats }
+    requires seats { N.given.heap.seats < 256 }
+    requires few { All (λ script. length script.items < 2 ^ 32) scripts.now }
+{
+    let done = map_indices(
+        rt,
+        alloc,
+        scripts.len(),
+        &|seat: usize| -> Result<(), Memory>
+            requires within { seat < length scripts.now }
+            requires scripts { map (λ script. script.items) scripts.now ≡ N.given.scripts }
+            requires seated { length scripts.now ≡ N.given.heap.seats }
+            requires seats { N.given.heap.seats < 256 }
+            requires few { All (λ script. length script.items < 2 ^ 32) scripts.now }
+        { work(rt, held, seat as u8, scripts[seat].as_slice(), gate) },
+    );
+    held.lock(rt).end();
+    for came in done? {
+        came?;
+    }
+    Ok(())
+}
+
+/// Works on the scripts in a thread for each seat, while one more makes the collector's slack turns.
+pub fn work_all<N: Handed + Send + Sync, G: Gate, R: Threads + Wait + Sync>(
+    rt: &R,
+    alloc: Global,
+    held: &Mutex<Locked<N>>,
+    scripts: &[Vec<Command>],
+    mut pace: Box<dyn Pace>,
+    gate: &G,
+) -> Result<(), Memory>
+    requires scripts { map (λ script. script.items) scripts.now ≡ N.given.scripts }
+    requires seated { length scripts.now ≡ N.given.heap.seats }
+    requires seats { N.given.heap.seats < 256 }
+    requires few { All (λ script. length script.items < 2 ^ 32) scripts.now }
+{
+    let (slack, seats) = join(
+        rt,
+        move || collect(rt, held, &mut pace),
+        || -> Result<(), Memory>
+            requires scripts { map (λ script. script.items) scripts.now ≡ N.given.scripts }
+            requires seated { length scripts.now ≡ N.given.heap.seats }
+            requires seats { N.given.heap.seats < 256 }
+            requires few { All (λ script. length script.items < 2 ^ 32) scripts.now }
+        { work_seats(rt, alloc, held, scripts, gate) },
+    );
+    slack?;
+    seats
+}
