@@ -24,13 +24,14 @@ pub record IsOffsetWithin (heap : Heap) (state : State) (book : Book) : Type 0 w
   pub returned : (next_spine heap state.words).offset ≤ granted heap state book + returned_in_cycle book.history
   pub most : granted heap state book + returned_in_cycle book.history ≤ 2 * heap.spine
 
--- so it is after every run, by the book that stands for its state
+-- a book with these entries stands for the state, and by it so it is
 pub record StandsWithin (heap : Heap) (state : State) (told : List Entry) : Type 0 where
   pub book : Book
   pub tells : book.history ≡ told
   pub stands : Stands heap state book
   pub within : IsOffsetWithin heap state book
 
+-- so it is after every run
 abbrev pub EachOffsetIsWithin : Type 0
 EachOffsetIsWithin = (heap : Heap) (state : State) (events : List Event) → IsHeap heap → IsOpening heap state → Run heap state events
     → StandsWithin heap (state_after_all heap state events) (history heap state events)

@@ -63,7 +63,7 @@ module _ (old : MachineHeapValue) (new : State) (number : ℕ) (command : Comman
   -- where enough spine words are left
   ends_beside : ¬ LacksWords here command → EndsOneWay here number command reply
   ends_beside enough =
-      let granted : ¬ machine.LacksWords old.machine.heap old.machine.state command = λ lacks. enough (omega (arith, lacks, used.0)) in
+      let granted : ¬ machine.LacksSpineWords old.machine.heap old.machine.state command = λ lacks. enough (omega (arith, lacks, used.0)) in
       elim (leb_tells (need_of command) (within_reach old.machine.heap old.machine.state number)) [
         | inl reach ↦ (let e = reach.1 in inr (inl (enough, omega (arith, e, had, free), answer.made granted e ∙ ap Made next)))
         | inr less ↦ (let l = less.1 in inr (inr (enough, λ most. omega (arith, l, most, had, free), fragments_refused (answer.refused granted l))))

@@ -13,12 +13,12 @@ use Rattle.heap_model.specs.declared.reply.TurnReply.{TurnReply}
 use Rattle.heap_model.specs.declared.reply.TurnReply.TheVariants as replies
 use Rattle.heap_model.specs.account.Phases.{TurnShows}
 use Rattle.heap_model.specs.account.Turned.{is_of_heap, without_turned, AnswersRightly, AllAnswerRightly, TurnedHoldNobody}
-use Rattle.heap_runs.specs.Play.{tells_step, EndsCycle, IsLastCycle}
+use Rattle.heap_runs.specs.Play.{tells_step, tells_turn, AreTurns, EndsCycle, IsLastCycle}
 use Rattle.heap_runs.specs.PlayHeap.{PlayState}
 use Rattle.heap_runs.specs.Playing.{NotesCall, NotesTurns, NotesLastCycle, Follows}
-use Rattle.heap_runs.specs.Turning.{GoesOnward, IsStep, ServesCommand}
+use Rattle.heap_runs.specs.Turning.{AddsTurns, GoesOnward, IsStep, ServesCommand}
 use Rattle.heap_runs.proofs.Told.{tells_call, noted_is}
-use Rattle.heap_runs.proofs.TurnFacts.{IsOwnStep, AddsSteps, turns_add, came_add, ends_added, own_more}
+use Rattle.heap_runs.proofs.TurnFacts.{turns_add, came_add, ends_added, told_more}
 
 abbrev AreOfHeap : List Entry → Type 0
 AreOfHeap told = AllByRecursion (λ entry. is_of_heap entry ≡ true) told
@@ -61,7 +61,7 @@ follows_call heap old new before after number command notes follows =
     }
 
 -- what the turns of a command added
-pub serves_adds : (old new : PlayState) (command : TurnCommand) (reply : TurnReply) → ServesCommand old new command reply → AddsSteps old new
+pub serves_adds : (old new : PlayState) (command : TurnCommand) (reply : TurnReply) → ServesCommand old new command reply → AddsTurns old new
 serves_adds old new (commands.Turns n) replies.Done serves = turns_add GoesOnward n old new serves.taken
 serves_adds old new (commands.Turns n) (replies.Waits number answer p) serves = came_add GoesOnward old new _ _ serves.0
 serves_adds old new (commands.Turns n) (replies.Cycle cycle) serves = absurd serves
@@ -69,15 +69,24 @@ serves_adds old new commands.Cycle replies.Done serves = absurd serves
 serves_adds old new commands.Cycle (replies.Waits number answer p) serves = came_add IsStep old new _ _ serves
 serves_adds old new commands.Cycle (replies.Cycle cycle) serves = came_add IsStep old new _ _ serves.1
 
-own_of_heap : (added : List Entry) → AllByRecursion IsOwnStep added → AreOfHeap added
-own_of_heap [] own = tt
-own_of_heap (entry ∷ added) own = (own.0.1, own_of_heap added own.1)
+turn_of_heap : (entry : Entry) → tells_turn entry ≡ true → is_of_heap entry ≡ true
+turn_of_heap (entries.Turned command reply) tells = absurd (cc tells)
+turn_of_heap _ tells = refl
+
+turns_of_heap : (added : List Entry) → AreTurns added → AreOfHeap added
+turns_of_heap [] turned = tt
+turns_of_heap (entry ∷ added) turned = (turn_of_heap entry turned.0, turns_of_heap added turned.1)
 
 -- what was noted of them is that
-pub own_noted : (old new : PlayState) (before after : List Entry) (command : TurnCommand) → (notes : NotesTurns old new before after command) → AllByRecursion IsOwnStep notes.added × (new.heap ≡ old.heap)
-own_noted old new before after command notes =
+abbrev pub turns_noted : (old new : PlayState) (before after : List Entry) (command : TurnCommand) → NotesTurns old new before after command → AddsTurns old new
+turns_noted old new before after command notes =
     let adds = serves_adds old new command notes.reply notes.serves in
-    (subst (AllByRecursion IsOwnStep) (append_cancel_left old.entries adds.added notes.added (sym adds.told ∙ notes.told)) adds.own, adds.same_heap)
+    record {
+      same_heap = adds.same_heap;
+      added = notes.added;
+      told = notes.told;
+      turned = subst AreTurns (append_cancel_left old.entries adds.added notes.added (sym adds.told ∙ notes.told)) adds.turned;
+    }
 
 -- the reply shows what is so
 serves_shows : (old new : PlayState) (command : TurnCommand) (reply : TurnReply) → ServesCommand old new command reply → TurnShows new.heap new.entries reply
@@ -104,13 +113,13 @@ reply_shows holds old new before added command (replies.Waits number answer p) s
 pub follows_turns : TurnedHoldNobody → (heap : Heap) (old new : PlayState) (before after : List Entry) (command : TurnCommand) → NotesTurns old new before after command
     → Follows heap old before → Follows heap new after
 follows_turns holds heap old new before after command notes follows =
-    let own = own_noted old new before after command notes in
-    let plain = own_of_heap notes.added own.0 in
+    let adds = turns_noted old new before after command notes in
+    let plain = turns_of_heap notes.added adds.turned in
     let turned : List Entry = entries.Turned command notes.reply ∷ [] in
     let left : without_turned (before ++ notes.added) ≡ new.entries
     = filter-append is_of_heap before notes.added ∙ ap (λ es. without_turned before ++ es) (all_left notes.added plain) ∙ ap (λ es. es ++ notes.added) follows.same ∙ sym notes.told in
     let noted : after ≡ (before ++ notes.added) ++ turned = notes.noted ∙ sym (append_assoc before notes.added turned) in
-    let of_heap = own.1 ∙ follows.of_heap in
+    let of_heap = adds.same_heap ∙ follows.of_heap in
     let shows : TurnShows heap (before ++ notes.added) notes.reply
     = subst (λ h. TurnShows h (before ++ notes.added) notes.reply) of_heap (reply_shows holds old new before notes.added command notes.reply notes.serves notes.told left) in
     record {
@@ -120,32 +129,36 @@ follows_turns holds heap old new before after command notes follows =
           (rightly_more heap [] before notes.added follows.right (all_rightly heap before notes.added plain)) (shows, tt));
     }
 
--- the entries of a last cycle are steps and ends of cycles
-own_steps : (told : List Entry) → AllByRecursion (λ entry. tells_step entry ≡ true) told → AllByRecursion IsOwnStep told
-own_steps [] own = tt
-own_steps (entries.Advance p ∷ told) own = ((refl, refl), own_steps told own.1)
-own_steps (entries.Frees count ∷ told) own = ((refl, refl), own_steps told own.1)
-own_steps (entries.Returns count ∷ told) own = ((refl, refl), own_steps told own.1)
-own_steps (entries.Swings id ∷ told) own = ((refl, refl), own_steps told own.1)
-own_steps (_ ∷ told) own = cc own.0
+-- the entries of a last cycle are told by turns
+steps_told : (told : List Entry) → AllByRecursion (λ entry. tells_step entry ≡ true) told → AreTurns told
+steps_told [] own = tt
+steps_told (entries.Advance p ∷ told) own = (refl, steps_told told own.1)
+steps_told (entries.Frees count ∷ told) own = (refl, steps_told told own.1)
+steps_told (entries.Returns count ∷ told) own = (refl, steps_told told own.1)
+steps_told (entries.Swings id ∷ told) own = (refl, steps_told told own.1)
+steps_told (_ ∷ told) own = cc own.0
 
-own_end : (began : Bool) (turned : List Entry) → EndsCycle began turned → AllByRecursion IsOwnStep turned
-own_end began turned ends = rw ends.ends (own_more ends.steps (entries.Ends ends.cycle ends.kept ∷ []) (own_steps ends.steps ends.own) ((refl, refl), tt))
+end_told : (began : Bool) (turned : List Entry) → EndsCycle began turned → AreTurns turned
+end_told began turned ends = rw ends.ends (told_more ends.steps (entries.Ends ends.cycle ends.kept ∷ []) (steps_told ends.steps ends.own) (refl, tt))
 
-own_cycle : (turned : List Entry) → IsLastCycle turned → AllByRecursion IsOwnStep turned
-own_cycle turned cycle = rw cycle.both (own_more cycle.under_way cycle.whole (first cycle.first) (own_end true cycle.whole cycle.last))
+cycle_told : (turned : List Entry) → IsLastCycle turned → AreTurns turned
+cycle_told turned cycle = rw cycle.both (told_more cycle.under_way cycle.whole (first cycle.first) (end_told true cycle.whole cycle.last))
   where
-    first : (cycle.under_way ≡ []) ⊎ EndsCycle false cycle.under_way → AllByRecursion IsOwnStep cycle.under_way
+    first : (cycle.under_way ≡ []) ⊎ EndsCycle false cycle.under_way → AreTurns cycle.under_way
     first (inl none) = rw none tt
-    first (inr ends) = own_end false cycle.under_way ends
+    first (inr ends) = end_told false cycle.under_way ends
+
+-- after turns that answer no command of it
+pub follows_adds : (heap : Heap) (old new : PlayState) (before after : List Entry) → (adds : AddsTurns old new) → after ≡ before ++ adds.added → Follows heap old before → Follows heap new after
+follows_adds heap old new before after adds noted follows =
+    let plain = turns_of_heap adds.added adds.turned in
+    record {
+      of_heap = adds.same_heap ∙ follows.of_heap;
+      same = ap without_turned noted ∙ filter-append is_of_heap before adds.added ∙ ap (λ es. without_turned before ++ es) (all_left adds.added plain) ∙ ap (λ es. es ++ adds.added) follows.same ∙ sym adds.told;
+      right = subst (AllAnswerRightly heap []) (sym noted) (rightly_more heap [] before adds.added follows.right (all_rightly heap before adds.added plain));
+    }
 
 -- after a last cycle
 pub follows_cycle : (heap : Heap) (old new : PlayState) (before after : List Entry) → NotesLastCycle old new before after → Follows heap old before → Follows heap new after
-follows_cycle heap old new before after notes follows =
-    let own = own_cycle notes.turned notes.cycle in
-    let plain = own_of_heap notes.turned own in
-    record {
-      of_heap = notes.same_heap ∙ follows.of_heap;
-      same = ap without_turned notes.noted ∙ filter-append is_of_heap before notes.turned ∙ ap (λ es. without_turned before ++ es) (all_left notes.turned plain) ∙ ap (λ es. es ++ notes.turned) follows.same ∙ sym notes.told;
-      right = subst (AllAnswerRightly heap []) (sym notes.noted) (rightly_more heap [] before notes.turned follows.right (all_rightly heap before notes.turned plain));
-    }
+follows_cycle heap old new before after notes =
+    follows_adds heap old new before after (record { same_heap = notes.same_heap; added = notes.turned; told = notes.told; turned = cycle_told notes.turned notes.cycle }) notes.noted

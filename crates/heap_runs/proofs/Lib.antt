@@ -15,6 +15,7 @@ pub mod NextLine
 pub mod Noted
 pub mod Noting
 pub mod Opened
+pub mod Slacking
 pub mod Standing
 pub mod Told
 pub mod TurnFacts

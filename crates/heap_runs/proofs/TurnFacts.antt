@@ -1,6 +1,5 @@
 -- What a turn of a heap that is played on adds.
 use Rattle.std.proofs.Common.{◌≡◌, ℕ, zero, suc, true, List, [], ◌∷◌, ◌++◌, filter, inl, inr, refl, sym, ap, subst, ◌∙◌, append_assoc, arith}
-use Rattle.std.specs.List.{AllByRecursion}
 use Rattle.std.proofs.lemmas.List.{append-nil, append_cancel_left}
 use Rattle.std.proofs.lemmas.List.Elements.{filter-append}
 use Rattle.heap_model.specs.declared.calls.collector_calls.Turn.{Turn}
@@ -11,22 +10,18 @@ use Rattle.heap_model.specs.declared.reply.TurnReply.{TurnReply}
 use Rattle.heap_model.specs.declared.reply.TurnReply.TheVariants as replies
 use Rattle.heap_model.specs.account.Noting.{is_collectors}
 use Rattle.heap_model.specs.account.Phases.{IsBehind, TurnShows}
-use Rattle.heap_model.specs.account.Turned.{is_of_heap}
 use Rattle.heap_model.specs.calls.CollectorCalls.{ComesTo, StepsTo}
+use Rattle.heap_runs.specs.Play.{tells_turn, AreTurns}
 use Rattle.heap_runs.specs.PlayHeap.{PlayState, TakesTurn, collector_state_of}
-use Rattle.heap_runs.specs.Turning.{IsStep, TakesTurns, HasTurned, HasComeTo}
+use Rattle.heap_runs.specs.Turning.{AddsTurns, IsStep, TakesTurns, HasTurned, HasComeTo}
 use Rattle.core_rule.proofs.parties.Collectors.{all_collectors}
 
--- an entry of the collector that isn't what one of its commands was answered
-abbrev pub IsOwnStep : Entry → Type 0
-IsOwnStep entry = (is_collectors entry ≡ true) × (is_of_heap entry ≡ true)
-
-steps_own : (now later : ℕ) (entry : Entry) → StepsTo now entry later → IsOwnStep entry
-steps_own now later (entries.Advance p) steps = (refl, refl)
-steps_own now later (entries.Frees count) steps = (refl, refl)
-steps_own now later (entries.Returns count) steps = (refl, refl)
-steps_own now later (entries.Swings id) steps = (refl, refl)
-steps_own now later _ steps = absurd steps
+step_tells : (now later : ℕ) (entry : Entry) → StepsTo now entry later → tells_turn entry ≡ true
+step_tells now later (entries.Advance p) steps = refl
+step_tells now later (entries.Frees count) steps = refl
+step_tells now later (entries.Returns count) steps = refl
+step_tells now later (entries.Swings id) steps = refl
+step_tells now later _ steps = absurd steps
 
 module _ (old new : PlayState) (turn : Turn) (takes : TakesTurn old new turn) where
   -- the collector's list has just what was added more
@@ -38,15 +33,15 @@ module _ (old new : PlayState) (turn : Turn) (takes : TakesTurn old new turn) wh
   pub none_is : (collector_state_of new).log ≡ (collector_state_of old).log → takes.added ≡ []
   none_is log = added_is [] (log ∙ sym (append-nil (filter is_collectors old.entries)))
 
-  own_by : (turn : Turn) → ComesTo (collector_state_of old) (collector_state_of new) turn → AllByRecursion IsOwnStep takes.added
-  own_by turns.Stepped (inl none) = rw (none_is none.0) tt
-  own_by turns.Stepped (inr steps) = rw (added_is (steps.0 ∷ []) steps.2) (steps_own _ _ steps.0 steps.1, tt)
-  own_by (turns.Waits number answer p) comes = rw (none_is comes.0.0) tt
-  own_by (turns.Ended cycle kept) comes = rw (added_is (entries.Ends cycle kept ∷ []) comes.0) ((refl, refl), tt)
+  told_by : (turn : Turn) → ComesTo (collector_state_of old) (collector_state_of new) turn → AreTurns takes.added
+  told_by turns.Stepped (inl none) = rw (none_is none.0) tt
+  told_by turns.Stepped (inr steps) = rw (added_is (steps.0 ∷ []) steps.2) (step_tells _ _ steps.0 steps.1, tt)
+  told_by (turns.Waits number answer p) comes = rw (none_is comes.0.0) tt
+  told_by (turns.Ended cycle kept) comes = rw (added_is (entries.Ends cycle kept ∷ []) comes.0) (refl, tt)
 
-  -- what was added is the collector's, and no answer to a command
-  pub own_steps : AllByRecursion IsOwnStep takes.added
-  own_steps = own_by turn takes.turned.comes_to
+  -- what was added tells a turn
+  pub turn_told : AreTurns takes.added
+  turn_told = told_by turn takes.turned.comes_to
 
 -- a turn that waits adds nothing, and shows a seat that is behind
 pub wait_shows : (old new : PlayState) (number answer p : ℕ) → TakesTurn old new (turns.Waits number answer p) → TurnShows new.heap new.entries (replies.Waits number answer p)
@@ -60,28 +55,26 @@ pub end_shows : (old new : PlayState) (cycle kept : ℕ) → TakesTurn old new (
 end_shows old new cycle kept takes =
     (old.entries, kept, takes.entries ∙ ap (λ es. old.entries ++ es) (added_is old new (turns.Ended cycle kept) takes (entries.Ends cycle kept ∷ []) takes.turned.comes_to.0))
 
-pub own_more : (front behind : List Entry) → AllByRecursion IsOwnStep front → AllByRecursion IsOwnStep behind → AllByRecursion IsOwnStep (front ++ behind)
-own_more [] behind own more = more
-own_more (entry ∷ front) behind own more = (own.0, own_more front behind own.1 more)
+pub told_more : (front behind : List Entry) → AreTurns front → AreTurns behind → AreTurns (front ++ behind)
+told_more [] behind turned more = more
+told_more (entry ∷ front) behind turned more = (turned.0, told_more front behind turned.1 more)
 
--- what turns of the collector added
-pub record AddsSteps (old new : PlayState) : Type 0 where
-  pub same_heap : new.heap ≡ old.heap
-  pub added : List Entry
-  pub told : new.entries ≡ old.entries ++ added
-  pub own : AllByRecursion IsOwnStep added
+-- no turn was made
+abbrev pub turns_none : (old new : PlayState) → new.heap ≡ old.heap → new.entries ≡ old.entries → AddsTurns old new
+turns_none old new heap same = record { same_heap = heap; added = []; told = same ∙ sym (append-nil old.entries); turned = tt }
 
-pub steps_more : (old now new : PlayState) (turn : Turn) → AddsSteps old now → TakesTurn now new turn → AddsSteps old new
-steps_more old now new turn adds takes = record {
+-- one turn more
+pub turns_more : (old now new : PlayState) (turn : Turn) → AddsTurns old now → TakesTurn now new turn → AddsTurns old new
+turns_more old now new turn adds takes = record {
   same_heap = takes.heap ∙ adds.same_heap;
   added = adds.added ++ takes.added;
   told = takes.entries ∙ ap (λ es. es ++ takes.added) adds.told ∙ append_assoc old.entries adds.added takes.added;
-  own = own_more adds.added takes.added adds.own (own_steps now new turn takes);
+  turned = told_more adds.added takes.added adds.turned (turn_told now new turn takes);
 }
 
-pub turns_add : (Is : Turn → Type 0) (n : ℕ) (old new : PlayState) → TakesTurns Is n old new → AddsSteps old new
-turns_add Is zero old new same = record { same_heap = ap (λ s. s.heap) same; added = []; told = ap (λ s. s.entries) same ∙ sym (append-nil old.entries); own = tt }
-turns_add Is (suc n) old new taken = steps_more old taken.0 new taken.1 (turns_add Is n old taken.0 taken.2) taken.3
+pub turns_add : (Is : Turn → Type 0) (n : ℕ) (old new : PlayState) → TakesTurns Is n old new → AddsTurns old new
+turns_add Is zero old new same = turns_none old new (ap (λ s. s.heap) same) (ap (λ s. s.entries) same)
+turns_add Is (suc n) old new taken = turns_more old taken.0 new taken.1 (turns_add Is n old taken.0 taken.2) taken.3
 
 -- one more turn with such an answer, or a last one
 pub turned_more : (Is : Turn → Type 0) (old now new : PlayState) (n : ℕ) (turn : Turn) → HasTurned Is old now n → TakesTurn now new turn → Is turn → HasTurned Is old new (suc n)
@@ -93,8 +86,8 @@ comes_to Is old now new n last reply turned takes shows =
     record { earlier = n; now = now; turned = turned; takes = takes; counted = omega (arith, turned.counted, takes.turned.counted); shows = shows }
 
 -- what was added up to an answer
-pub came_add : (Is : Turn → Type 0) (old new : PlayState) (last : Turn) (reply : TurnReply) → HasComeTo Is old new last reply → AddsSteps old new
-came_add Is old new last reply came = steps_more old came.now new last (turns_add Is came.earlier old came.now came.turned.taken) came.takes
+pub came_add : (Is : Turn → Type 0) (old new : PlayState) (last : Turn) (reply : TurnReply) → HasComeTo Is old new last reply → AddsTurns old new
+came_add Is old new last reply came = turns_more old came.now new last (turns_add Is came.earlier old came.now came.turned.taken) came.takes
 
 -- where that was the end of a cycle, the last entry is that end
 pub ends_added : (old new : PlayState) (cycle kept : ℕ) (reply : TurnReply) (added : List Entry) → HasComeTo IsStep old new (turns.Ended cycle kept) reply → new.entries ≡ old.entries ++ added

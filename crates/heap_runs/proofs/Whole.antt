@@ -1,5 +1,5 @@
 -- A script that was answered and whose seats have left was played.
-use Rattle.std.proofs.Common.{◌≡◌, true, ℕ, ◌+◌, ◌*◌, ◌<◌, List, [], ◌∷◌, ◌++◌, length, take, drop, Some, refl, sym, ap, subst, ◌∙◌, append_assoc, arith}
+use Rattle.std.proofs.Common.{◌≡◌, Bool, true, ℕ, ◌+◌, ◌*◌, ◌<◌, List, [], ◌∷◌, ◌++◌, length, take, drop, Some, refl, sym, ap, subst, ◌∙◌, append_assoc, arith}
 use Rattle.std.specs.List.{flat_map, range_with_len}
 use Rattle.std.proofs.lemmas.List.{take_at, drop_at}
 use Rattle.heap_model.specs.declared.heap.Heap.{Heap}
@@ -18,7 +18,7 @@ use Rattle.reply_text.specs.declared.history.History.{History}
 use Rattle.reply_text.specs.declared.history.SpaceMark.{SpaceMark}
 use Rattle.log_merge.specs.Legal.{ShowsUse, ShowsCounts}
 use Rattle.core_rule.proofs.parties.LeftStill.{left_still, up_to_last_later}
-use Rattle.heap_runs.specs.Play.{lines_answered, IsLastCycle, IsPlay}
+use Rattle.heap_runs.specs.Play.{lines_answered, EndsAtLine, IsLastCycle, IsPlay}
 use Rattle.heap_runs.specs.PlayHeap.{PlayState, IsPlayed}
 use Rattle.heap_runs.specs.Playing.{Follows, HasAnsweredLines, HaveLeft, NotesLastCycle}
 use Rattle.heap_runs.proofs.Bounds.{returned_within}
@@ -47,11 +47,11 @@ none_used empties heap told turned played gone cycle =
     (omega (arith, ap fragments_used all, empty.0, played.none_short), omega (arith, ap words_used all, empty.1, returned_within heap (told ++ turned) played.legal))
 
 -- the whole play: the script was answered, the seats have left, and a last cycle was made
-pub whole_play : TurnedMayStand → TurnedCountNothing → EachLastCycleEmpties → (script : Script) (middle gone last : PlayState) (front between entries : List Entry) (mark : SpaceMark) (used : ℕ) (told : History)
-    → HasAnsweredLines script.heap middle front script.lines → HaveLeft script.heap gone front between script.heap.seats → NotesLastCycle gone last between entries → IsPlayed script.heap middle.entries → IsPlayed script.heap last.entries
+pub whole_play : TurnedMayStand → TurnedCountNothing → EachLastCycleEmpties → (paced : Bool) (script : Script) (middle gone last : PlayState) (front between entries : List Entry) (mark : SpaceMark) (used : ℕ) (told : History)
+    → HasAnsweredLines script.heap middle front script.lines → EndsAtLine paced front → HaveLeft script.heap gone front between script.heap.seats → NotesLastCycle gone last between entries → IsPlayed script.heap middle.entries → IsPlayed script.heap last.entries
     → mark.before ≡ length front → ShowsUse middle.entries mark.used → mark.total ≡ 16 * script.heap.groups → mark.spine + words_returned middle.entries ≡ words_granted middle.entries → mark.budget ≡ script.heap.spine
-    → ShowsUse last.entries used → told ≡ record { form = forms.Play; heap = script.heap; entries = entries; mark = Some mark; end_used = used } → IsPlay script told
-whole_play stand counts empties script middle gone last front between entries mark used told answered left notes played_middle played_last before in_use total spine budget at_end is =
+    → ShowsUse last.entries used → told ≡ record { form = forms.Play; heap = script.heap; entries = entries; mark = Some mark; end_used = used } → IsPlay paced script told
+whole_play stand counts empties paced script middle gone last front between entries mark used told answered at_line left notes played_middle played_last before in_use total spine budget at_end is =
     let leaving : List Entry = flat_map (λ number. leave_entries number (left.left number)) (range_with_len 0 script.heap.seats) in
     let all : entries ≡ front ++ (leaving ++ notes.turned) = notes.noted ∙ ap (λ es. es ++ notes.turned) left.leaves ∙ append_assoc front leaving notes.turned in
     let front_is : take mark.before entries ≡ front = rw all (take_at front _ mark.before (sym before)) in
@@ -80,7 +80,7 @@ whole_play stand counts empties script middle gone last front between entries ma
       all_returned = sym last_counts.returned_stay ∙ ap words_returned follows.same ∙ ap words_returned notes.told ∙ empty.1 ∙ sym (ap words_granted notes.told) ∙ sym (ap words_granted follows.same) ∙ last_counts.granted_stay;
       parted = record {
         commands = ap (flat_map lines_answered) front_is ∙ answered.commands;
-        last = rw front_is answered.last;
+        last = rw front_is at_line;
         leaving = leaving;
         turned = notes.turned;
         leaves = (left.left, refl);

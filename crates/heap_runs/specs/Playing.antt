@@ -1,5 +1,5 @@
 -- A play that has answered some lines of its script, and one whose seats have left.
-use Rattle.std.specs.Prelude.{◌≡◌, ℕ, ◌<◌, ◌≤◌, ◌%◌, ◌==◌, true, false, List, [], ◌∷◌, ◌++◌, length}
+use Rattle.std.specs.Prelude.{◌≡◌, ℕ, ◌-◌, ◌<◌, ◌≤◌, ◌%◌, ◌==◌, ◌^◌, min, Bool, true, false, List, [], ◌∷◌, ◌++◌, length}
 use Rattle.std.specs.List.{flat_map, range_with_len}
 use Rattle.heap_model.specs.declared.heap.Heap.{Heap}
 use Rattle.heap_model.specs.declared.command.Command.{Command}
@@ -10,13 +10,15 @@ use Rattle.heap_model.specs.declared.reply.Reply.{Reply}
 use Rattle.heap_model.specs.declared.reply.TurnReply.{TurnReply}
 use Rattle.heap_model.specs.PhasePlan.{cycle_phases, rest}
 use Rattle.heap_model.specs.account.PhaseCounts.{phase, has_left}
+use Rattle.heap_model.specs.account.Space.{total}
 use Rattle.heap_model.specs.account.Turned.{without_turned, AllAnswerRightly}
 use Rattle.heap_model.specs.calls.SeatCalls.{leave_entries}
 use Rattle.heap_model.specs.calls.SeatState.{own_graph_seat}
 use Rattle.script_text.specs.declared.script.Line.{Line}
-use Rattle.heap_runs.specs.Play.{lines_answered, EndsInReply, EndsCycle, IsLastCycle}
+use Rattle.heap_runs.specs.Play.{lines_answered, EndsCycle, IsLastCycle}
 use Rattle.heap_runs.specs.PlayHeap.{PlayState, seat_state_of, AnswersCall}
-use Rattle.heap_runs.specs.Turning.{ServesCommand}
+use Rattle.heap_runs.specs.Turning.{ServesCommand, AddsTurns, CountsTurns}
+use Rattle.slack_pace.specs.Slack.{HasWaited}
 
 -- the call was made, and its entries are noted behind those from before
 pub record NotesCall (old new : PlayState) (before after : List Entry) (number : ℕ) (command : Command) : Type 0 where
@@ -25,6 +27,28 @@ pub record NotesCall (old new : PlayState) (before after : List Entry) (number :
   pub added : List Entry
   pub told : new.entries ≡ old.entries ++ added
   pub noted : after ≡ before ++ added
+
+-- how many fragments these entries take, up to the last number of its type
+abbrev pub claimed_by : List Entry → ℕ
+claimed_by entries = min (total (λ e. e.taken) entries) (2 ^ 64 - 1)
+
+-- the turns that a pace asked for were made, or those up to the first that waited, and their entries are noted behind those from before
+pub record NotesSlack (asked : ℕ) (old new : PlayState) (before after : List Entry) : Type 0 where
+  pub adds : AddsTurns old new
+  pub noted : after ≡ before ++ adds.added
+  pub made : ℕ
+  pub most : made ≤ asked
+  pub fewer : made < asked → HasWaited new.last_turn
+  pub counted : CountsTurns old new made
+
+-- the call was made and noted, and with a pace turns behind it
+pub record NotesSeatLine (paced : Bool) (old new : PlayState) (before after : List Entry) (number : ℕ) (command : Command) : Type 0 where
+  pub now : PlayState
+  pub between : List Entry
+  pub call : NotesCall old now before between number command
+  pub adds : AddsTurns now new
+  pub noted : after ≡ between ++ adds.added
+  pub none : paced ≡ false → adds.added ≡ []
 
 -- the turns were made, and their entries are noted behind those from before, and what the command was answered behind them
 pub record NotesTurns (old new : PlayState) (before after : List Entry) (command : TurnCommand) : Type 0 where
@@ -55,7 +79,6 @@ pub record HasAnsweredLines (heap : Heap) (state : PlayState) (history : List En
   pub present : (number : ℕ) → number < heap.seats → IsThere state number
   pub few : (number : ℕ) → number < heap.seats → DoesFew state number (length lines)
   pub commands : flat_map lines_answered history ≡ lines
-  pub last : EndsInReply history
 
 -- the first seats have left, and the others are there
 pub record HaveLeft (heap : Heap) (state : PlayState) (before after : List Entry) (count : ℕ) : Type 0 where

@@ -1,13 +1,22 @@
 -- What the turns of one command of the collector come to.
-use Rattle.std.specs.Prelude.{◌≡◌, ℕ, zero, suc, ◌+◌, ◌-◌, ◌<◌, ◌^◌, min}
+use Rattle.std.specs.Prelude.{◌≡◌, ℕ, zero, suc, ◌+◌, ◌-◌, ◌<◌, ◌^◌, min, List, ◌++◌}
 use Rattle.heap_model.specs.declared.command.TurnCommand.{TurnCommand}
 use Rattle.heap_model.specs.declared.command.TurnCommand.TheVariants as commands
+use Rattle.heap_model.specs.declared.entry.Entry.{Entry}
 use Rattle.heap_model.specs.declared.reply.TurnReply.{TurnReply}
 use Rattle.heap_model.specs.declared.reply.TurnReply.TheVariants as replies
 use Rattle.heap_model.specs.declared.calls.collector_calls.Turn.{Turn}
 use Rattle.heap_model.specs.declared.calls.collector_calls.Turn.TheVariants as turns
 use Rattle.heap_model.specs.account.Phases.{TurnShows}
+use Rattle.heap_runs.specs.Play.{AreTurns}
 use Rattle.heap_runs.specs.PlayHeap.{PlayState, TakesTurn}
+
+-- turns of the collector were made, which added what they told
+pub record AddsTurns (old new : PlayState) : Type 0 where
+  pub same_heap : new.heap ≡ old.heap
+  pub added : List Entry
+  pub told : new.entries ≡ old.entries ++ added
+  pub turned : AreTurns added
 
 -- the turn doesn't wait
 abbrev pub GoesOnward : Turn → Type 0

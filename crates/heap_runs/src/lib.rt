@@ -3,6 +3,7 @@
 
 mod machine_heap;
 mod note;
+mod play_collector;
 mod play_heap;
 mod playing;
 mod turning;

@@ -1,11 +1,12 @@
-ghost use Rattle.std.specs.Prelude.{◌≡◌, true, [], IfOk, OnOk};
+ghost use Rattle.std.specs.Prelude.{◌≡◌, true, [], is_some, IfOk, OnOk};
 ghost use Rattle.script_text.specs.declared.script.Form.TheVariants.{Play};
 ghost use Rattle.script_text.specs.Writing.{IsOfForm};
-ghost use Rattle.heap_runs.specs.Play.{IsPlay};
-ghost use Rattle.heap_runs.specs.Playing.{HasAnsweredLines, HaveLeft, AllGone, NotesLastCycle};
+ghost use Rattle.heap_runs.specs.Play.{IsPlay, EndsAtLine};
+ghost use Rattle.heap_runs.specs.PlayHeap.{MayCall};
+ghost use Rattle.heap_runs.specs.Playing.{NotesSeatLine, HasAnsweredLines, HaveLeft, AllGone, NotesLastCycle};
 
 use crate::play_heap::PlayHeap;
-use crate::playing::noting::{note_call, note_cycle, note_turns};
+use crate::playing::noting::{note_call, note_cycle, note_slack, note_turns};
 use crate::playing::use_count::{in_use, words_in_use};
 use core_rule::law_sweep_exact;
 use heap_model::limits::GROUP_FRAGMENTS;
@@ -13,32 +14,57 @@ use heap_model::phase_plan::{CYCLE_PHASES, REST};
 use heap_model::{Command, Entry, Heap, Memory, account_laws, seat_laws};
 use reply_text::{History, SpaceMark};
 use script_text::{Form, Line, Script, Sequence};
+use slack_pace::Pace;
 use std::alloc::Global;
 
 mod noting;
 mod use_count;
 
-/// Answers the lines of the script on a heap without entries, and notes what is told.
-fn answer_lines<H: PlayHeap>(
-    whole: &mut H,
+/// Makes a whole call of the seat, with a pace also the turns that it asks for by what the call claimed, and notes what is told.
+fn answer_seat_line<H: PlayHeap + Drop>(
+    mut whole: H,
+    history: &mut Vec<Entry>,
+    seat: u8,
+    command: &Command,
+    pace: &mut Option<Box<dyn Pace>>,
+) -> Result<H, Memory>
+    requires { MayCall (H.state whole) seat command.now }
+    ensures notes { IfOk result (λ now. NotesSeatLine (is_some pace.old) (H.state whole) (H.state now) history.old.items history.new.items seat command.now) }
+    ensures pace { is_some pace.new ≡ is_some pace.old }
+{
+    let claimed = note_call(&mut whole, history, seat, command)?;
+    match pace {
+        Some(pace) => note_slack(whole, history, pace, claimed),
+        None => Ok(whole),
+    }
+}
+
+/// Answers the lines of the script on a heap without entries, with a pace also makes the turns that it asks for behind each line of
+/// a seat, and notes what is told.
+fn answer_lines<H: PlayHeap + Drop>(
+    mut whole: H,
     history: &mut Vec<Entry>,
     script: &Script,
-) -> Result<(), Memory>
+    mut pace: Option<Box<dyn Pace>>,
+) -> Result<H, Memory>
     requires form { IsOfForm Play script.now }
-    requires heap { (H.state whole.old).heap ≡ script.now.heap }
-    requires fresh { (H.state whole.old).entries ≡ [] }
+    requires heap { (H.state whole).heap ≡ script.now.heap }
+    requires fresh { (H.state whole).entries ≡ [] }
     requires nothing { history.old.items ≡ [] }
-    ensures { OnOk result (HasAnsweredLines script.now.heap (H.state whole.new) history.new.items script.now.lines) }
+    ensures answered { IfOk result (λ now. HasAnsweredLines script.now.heap (H.state now) history.new.items script.now.lines) }
+    ensures last { OnOk result (EndsAtLine (is_some pace) history.new.items) }
 {
     account_laws();
     seat_laws();
     for line in script.lines.as_slice() {
         match *line {
-            Line::Seat { seat, command } => note_call(whole, history, seat, &command)?,
-            Line::Turns { command } => note_turns(whole, history, &command)?,
+            Line::Seat { seat, command } => {
+                whole = answer_seat_line(whole, history, seat, &command, &mut pace)?;
+            }
+            Line::Turns { command } => note_turns(&mut whole, history, &command)?,
         }
     }
-    Ok(())
+    Ok(whole)
 }
 
 /// Lets each seat give back what it has left over and leave, in the order of their numbers, and notes what is told.
@@ -70,22 +96,24 @@ fn make_last_cycle<H: PlayHeap>(whole: &mut H, history: &mut Vec<Entry>) -> Resu
 }
 
 /// The history of a play of the script on the heap, which is the script's. At its end nothing is in use.
+/// With a pace, the collector makes the turns that it asks for behind each line of a seat.
 pub fn play<H: PlayHeap + Drop>(
     alloc: Global,
-    mut whole: H,
+    whole: H,
     heap: Heap,
     script: &Script,
+    pace: Option<Box<dyn Pace>>,
 ) -> Result<History, Memory>
     requires fresh { (H.state whole).entries ≡ [] }
     requires whole { (H.state whole).heap ≡ heap }
     requires heap { heap ≡ script.now.heap }
     requires form { IsOfForm Play script.now }
-    ensures { IfOk result (IsPlay script.now) }
+    ensures { IfOk result (IsPlay (is_some pace) script.now) }
 {
     account_laws();
     law_sweep_exact();
     let mut history = Vec::new(alloc);
-    answer_lines(&mut whole, &mut history, script)?;
+    let mut whole = answer_lines(whole, &mut history, script, pace)?;
     let mark = SpaceMark {
         before: history.len(),
         used: in_use(&heap, whole.entries()),

@@ -1,2 +1,5 @@
 pub mod FirstLines
 pub mod OneStatus
+pub mod GivenSettings
+pub mod RangeNumbers
+pub mod Inputs

@@ -1,3 +1,4 @@
+pub mod Settings
 pub mod Status
 pub mod Serving
 pub mod Verdict

@@ -1,17 +1,23 @@
 -- What the program's statuses say of what it read and wrote.
-use Rattle.std.specs.Prelude.{ℕ, ◌+◌, ◌≤◌, List, length, Option}
+use Rattle.std.specs.Prelude.{◌≡◌, ℕ, ◌+◌, ◌≤◌, List, [], length, Option}
 use Rattle.script_text.specs.declared.cause.Cause.{Cause}
 use Rattle.io_edge.specs.Left.{GivesAll, LosesNext, LosesUpTo}
 use Rattle.io_edge.specs.Taken.{Takes, TakesFront}
 use Rattle.schism_program.specs.declared.status.Status.{Status}
 use Rattle.schism_program.specs.declared.status.Status.TheVariants as statuses
 use Rattle.schism_program.specs.declared.work.Work.{Work}
-use Rattle.schism_program.specs.Works.{most_bytes, AskFor, FailsAt, IsIllegalAt, MakesText}
+use Rattle.schism_program.specs.declared.work.Work.TheVariants.{Make}
+use Rattle.schism_program.specs.Works.{most_bytes, AskFor, FailsAt, IsIllegalAt, MakesText, Reads}
 
--- the words ask for the work, and all that was left was read, no more than the limit
+-- all that was left was read, where the work has an input; where it has none, nothing was
+abbrev pub IsRead : Work → Option (List ℕ) → Option (List ℕ) → List ℕ → Type 0
+IsRead (Make start seats lines) left left' input = (input ≡ []) × (left' ≡ left)
+IsRead work left left' input = GivesAll left left' input
+
+-- the words ask for the work, and its input was read, no more than the limit
 pub record ReadsInput (words : List (List ℕ)) (left left' : Option (List ℕ)) (work : Work) (input : List ℕ) : Type 0 where
   pub asked : AskFor words work
-  pub all : GivesAll left left' input
+  pub all : IsRead work left left' input
   pub short : length input ≤ most_bytes work
 
 -- all was read, and what was written is told by the text that the work makes of it
@@ -49,13 +55,19 @@ pub record IsNotLegal (words : List (List ℕ)) (left left' : Option (List ℕ))
 pub record ReadsTooMuch (words : List (List ℕ)) (left left' : Option (List ℕ)) : Type 0 where
   pub work : Work
   pub asked : AskFor words work
+  pub reads : Reads work
   pub lost : LosesNext left left' (most_bytes work + 1)
 
--- the words ask for the work, and at most one byte more than the limit was read
+-- the work has an input, of which at most one byte more than the limit was read; or it has none, and nothing was
+abbrev pub IsReadUpTo : Work → Option (List ℕ) → Option (List ℕ) → Type 0
+IsReadUpTo (Make start seats lines) left left' = left' ≡ left
+IsReadUpTo work left left' = LosesUpTo left left' (most_bytes work + 1)
+
+-- the words ask for the work, and so much was read at most
 pub record ReadsNoMore (words : List (List ℕ)) (left left' : Option (List ℕ)) : Type 0 where
   pub work : Work
   pub asked : AskFor words work
-  pub lost : LosesUpTo left left' (most_bytes work + 1)
+  pub lost : IsReadUpTo work left left'
 
 -- the statuses after which something was written
 abbrev pub IsWriting : Status → Type 0

@@ -1,26 +1,39 @@
--- What an input is that is played, or refused.
-use Rattle.std.specs.Prelude.{◌≡◌, ℕ, List, Some}
+-- What an input is that is played, or refused, and what is told of it.
+use Rattle.std.specs.Prelude.{◌≡◌, ℕ, Bool, true, false, List, Some}
 use Rattle.script_text.specs.declared.cause.Cause.{Cause}
 use Rattle.script_text.specs.declared.script.Form.TheVariants as forms
 use Rattle.script_text.specs.declared.script.Script.{Script}
 use Rattle.script_text.specs.Grammar.{IsScript}
 use Rattle.script_text.specs.Faults.{first_fault}
+use Rattle.script_text.specs.Made.{made_script}
 use Rattle.script_text.specs.Text.{text_of}
+use Rattle.script_text.specs.Words.{script_lines}
 use Rattle.reply_text.specs.declared.history.History.{History}
 use Rattle.reply_text.specs.History.{history_lines}
+use Rattle.reply_text.specs.write.Brief.{brief_lines}
 use Rattle.heap_runs.specs.Play.{IsPlay}
 
 -- the input is a script
 abbrev pub IsPlayable : List ℕ → Type 0
 IsPlayable input = (script : Script) × IsScript forms.Play input script
 
--- the text is that of a play of the input's script
-pub record Plays (input text : List ℕ) : Type 0 where
+-- the lines that tell the history of a play: all of them, or its brief
+abbrev pub told_lines : Bool → History → List (List ℕ)
+told_lines false history = history_lines history
+told_lines true history = brief_lines history
+
+-- the text tells a play of the input's script, with a pace or with none
+pub record Plays (paced brief : Bool) (input text : List ℕ) : Type 0 where
   pub script : Script
   pub history : History
   pub spelled : IsScript forms.Play input script
-  pub played : IsPlay script history
-  pub rendered : text ≡ text_of (history_lines history)
+  pub played : IsPlay paced script history
+  pub rendered : text ≡ text_of (told_lines brief history)
+
+-- the text is that of the script that is made from this start, for so many seats and of so many lines
+abbrev pub IsMadeText : ℕ → ℕ → ℕ → List ℕ → Type 0
+IsMadeText start seats lines text =
+    let script = made_script start seats lines in (text ≡ text_of (script_lines script.heap script.lines)) × IsScript forms.Play text script
 
 -- the first fault of the script is this line's cause
 abbrev pub FailsToPlay : List ℕ → ℕ → Cause → Type 0

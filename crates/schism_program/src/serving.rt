@@ -1,17 +1,20 @@
-ghost use Rattle.std.specs.Prelude.{◌≡◌, ◌≤◌, ℕ, length, Err, IfOk};
+ghost use Rattle.std.specs.Prelude.{◌≡◌, ℕ, Err, IfOk, IsSome, is_some};
 ghost use Rattle.script_text.specs.declared.cause.LineFault.{LineFault as ALineFault};
 ghost use Rattle.script_text.specs.declared.script.Form.TheVariants.{Play};
 ghost use Rattle.script_text.specs.Grammar.{IsScript};
 ghost use Rattle.script_text.specs.Writing.{IsOfForm};
-ghost use Rattle.schism_program.specs.Serving.{FailsToPlay, Plays};
-ghost use Rattle.schism_program.specs.Works.{FailsAt, IsIllegalAt, MakesText};
+ghost use Rattle.script_text.specs.Text.{text_of};
+ghost use Rattle.schism_program.specs.Serving.{told_lines, FailsToPlay, IsMadeText, Plays};
+ghost use Rattle.schism_program.specs.Works.{FailsAt, IsIllegalAt, IsWork, MakesText, MayBeMade};
 
 use crate::fault::WorkFault;
 use crate::verdict::verdict;
 use crate::work::Work;
+use heap_model::Memory;
 use heap_runs::{MachineHeap, play};
-use reply_text::render_history;
-use script_text::{Form, Script, read_script};
+use reply_text::{History, render_brief, render_history};
+use script_text::{Form, Script, make_script, read_script, write_script};
+use slack_pace::{Pace, Paces};
 use std::alloc::Global;
 
 /// The script that the input is.
@@ -26,22 +29,56 @@ fn script_of(alloc: Global, input: &[u8]) -> Result<Script, WorkFault>
     Ok(script)
 }
 
-/// The text of the play of the script that the input is.
-fn played_text(alloc: Global, input: &[u8]) -> Result<Vec<u8>, WorkFault>
-    ensures ok { IfOk result (λ text. Plays input.now text.items) }
+/// The text that tells the history: all of it, or its brief.
+fn told_text(alloc: Global, history: &History, brief: bool) -> Result<Vec<u8>, Memory>
+    requires play { history.now.form ≡ Play }
+    requires marked { IsSome history.now.mark }
+    ensures { IfOk result (λ text. text.items ≡ text_of (told_lines brief history.now)) }
+{
+    if brief {
+        render_brief(alloc, history)
+    } else {
+        render_history(alloc, history)
+    }
+}
+
+/// The text that tells the play of the script that the input is.
+fn played_text(
+    alloc: Global,
+    input: &[u8],
+    pace: Option<Box<dyn Pace>>,
+    brief: bool,
+) -> Result<Vec<u8>, WorkFault>
+    ensures ok { IfOk result (λ text. Plays (is_some pace) brief input.now text.items) }
     ensures refused { (fault : ALineFault) → result ≡ Err (WorkFault.Refused fault) →
         FailsToPlay input.now fault.line fault.cause }
     ensures legal { (line : ℕ) → result ≡ Err (WorkFault.NotLegal line) → ⊥ }
 {
     let script = script_of(alloc, input)?;
     let whole = MachineHeap::make(alloc, script.heap)?;
-    let history = play(alloc, whole, script.heap, &script)?;
-    let text = render_history(alloc, &history)?;
+    let history = play(alloc, whole, script.heap, &script, pace)?;
+    let text = told_text(alloc, &history, brief)?;
+    Ok(text)
+}
+
+/// The text of a script that is made.
+fn made_script_text(alloc: Global, start: u32, seats: u8, lines: u32) -> Result<Vec<u8>, Memory>
+    requires { MayBeMade start seats lines }
+    ensures { IfOk result (λ text. IsMadeText start seats lines text.items) }
+{
+    let script = make_script(alloc, start, seats, lines)?;
+    let text = write_script(alloc, &script)?;
     Ok(text)
 }
 
 /// The text that the work makes of the input.
-pub fn made_text(alloc: Global, work: Work, input: &[u8]) -> Result<Vec<u8>, WorkFault>
+pub fn made_text(
+    alloc: Global,
+    work: Work,
+    input: &[u8],
+    paces: Paces,
+) -> Result<Vec<u8>, WorkFault>
+    requires { IsWork work }
     ensures ok { IfOk result (λ text. MakesText work input.now text.items) }
     ensures refused { (fault : ALineFault) → result ≡ Err (WorkFault.Refused fault) →
         FailsAt work input.now fault.line fault.cause }
@@ -49,7 +86,19 @@ pub fn made_text(alloc: Global, work: Work, input: &[u8]) -> Result<Vec<u8>, Wor
         IsIllegalAt work input.now line }
 {
     match work {
-        Work::Play => played_text(alloc, input),
+        Work::Play {
+            steady: true,
+            brief,
+        } => played_text(alloc, input, Some(paces.steady), brief),
+        Work::Play {
+            steady: false,
+            brief,
+        } => played_text(alloc, input, None, brief),
         Work::Check => verdict(alloc, input),
+        Work::Make {
+            start,
+            seats,
+            lines,
+        } => Ok(made_script_text(alloc, start, seats, lines)?),
     }
 }

@@ -2,6 +2,7 @@ mod arrays;
 mod collects;
 mod copies;
 mod cycles;
+mod forms;
 mod judged;
 mod machine;
 mod several_seats;
@@ -12,6 +13,7 @@ use crate::status::{Status, status_text};
 use crate::top::schism;
 use io_edge::{MemSink, MemSource, NeverSink, NeverSource};
 use script_text::Cause;
+use slack_pace::{Paces, Steady};
 use std::alloc::{AllocError, Global};
 use std::process::ExitCode;
 use std::test::Fail;
@@ -53,6 +55,12 @@ fn illegal(line: u32) -> Status {
     Status::NotLegal { line }
 }
 
+fn paces(alloc: Global) -> Result<Paces, AllocError> {
+    Ok(Paces {
+        steady: Box::new(alloc, Steady)?,
+    })
+}
+
 // What comes of it, and what was written; reads give 5 bytes a call and writes take 8.
 fn ended(
     alloc: Global,
@@ -65,7 +73,7 @@ fn ended(
     let mut source = MemSource::new(text, 5, Vec::from_slice(alloc, source_fails)?);
     let room = Vec::with_capacity(alloc, 8192)?;
     let mut sink = MemSink::new(room, 8, Vec::from_slice(alloc, sink_fails)?);
-    let status = schism(alloc, words, &mut source, &mut sink);
+    let status = schism(alloc, words, &mut source, &mut sink, paces(alloc)?);
     Ok((status, Vec::from_slice(alloc, sink.bytes())?))
 }
 
@@ -286,35 +294,12 @@ fn reads_no_more_of_a_history_than_the_limit(rt: HostRuntime) -> Result<(), Fail
         let text = vec![in alloc; b' '; count]?;
         let mut source = MemSource::new(text, 4096, Vec::new(alloc));
         let mut sink = MemSink::new(Vec::new(alloc), 8, Vec::new(alloc));
-        assert_eq!(rt; schism(alloc, &["check"], &mut source, &mut sink), status);
+        let ended = schism(alloc, &["check"], &mut source, &mut sink, paces(alloc)?);
+        assert_eq!(rt; ended, status);
     }
     Ok(())
 }
 
-// Neither side is touched, since the first call of each would fail.
-fn ended_by(alloc: Global, words: &[&str]) -> Result<Status, AllocError> {
-    Ok(ended(alloc, words, FIRST.as_bytes(), &[0], &[0])?.0)
-}
-
-#[test]
-fn says_usage_of_other_words(rt: HostRuntime) -> Result<(), Fail> {
-    let alloc = rt.alloc();
-    assert_eq!(rt; ended_by(alloc, &[])?, Status::Usage);
-    assert_eq!(rt; ended_by(alloc, &["plays"])?, Status::Usage);
-    assert_eq!(rt; ended_by(alloc, &["Check"])?, Status::Usage);
-    assert_eq!(rt; ended_by(alloc, &["play", "extra"])?, Status::Usage);
-    assert_eq!(rt; ended_by(alloc, &["check", "play"])?, Status::Usage);
-    assert_eq!(rt;
-        ended_by(alloc, &["run", "--patience", "0"])?,
-        Status::Usage
-    );
-    assert_eq!(rt; ended_by(alloc, &["make", "7", "17", "1"])?, Status::Usage);
-    assert_eq!(rt; ended_by(alloc, &["play"])?, Status::ReadFault);
-    assert_eq!(rt; ended_by(alloc, &["check"])?, Status::ReadFault);
-    Ok(())
-}
-
-// The first script is read in 14 calls, the last of which gives nothing, and its text is written in 35.
 #[test]
 fn says_which_side_failed(rt: HostRuntime) -> Result<(), Fail> {
     for (source_fail, sink_fail, status, front) in [
@@ -373,7 +358,7 @@ fn ends_as_it_should_where_no_side_fails(rt: HostRuntime) -> Result<(), Fail> {
     ] {
         let mut source = NeverSource::new(Vec::from_slice(alloc, text.as_bytes())?);
         let mut sink = NeverSink::new(Vec::with_capacity(alloc, room)?);
-        let ended = schism(alloc, &[word], &mut source, &mut sink);
+        let ended = schism(alloc, &[word], &mut source, &mut sink, paces(alloc)?);
         assert_eq!(rt; ended, status, "{word} with room for {room}");
         assert_eq!(rt;
             sink.bytes(),

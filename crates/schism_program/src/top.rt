@@ -3,26 +3,32 @@ ghost use Rattle.script_text.specs.declared.cause.Cause.{Cause};
 ghost use Rattle.io_edge.specs.Faults.{Rose};
 ghost use Rattle.schism_program.specs.Due.{IsDue};
 ghost use Rattle.schism_program.specs.Outcome.{IsNotLegal, IsRefusedAt, IsWriting, ReadsNoMore, ReadsTooMuch, WritesAll, WritesFront};
-ghost use Rattle.schism_program.specs.Works.{IsForm};
+ghost use Rattle.schism_program.specs.Works.{AskFor, IsForm, Reads};
+ghost use Rattle.schism_program.specs.declared.work.Work.{Work as AWork};
 
 use crate::fault::WorkFault;
+use crate::input::read_input;
 use crate::serving::made_text;
 use crate::status::Status;
 use crate::work::Work;
-use io_edge::{ReadAllFault, Sink, Source, read_all, write_all};
+use io_edge::{ReadAllFault, Sink, Source, write_all};
 use script_text::LineFault;
+use slack_pace::Paces;
 use std::alloc::Global;
 
-/// Plays the script that the source gives, or checks the history, as the words ask, and writes what comes of it to the
-/// sink. The whole text stands before the first byte is written.
+/// Plays the script that the source gives, or checks the history, or makes a script, as the words ask, and writes what comes
+/// of it to the sink. The whole text stands before the first byte is written.
 pub fn schism<S: Source, K: Sink>(
     alloc: Global,
     words: &[&str],
     source: &mut S,
     sink: &mut K,
+    paces: Paces,
 ) -> Status
     ensures usage { (result ≡ Status.Usage) ↔ (¬ IsForm (map (λ w. w.now) words.now)) }
     ensures unread { result ≡ Status.Usage → source.new ≡ source.old }
+    ensures untouched { (work : AWork) → AskFor (map (λ w. w.now) words.now) work → ¬ Reads work →
+        source.new ≡ source.old }
     ensures done { result ≡ Status.Done → WritesAll (map (λ w. w.now) words.now)
         (S.left source.old) (S.left source.new) (K.taken sink.old) (K.taken sink.new) }
     ensures refused { (line : ℕ) (cause : Cause) → result ≡ Status.Refused line cause →
@@ -54,13 +60,13 @@ pub fn schism<S: Source, K: Sink>(
     let Some(work) = Work::of(words) else {
         return Status::Usage;
     };
-    let input = match read_all(alloc, source, work.most_bytes()) {
+    let input = match read_input(alloc, work, source) {
         Ok(input) => input,
         Err(ReadAllFault::TooLong) => return Status::TooLong,
         Err(ReadAllFault::ReadFault) => return Status::ReadFault,
         Err(ReadAllFault::Memory) => return Status::Memory,
     };
-    let text = match made_text(alloc, work, &input) {
+    let text = match made_text(alloc, work, &input, paces) {
         Ok(text) => text,
         Err(WorkFault::Refused(LineFault { line, cause })) => return Status::Refused {
             line,

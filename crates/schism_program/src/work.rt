@@ -1,5 +1,10 @@
-ghost use Rattle.std.specs.Prelude.{◌≡◌, map, IfNone, IfSome};
-ghost use Rattle.schism_program.specs.Works.{most_bytes, AskFor, IsForm};
+ghost use Rattle.std.specs.Prelude.{◌≡◌, ◌≤◌, ℕ, Bool as ABool, decimal, codes, map, IfNone, IfSome};
+ghost use Rattle.schism_program.specs.Works.{most_bytes, form_word, AskFor, Completes, IsForm, IsWork, Reads};
+ghost use Rattle.schism_program.specs.declared.work.Work.TheVariants as works;
+
+use crate::setting::{Settings, first_word};
+use heap_model::limits::MOST_SEATS;
+use script_text::{MOST_MADE_LINES, MOST_START, read_number};
 
 /// The most bytes of a script that is played.
 pub const MOST_SCRIPT: usize = 1_048_576;
@@ -10,10 +15,77 @@ pub const MOST_HISTORY: usize = 16_777_216;
 /// What the program does.
 #[derive(Clone, Copy, Debug, PartialEq, Eq)]
 pub enum Work {
-    /// Plays a script.
-    Play,
+    /// Plays a script, with the steady pace or with none, and tells the play's history or its brief.
+    Play { steady: bool, brief: bool },
     /// Checks a history.
     Check,
+    /// Makes a script.
+    Make { start: u32, seats: u8, lines: u32 },
+}
+
+/// The number that the word is, in the range with both ends.
+fn number_in(word: &str, least: u32, most: u32) -> Option<u32>
+    ensures some { IfSome result (λ n. (word.now ≡ decimal n) × (least ≤ n) × (n ≤ most)) }
+    ensures none { IfNone result ((n : ℕ) → word.now ≡ decimal n → least ≤ n → n ≤ most → ⊥) }
+{
+    let Some(number) = read_number(word.as_bytes()) else {
+        return None;
+    };
+    if u64::from(least) <= number && number <= u64::from(most) {
+        Some(number as u32)
+    } else {
+        None
+    }
+}
+
+/// The play that the words behind the form's ask for.
+fn play_of(words: &[&str]) -> Option<Work>
+    ensures some { IfSome result (λ work. (form_word work ≡ codes "play") × Completes (map (λ w. w.now) words.now) work) }
+    ensures none { IfNone result ((steady brief : ABool) → ¬ Completes (map (λ w. w.now) words.now) (works.Play steady brief)) }
+{
+    let Some(settings) = Settings::of(words) else {
+        return None;
+    };
+    Some(Work::Play {
+        steady: settings.steady,
+        brief: settings.brief,
+    })
+}
+
+/// The check, where no words stand behind the form's.
+fn check_of(words: &[&str]) -> Option<Work>
+    ensures some { IfSome result (λ work. (form_word work ≡ codes "check") × Completes (map (λ w. w.now) words.now) work) }
+    ensures none { IfNone result (¬ Completes (map (λ w. w.now) words.now) works.Check) }
+{
+    if words.is_empty() {
+        Some(Work::Check)
+    } else {
+        None
+    }
+}
+
+/// The making of a script that the words behind the form's ask for.
+fn make_of(words: &[&str]) -> Option<Work>
+    ensures some { IfSome result (λ work. (form_word work ≡ codes "make") × Completes (map (λ w. w.now) words.now) work) }
+    ensures none { IfNone result ((start seats lines : ℕ) → ¬ Completes (map (λ w. w.now) words.now) (works.Make start seats lines)) }
+{
+    let [start, seats, lines] = words else {
+        return None;
+    };
+    let Some(start) = number_in(start, 0, MOST_START) else {
+        return None;
+    };
+    let Some(seats) = number_in(seats, 1, u32::from(MOST_SEATS)) else {
+        return None;
+    };
+    let Some(lines) = number_in(lines, 0, MOST_MADE_LINES) else {
+        return None;
+    };
+    Some(Work::Make {
+        start,
+        seats: seats as u8,
+        lines,
+    })
 }
 
 impl Work {
@@ -21,24 +93,28 @@ impl Work {
     pub fn of(words: &[&str]) -> Option<Work>
         ensures some { IfSome result (AskFor (map (λ w. w.now) words.now)) }
         ensures none { IfNone result (¬ IsForm (map (λ w. w.now) words.now)) }
+        ensures range { IfSome result IsWork }
     {
-        let [word] = words else {
+        let Some((form, rest)) = first_word(words) else {
             return None;
         };
-        match *word {
-            "play" => Some(Work::Play),
-            "check" => Some(Work::Check),
+        match form {
+            "play" => play_of(rest),
+            "check" => check_of(rest),
+            "make" => make_of(rest),
             _ => None,
         }
     }
 
-    /// The most bytes of an input.
-    pub fn most_bytes(self) -> usize
-        ensures { result ≡ most_bytes self }
+    /// The most bytes of an input, where the work has one.
+    pub fn most_bytes(self) -> Option<usize>
+        ensures some { IfSome result (λ most. Reads self × (most ≡ most_bytes self)) }
+        ensures none { IfNone result (¬ Reads self) }
     {
         match self {
-            Work::Play => MOST_SCRIPT,
-            Work::Check => MOST_HISTORY,
+            Work::Play { .. } => Some(MOST_SCRIPT),
+            Work::Check => Some(MOST_HISTORY),
+            Work::Make { .. } => None,
         }
     }
 }

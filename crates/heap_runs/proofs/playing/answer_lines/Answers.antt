@@ -1,18 +1,17 @@
-use Rattle.std.proofs.Common.{◌<◌, length, take, arith}
+use Rattle.std.proofs.Common.{◌<◌, ◌∙◌, length, take, is_some, subst, arith}
 use Rattle.script_text.specs.declared.script.Line.TheVariants as lines
+use Rattle.heap_runs.specs.Play.{EndsAtLine}
 use Rattle.heap_runs.specs.PlayHeap.{PlayState}
-use Rattle.heap_runs.proofs.Answering.{answered_call, answered_turns}
+use Rattle.heap_runs.proofs.Answering.{answered_line, answered_turns, line_last, turns_last}
 use Rattle.heap_runs.proofs.NextLine.{next_call, read_more}
 use Rattle.heap_runs.proofs.playing.answer_lines.Goals as goal
-use Rattle.heap_runs.proofs.playing.answer_lines.Goals.{in-Seat+in_ok-note_call-in-Seat, in-Turns+in_ok-note_turns-in-Turns}
+use Rattle.heap_runs.proofs.playing.answer_lines.Goals.{in-Seat+in_ok-whole-in-Seat, in-Turns+in_ok-note_turns-in-Turns}
 
-pub note_call-requires : goal.note_call-requires
-note_call-requires g c =
+pub answer_seat_line-requires : goal.answer_seat_line-requires
+answer_seat_line-requires g c =
     let now = c.loop-line in
-    record {
-      may = (next_call c.args.script.now c.as_slice-line-items.result.now now.line-index _ c.in-Seat.seat c.in-Seat.command (g.H.PlayHeap.state now.whole) now.history.items c.as_slice-line-items.ensures
-          c.requires.form (omega (arith, c.loop-line-test.true)) c.in-Seat.is now.invariant).may;
-    }
+    (next_call c.args.script.now c.as_slice-line-items.result.now now.line-index _ c.in-Seat.seat c.in-Seat.command (g.H.PlayHeap.state now.whole) now.history.items c.as_slice-line-items.ensures c.requires.form
+    (omega (arith, c.loop-line-test.true)) c.in-Seat.is now.invariant.answered).may
 
 pub loop-line-preserved : goal.loop-line-preserved
 loop-line-preserved g c =
@@ -22,16 +21,25 @@ loop-line-preserved g c =
     let items = c.as_slice-line-items.result.now in
     let all = c.as_slice-line-items.ensures in
     let below : now.line-index < length items = omega (arith, c.loop-line-test.true) in
+    let laws = c.seat_laws.ensures in
     elim c.match-line.branch [
-      | in-Seat+in_ok-note_call-in-Seat w ↦
+      | in-Seat+in_ok-whole-in-Seat w ↦
           let line = w.in-Seat in
-          let next = next_call script items now.line-index _ line.seat line.command old now.history.items all c.requires.form below line.is now.invariant in
-          let more = answered_call c.seat_laws.ensures.counts c.seat_laws.ensures.others script.heap old (g.H.PlayHeap.state w.note_call.new.whole) now.history.items w.note_call.new.history.items line.seat line.command
-          w.in_ok-note_call-in-Seat.ensures.notes (take now.line-index items) next.stays now.invariant in
-          rw (w.whole-is, w.history-is, read_more script items now.line-index _ (lines.Seat line.seat line.command) all c.requires.form below line.is) more
+          let new : PlayState = g.H.PlayHeap.state w.in_ok-whole-in-Seat.whole in
+          let after = w.answer_seat_line.new.history.items in
+          let notes = w.in_ok-whole-in-Seat.ensures.notes in
+          let paced = is_some now.pace in
+          let next = next_call script items now.line-index _ line.seat line.command old now.history.items all c.requires.form below line.is now.invariant.answered in
+          let more = answered_line laws.counts laws.others paced script.heap old new now.history.items after line.seat line.command notes (take now.line-index items) next.stays now.invariant.answered in
+          let last = subst (λ p. EndsAtLine p after) now.invariant.pace (line_last laws.counts laws.others paced script.heap old new now.history.items after line.seat line.command notes) in
+          rw (w.whole-is, w.history-is, w.pace-is, read_more script items now.line-index _ (lines.Seat line.seat line.command) all c.requires.form below line.is)
+          (record { answered = more; last = last; pace = w.in_ok-whole-in-Seat.ensures.pace ∙ now.invariant.pace })
       | in-Turns+in_ok-note_turns-in-Turns w ↦
           let line = w.in-Turns in
-          let more = answered_turns c.account_laws.ensures.behind script.heap old (g.H.PlayHeap.state w.note_turns.new.whole) now.history.items w.note_turns.new.history.items line.command
-          w.in_ok-note_turns-in-Turns.ensures.notes (take now.line-index items) now.invariant in
-          rw (w.whole-is, w.history-is, read_more script items now.line-index _ (lines.Turns line.command) all c.requires.form below line.is) more
+          let new : PlayState = g.H.PlayHeap.state w.note_turns.new.whole in
+          let after = w.note_turns.new.history.items in
+          let notes = w.in_ok-note_turns-in-Turns.ensures.notes in
+          let more = answered_turns c.account_laws.ensures.behind script.heap old new now.history.items after line.command notes (take now.line-index items) now.invariant.answered in
+          rw (w.whole-is, w.history-is, w.pace-is, read_more script items now.line-index _ (lines.Turns line.command) all c.requires.form below line.is)
+          (record { answered = more; last = turns_last (is_some c.args.pace) old new now.history.items after line.command notes; pace = now.invariant.pace })
     ]

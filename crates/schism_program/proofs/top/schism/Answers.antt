@@ -1,4 +1,4 @@
-use Rattle.std.proofs.Common.{◌+◌, ◌≤◌, length, inl, arith, rules}
+use Rattle.std.proofs.Common.{◌≤◌, length, inl, rules}
 use Rattle.schism_program.specs.declared.status.Status.TheVariants as statuses
 use Rattle.schism_program.specs.Due.{IsDueTo}
 use Rattle.schism_program.specs.Works.{most_bytes, FailsAt, MakesText}
@@ -9,7 +9,7 @@ pub returns-in-Err-TooLong-clause-most : goal.returns-in-Err-TooLong-clause-most
 returns-in-Err-TooLong-clause-most g c = λ other. record {
   work = c.in-Some.work;
   asked = c.in-Some.ensures.some;
-  lost = (c.most_bytes.result + 1, omega (arith, c.most_bytes.ensures), search rules);
+  lost = c.read_input.ensures.most;
 }
 
 pub returns-in-Err-Refused-clause-complete : goal.returns-in-Err-Refused-clause-complete
@@ -19,14 +19,14 @@ returns-in-Err-Refused-clause-complete g c = λ status due calm_source calm_sink
     let fault = c.in-Err-Refused.field-0-0 in
     let short : length input ≤ most_bytes work = search rules in
     let fails : FailsAt work input fault.line fault.cause = search rules in
-    inl (only_due _ _ _ work input (statuses.Refused fault.line fault.cause) status c.in-Some.ensures.some c.in-Ok.ensures.ok (short, fails) due)
+    inl (only_due _ _ _ work input (statuses.Refused fault.line fault.cause) status c.in-Some.ensures.some c.in-Ok.ensures.read (short, fails) due)
 
 pub returns-in-Err-NotLegal-clause-complete : goal.returns-in-Err-NotLegal-clause-complete
 returns-in-Err-NotLegal-clause-complete g c = λ status due calm_source calm_sink.
     let work = c.in-Some.work in
     let input = c.in-Ok.input.items in
     let found : IsDueTo work input (statuses.NotLegal c.in-Err-NotLegal.line) = search rules in
-    inl (only_due _ _ _ work input _ status c.in-Some.ensures.some c.in-Ok.ensures.ok found due)
+    inl (only_due _ _ _ work input _ status c.in-Some.ensures.some c.in-Ok.ensures.read found due)
 
 pub returns-in-Ok-write_all-clause-complete : goal.returns-in-Ok-write_all-clause-complete
 returns-in-Ok-write_all-clause-complete g c = λ status due calm_source calm_sink.
@@ -34,4 +34,4 @@ returns-in-Ok-write_all-clause-complete g c = λ status due calm_source calm_sin
     let input = c.in-Ok.input.items in
     let short : length input ≤ most_bytes work = search rules in
     let makes : MakesText work input c.in-Ok-made_text.text.items = search rules in
-    inl (only_due _ _ _ work input statuses.Done status c.in-Some.ensures.some c.in-Ok.ensures.ok (short, made_suits work input _ makes) due)
+    inl (only_due _ _ _ work input statuses.Done status c.in-Some.ensures.some c.in-Ok.ensures.read (short, made_suits work input _ makes) due)

@@ -1,0 +1,65 @@
+use super::script_of;
+use crate::play_collector::make_slack;
+use crate::{MachineHeap, PlayHeap, play};
+use heap_model::{Heap, Turn};
+use reply_text::render_history;
+use slack_pace::{MOST_SLACK_TURNS, Pace, SlackDone};
+use std::test::Fail;
+
+/// A pace that asks for the same each time.
+#[derive(Drop)]
+struct Fixed(u64);
+
+impl Pace for Fixed {
+    ghost use Rattle.std.specs.Prelude.{min};
+    ghost use Rattle.slack_pace.specs.Slack.{most_slack_turns};
+
+    ghost asks = { λ pace _. min most_slack_turns pace.0 };
+
+    fn turns(&mut self, _claimed: u64) -> u64 {
+        self.0.min(MOST_SLACK_TURNS)
+    }
+}
+
+// The third turn waits, since the seat has yet to answer the phase that the second began.
+#[test]
+fn makes_what_is_asked_for_or_waits(rt: HostRuntime) -> Result<(), Fail> {
+    let alloc = rt.alloc();
+    let heap = Heap::make(1, 0, 1).ok_or("a heap")?;
+    let waits = Turn::Waits {
+        seat: 0,
+        answered: 0,
+        phase: 1,
+    };
+    for (asked, made, last) in [
+        (0, 0, None),
+        (2, 2, Some(Turn::Stepped)),
+        (5, 3, Some(waits)),
+    ] {
+        let mut whole = MachineHeap::make(alloc, heap)?;
+        whole.room(4098)?;
+        let mut pace: Box<dyn Pace> = Box::new(alloc, Fixed(asked))?;
+        let (whole, done) = make_slack(whole, &mut pace, 0);
+        assert_eq!(rt; done, SlackDone { asked, made, last });
+        assert_eq!(rt; whole.turns(), made);
+    }
+    Ok(())
+}
+
+// Two turns follow each line of the seat, and none the collector's line.
+#[test]
+fn plays_with_a_pace(rt: HostRuntime) -> Result<(), Fail> {
+    let alloc = rt.alloc();
+    let script = script_of(
+        alloc,
+        "schism 1\nheap 1 0 1\n0 new 1 2\nc turns 1\n0 poll\n",
+    )?;
+    let whole = MachineHeap::make(alloc, script.heap)?;
+    let pace: Box<dyn Pace> = Box::new(alloc, Fixed(2))?;
+    let history = play(alloc, whole, script.heap, &script, Some(pace))?;
+    let text = render_history(alloc, &history)?;
+    let wanted =
+        "history 1 play\nheap 1 0 1\n0 takes 5\n0 new 1 2 = 0.0\nc phase 1\nc turns 1 = waits 0 answered 0 phase 1\n0 answers 1\n0 poll = 1\nc phase 2\nspace used 16 of 16 spine 0 of 0\n0 gives back 4\n0 leave = ok\nc phase 3\nc phase 4\nc phase 5\nc frees 12\nc phase 6\nc ends 0 kept 0\nc phase 8\nc phase 9\nc phase 10\nc phase 11\nc phase 12\nc phase 13\nc ends 1 kept 0\nend used 0\n";
+    assert_eq!(rt; text.as_slice(), wanted.as_bytes());
+    Ok(())
+}

@@ -1,0 +1,71 @@
+-- Settings are told by their words, one after another.
+use Rattle.std.proofs.Common.{Bor, map, length, ◌==◌, ◌≡◌, ◌≢◌, ◌∷◌, [], ◌++◌, ℕ, List, false, refl, sym, ap, ◌∙◌, subst}
+use Rattle.std.specs.Prelude.{IfSome, IfNone, Option, Some, None}
+use Rattle.std.specs.List.{flat_map}
+use Rattle.schism_program.specs.declared.setting.Setting.{Setting}
+use Rattle.schism_program.specs.declared.setting.Setting.TheVariants.{Steady, Brief}
+use Rattle.schism_program.specs.declared.setting.Settings.{Settings}
+use Rattle.schism_program.specs.Settings.{has, with_setting, setting_words, Adds, Gives}
+
+-- words that begin with no setting give none
+pub none_begins : (before all : Settings) (words : List (List ℕ)) → words ≢ [] → ((setting : Setting) (rest : List (List ℕ)) → words ≢ setting_words setting ++ rest) → ¬ Gives before words all
+none_begins before all words some none gives = by gives.given gives.spelled where
+  by : (given : List Setting) → words ≢ flat_map setting_words given
+  by [] spelled = some spelled
+  by (setting ∷ more) spelled = none setting (flat_map setting_words more) spelled
+
+-- a setting's words are no other's, whatever stands behind them
+same_setting : (one other : Setting) (rest more : List (List ℕ)) → setting_words one ++ rest ≡ setting_words other ++ more → (one ≡ other) × (rest ≡ more)
+same_setting Steady Steady rest more same = (refl, cc)
+same_setting Steady Brief rest more same = absurd cc
+same_setting Brief Steady rest more same = absurd cc
+same_setting Brief Brief rest more same = (refl, cc)
+
+never_nothing : (setting : Setting) (rest : List (List ℕ)) → setting_words setting ++ rest ≢ []
+never_nothing Steady rest same = cc
+never_nothing Brief rest same = cc
+
+-- words that begin with a setting give it first
+pub first_given : (before all : Settings) (setting : Setting) (words rest : List (List ℕ)) → words ≡ setting_words setting ++ rest → Gives before words all
+    → (has before setting ≡ false) × Gives (with_setting before setting) rest all
+first_given before all setting words rest begins gives = by gives.given gives.spelled gives.adds where
+  by : (given : List Setting) → words ≡ flat_map setting_words given → Adds before given all → (has before setting ≡ false) × Gives (with_setting before setting) rest all
+  by [] spelled adds = absurd (never_nothing setting rest (sym begins ∙ spelled))
+  by (first ∷ more) spelled adds =
+      let same = same_setting first setting (flat_map setting_words more) rest (sym spelled ∙ begins) in
+      let goes : Adds before (setting ∷ more) all = subst (λ s. Adds before (s ∷ more) all) same.0 adds in
+      (goes.0, record { given = more; spelled = sym same.1; adds = goes.1 })
+
+-- and so they do where the rest gives the others
+pub given_first : (before all : Settings) (setting : Setting) (words rest : List (List ℕ)) → words ≡ setting_words setting ++ rest → has before setting ≡ false
+    → Gives (with_setting before setting) rest all → Gives before words all
+given_first before all setting words rest begins new gives =
+    record { given = setting ∷ gives.given; spelled = begins ∙ ap (λ ws. setting_words setting ++ ws) gives.spelled; adds = (new, gives.adds) }
+
+-- so what is found of the rest is found of the words
+pub some_given : (before : Settings) (setting : Setting) (words rest : List (List ℕ)) (found : Option Settings) → words ≡ setting_words setting ++ rest → has before setting ≡ false
+    → IfSome found (Gives (with_setting before setting) rest) → IfSome found (Gives before words)
+some_given before setting words rest None begins new gives = tt
+some_given before setting words rest (Some all) begins new gives = given_first before all setting words rest begins new gives
+
+pub none_given : (before : Settings) (setting : Setting) (words rest : List (List ℕ)) (found : Option Settings) → words ≡ setting_words setting ++ rest
+    → IfNone found ((all : Settings) → ¬ Gives (with_setting before setting) rest all) → IfNone found ((all : Settings) → ¬ Gives before words all)
+none_given before setting words rest None begins none = λ all gives. none all (first_given before all setting words rest begins gives).1
+none_given before setting words rest (Some all) begins none = tt
+
+-- where there are words, there is a first one
+pub some_word : (words : List (Bor (List ℕ))) → (length words == 0) ≡ false → map (λ (w : Bor (List ℕ)). w.now) words ≢ []
+some_word [] none same = cc
+some_word (word ∷ words) some same = cc
+
+-- the same words give the same settings
+pub same_settings : (before all others : Settings) (words : List (List ℕ)) → Gives before words all → Gives before words others → all ≡ others
+same_settings before all others words gives gives' = by before gives.given gives'.given (sym gives.spelled ∙ gives'.spelled) gives.adds gives'.adds where
+  by : (before : Settings) (given given' : List Setting) → flat_map setting_words given ≡ flat_map setting_words given' → Adds before given all → Adds before given' others → all ≡ others
+  by before [] [] same adds adds' = adds ∙ sym adds'
+  by before [] (setting ∷ more) same adds adds' = absurd (never_nothing setting (flat_map setting_words more) (sym same))
+  by before (setting ∷ more) [] same adds adds' = absurd (never_nothing setting (flat_map setting_words more) same)
+  by before (setting ∷ more) (setting' ∷ more') same adds adds' =
+      let first = same_setting setting' setting (flat_map setting_words more') (flat_map setting_words more) (sym same) in
+      let goes : Adds before (setting ∷ more') others = subst (λ s. Adds before (s ∷ more') others) first.0 adds' in
+      by (with_setting before setting) more more' (sym first.1) adds.1 goes.1

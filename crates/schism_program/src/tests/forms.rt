@@ -1,0 +1,128 @@
+//! The forms of the words after the program's name: plays at a steady pace, briefs, and scripts that are made.
+
+use super::{FIRST, ended, paces};
+use crate::status::Status;
+use crate::top::schism;
+use io_edge::{NeverSink, NeverSource};
+use std::alloc::{AllocError, Global};
+use std::test::Fail;
+
+/// Words that are no form, each with one space between two.
+const NO_FORMS: [&str; 28] = [
+    "plays",
+    "Check",
+    "play extra",
+    "play check",
+    "check play",
+    "check --brief",
+    "check --pace steady",
+    "--brief play",
+    "play --brief --brief",
+    "play --pace steady --pace steady",
+    "play --pace steady --brief --pace steady",
+    "play --pace",
+    "play --pace debt",
+    "play --pace --brief steady",
+    "play --pace=steady",
+    "play --brief=",
+    "play -- --brief",
+    "play --brief --",
+    "play --locked",
+    "make",
+    "make 7 4",
+    "make 7 4 2000 1",
+    "make 2147483648 1 1",
+    "make 1 0 1",
+    "make 1 17 1",
+    "make 1 1 32769",
+    "make 01 1 1",
+    "make 1 1 +1",
+];
+
+/// The status that the words come to where the first call of each side would fail: so neither side is touched where it is Usage.
+fn ended_by(alloc: Global, line: &str) -> Result<Status, AllocError> {
+    let words: Vec<&str> = line.split(' ').collect(alloc)?;
+    Ok(ended(alloc, &words, FIRST.as_bytes(), &[0], &[0])?.0)
+}
+
+#[test]
+fn says_usage_of_other_words(rt: HostRuntime) -> Result<(), Fail> {
+    let alloc = rt.alloc();
+    assert_eq!(rt;
+        ended(alloc, &[], FIRST.as_bytes(), &[0], &[0])?.0,
+        Status::Usage
+    );
+    for line in NO_FORMS {
+        assert_eq!(rt; ended_by(alloc, line)?, Status::Usage, "{line}");
+    }
+    for line in [
+        "play",
+        "play --brief",
+        "play --pace steady",
+        "play --brief --pace steady",
+        "play --pace steady --brief",
+        "check",
+    ] {
+        assert_eq!(rt; ended_by(alloc, line)?, Status::ReadFault, "{line}");
+    }
+    for line in ["make 2147483647 16 32768", "make 0 1 0"] {
+        assert_eq!(rt; ended_by(alloc, line)?, Status::WriteFault, "{line}");
+    }
+    Ok(())
+}
+
+/// What the words make of the text.
+fn told(alloc: Global, line: &str, text: &[u8]) -> Result<(Status, Vec<u8>), AllocError> {
+    let words: Vec<&str> = line.split(' ').collect(alloc)?;
+    let mut source = NeverSource::new(Vec::from_slice(alloc, text)?);
+    let mut sink = NeverSink::new(Vec::with_capacity(alloc, 65536)?);
+    let status = schism(alloc, &words, &mut source, &mut sink, paces(alloc)?);
+    Ok((status, Vec::from_slice(alloc, sink.bytes().unwrap_or(&[]))?))
+}
+
+// The first draws are 16838, which picks a copy, 5758 and 10113 for its registers; 17515 for a set, 31051, 5627 and 23010; 7419
+// for another set, 16212, 4086 and 2749; and the fourth round polls.
+#[test]
+fn makes_a_script_and_plays_it(rt: HostRuntime) -> Result<(), Fail> {
+    let alloc = rt.alloc();
+    let (status, script) = told(alloc, "make 1 1 4", b"")?;
+    assert_eq!(rt; status, Status::Done);
+    let wanted = "schism 1\nheap 64 256 1\n0 copy 14 1\n0 set 11 3 2\n0 set 4 6 13\n0 poll\n";
+    assert_eq!(rt; script.as_slice(), wanted.as_bytes());
+    let (status, played) = told(alloc, "play", &script)?;
+    assert_eq!(rt; status, Status::Done);
+    let wanted =
+        "history 1 play\nheap 64 256 1\n0 copy 14 1 = ok\n0 set 11 3 2 = no object\n0 set 4 6 13 = no object\n0 poll = 0\nspace used 11 of 1024 spine 0 of 256\n0 leave = ok\nc phase 1\nc phase 2\nc phase 3\nc phase 4\nc phase 5\nc frees 11\nc phase 6\nc ends 0 kept 0\nend used 0\n";
+    assert_eq!(rt; played.as_slice(), wanted.as_bytes());
+    Ok(())
+}
+
+// Computed by two other programs that make and play the script.
+#[test]
+fn plays_a_made_script_at_a_steady_pace(rt: HostRuntime) -> Result<(), Fail> {
+    let alloc = rt.alloc();
+    let (status, script) = told(alloc, "make 7 4 2000", b"")?;
+    assert_eq!(rt; status, Status::Done);
+    let wanted =
+        "brief 1\nheap 64 256 4\ncommands 2000 refused 232\nmade 409 cycles 14 freed 1737 swung 195\nspace used 252 of 1024 spine 108 of 256\nend used 0\n";
+    for line in ["play --pace steady --brief", "play --brief --pace steady"] {
+        let (status, brief) = told(alloc, line, &script)?;
+        assert_eq!(rt; status, Status::Done);
+        assert_eq!(rt; brief.as_slice(), wanted.as_bytes(), "{line}");
+    }
+    Ok(())
+}
+
+// Five fragments are taken for the record, for which the steady pace asks for 56 turns; the third of them waits for the seat.
+// After each further line it asks for 16, of which the first waits.
+#[test]
+fn plays_at_a_steady_pace(rt: HostRuntime) -> Result<(), Fail> {
+    let alloc = rt.alloc();
+    let script = b"schism 1\nheap 1 0 1\n0 new 1 2\nc turns 0\n0 num 2 9\n0 poll\n";
+    let (status, played) = told(alloc, "play --pace steady", script)?;
+    assert_eq!(rt; status, Status::Done);
+    let wanted =
+        "history 1 play\nheap 1 0 1\n0 takes 5\n0 new 1 2 = 0.0\nc phase 1\nc turns 0 = done\n0 num 2 9 = ok\n0 answers 1\n0 poll = 1\nc phase 2\nspace used 16 of 16 spine 0 of 0\n0 gives back 4\n0 leave = ok\nc phase 3\nc phase 4\nc phase 5\nc frees 12\nc phase 6\nc ends 0 kept 0\nc phase 8\nc phase 9\nc phase 10\nc phase 11\nc phase 12\nc phase 13\nc ends 1 kept 0\nend used 0\n";
+    assert_eq!(rt; played.as_slice(), wanted.as_bytes());
+    Ok(())
+}
