@@ -1,16 +1,6 @@
-ghost use Rattle.std.specs.Prelude.{◌≡◌, ◌+◌, ◌≤◌, ◌<◌, [], ◌∷◌, ◌++◌, length, vec_len, vec_capacity};
+ghost use Rattle.std.specs.Prelude.{◌≡◌, ◌+◌, ◌≤◌, ◌++◌, length, vec_len, vec_capacity};
 
 use heap_model::{Effect, Entry};
-
-/// Adds an entry, for which there is room.
-fn note(list: &mut Vec<Entry>, entry: Entry)
-    requires { vec_len list.old < vec_capacity list.old }
-    ensures items { list.new.items ≡ list.old.items ++ entry ∷ [] }
-    ensures len { vec_len list.new ≡ vec_len list.old + 1 }
-    ensures capacity { vec_capacity list.old ≤ vec_capacity list.new }
-{
-    let _ = list.push(entry);
-}
 
 /// Adds entries, for which there is room.
 pub fn note_all(list: &mut Vec<Entry>, entries: &[Entry])
@@ -19,9 +9,9 @@ pub fn note_all(list: &mut Vec<Entry>, entries: &[Entry])
     ensures len { vec_len list.new ≡ vec_len list.old + length entries.now }
     ensures capacity { vec_capacity list.old ≤ vec_capacity list.new }
 {
-    for entry in entries {
-        note(list, *entry);
-    }
+    let Ok(()) = list.extend_from_slice(entries) else {
+        unreachable!()
+    };
 }
 
 /// How many fragments these entries claim, as far as 64 bits count.
