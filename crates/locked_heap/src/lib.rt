@@ -12,6 +12,3 @@ mod working;
 
 pub use ran::LockedRan;
 pub use running::run_locked;
-
-#[cfg(test)]
-mod tests;

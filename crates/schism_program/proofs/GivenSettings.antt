@@ -1,57 +1,75 @@
 -- Settings are told by their words, one after another.
-use Rattle.std.proofs.Common.{Bor, map, length, ◌==◌, ◌≡◌, ◌≢◌, ◌∷◌, [], ◌++◌, ℕ, List, false, refl, sym, ap, ◌∙◌, subst}
+use Rattle.std.proofs.Common.{Bor, map, length, ◌==◌, ◌≡◌, ◌≢◌, ◌∷◌, [], ◌++◌, ℕ, List, false, decimal, refl, sym, ap, ◌∙◌, subst, arith}
 use Rattle.std.specs.Prelude.{IfSome, IfNone, Option, Some, None}
 use Rattle.std.specs.List.{flat_map}
 use Rattle.schism_program.specs.declared.setting.Setting.{Setting}
-use Rattle.schism_program.specs.declared.setting.Setting.TheVariants.{Steady, Brief}
+use Rattle.schism_program.specs.declared.setting.Setting.TheVariants.{Steady, Brief, Locked, Patience}
 use Rattle.schism_program.specs.declared.setting.Settings.{Settings}
-use Rattle.schism_program.specs.Settings.{has, with_setting, setting_words, Adds, Gives}
+use Rattle.schism_program.specs.Settings.{has, with_setting, setting_words, IsSetting, Adds, Gives}
+use Rattle.schism_program.proofs.RangeNumbers.{same_number}
 
 -- words that begin with no setting give none
-pub none_begins : (before all : Settings) (words : List (List ℕ)) → words ≢ [] → ((setting : Setting) (rest : List (List ℕ)) → words ≢ setting_words setting ++ rest) → ¬ Gives before words all
-none_begins before all words some none gives = by gives.given gives.spelled where
-  by : (given : List Setting) → words ≢ flat_map setting_words given
-  by [] spelled = some spelled
-  by (setting ∷ more) spelled = none setting (flat_map setting_words more) spelled
+pub none_begins : (before all : Settings) (words : List (List ℕ)) → words ≢ [] → ((setting : Setting) (rest : List (List ℕ)) → IsSetting setting → words ≢ setting_words setting ++ rest) → ¬ Gives before words all
+none_begins before all words some none gives = by gives.given gives.adds gives.spelled where
+  by : (given : List Setting) → Adds before given all → words ≢ flat_map setting_words given
+  by [] adds spelled = some spelled
+  by (setting ∷ more) adds spelled = none setting (flat_map setting_words more) adds.0 spelled
 
 -- a setting's words are no other's, whatever stands behind them
-same_setting : (one other : Setting) (rest more : List (List ℕ)) → setting_words one ++ rest ≡ setting_words other ++ more → (one ≡ other) × (rest ≡ more)
-same_setting Steady Steady rest more same = (refl, cc)
-same_setting Steady Brief rest more same = absurd cc
-same_setting Brief Steady rest more same = absurd cc
-same_setting Brief Brief rest more same = (refl, cc)
+same_setting : (one other : Setting) (rest more : List (List ℕ)) → IsSetting one → IsSetting other → setting_words one ++ rest ≡ setting_words other ++ more → (one ≡ other) × (rest ≡ more)
+same_setting Steady Steady rest more fits fits' same = (refl, cc)
+same_setting Steady Brief rest more fits fits' same = absurd cc
+same_setting Steady Locked rest more fits fits' same = absurd cc
+same_setting Steady (Patience m) rest more fits fits' same = absurd cc
+same_setting Brief Steady rest more fits fits' same = absurd cc
+same_setting Brief Brief rest more fits fits' same = (refl, cc)
+same_setting Brief Locked rest more fits fits' same = absurd cc
+same_setting Brief (Patience m) rest more fits fits' same = absurd cc
+same_setting Locked Steady rest more fits fits' same = absurd cc
+same_setting Locked Brief rest more fits fits' same = absurd cc
+same_setting Locked Locked rest more fits fits' same = (refl, cc)
+same_setting Locked (Patience m) rest more fits fits' same = absurd cc
+same_setting (Patience n) Steady rest more fits fits' same = absurd cc
+same_setting (Patience n) Brief rest more fits fits' same = absurd cc
+same_setting (Patience n) Locked rest more fits fits' same = absurd cc
+same_setting (Patience n) (Patience m) rest more fits fits' same =
+    let value : decimal n ≡ decimal m = cc in
+    let number = same_number n m (omega (arith, fits.1)) (omega (arith, fits'.1)) value in
+    (ap Patience number, cc)
 
 never_nothing : (setting : Setting) (rest : List (List ℕ)) → setting_words setting ++ rest ≢ []
 never_nothing Steady rest same = cc
 never_nothing Brief rest same = cc
+never_nothing Locked rest same = cc
+never_nothing (Patience n) rest same = cc
 
 -- words that begin with a setting give it first
-pub first_given : (before all : Settings) (setting : Setting) (words rest : List (List ℕ)) → words ≡ setting_words setting ++ rest → Gives before words all
+pub first_given : (before all : Settings) (setting : Setting) (words rest : List (List ℕ)) → IsSetting setting → words ≡ setting_words setting ++ rest → Gives before words all
     → (has before setting ≡ false) × Gives (with_setting before setting) rest all
-first_given before all setting words rest begins gives = by gives.given gives.spelled gives.adds where
+first_given before all setting words rest fits begins gives = by gives.given gives.spelled gives.adds where
   by : (given : List Setting) → words ≡ flat_map setting_words given → Adds before given all → (has before setting ≡ false) × Gives (with_setting before setting) rest all
   by [] spelled adds = absurd (never_nothing setting rest (sym begins ∙ spelled))
   by (first ∷ more) spelled adds =
-      let same = same_setting first setting (flat_map setting_words more) rest (sym spelled ∙ begins) in
+      let same = same_setting first setting (flat_map setting_words more) rest adds.0 fits (sym spelled ∙ begins) in
       let goes : Adds before (setting ∷ more) all = subst (λ s. Adds before (s ∷ more) all) same.0 adds in
-      (goes.0, record { given = more; spelled = sym same.1; adds = goes.1 })
+      (goes.1.0, record { given = more; spelled = sym same.1; adds = goes.1.1 })
 
 -- and so they do where the rest gives the others
-pub given_first : (before all : Settings) (setting : Setting) (words rest : List (List ℕ)) → words ≡ setting_words setting ++ rest → has before setting ≡ false
+pub given_first : (before all : Settings) (setting : Setting) (words rest : List (List ℕ)) → IsSetting setting → words ≡ setting_words setting ++ rest → has before setting ≡ false
     → Gives (with_setting before setting) rest all → Gives before words all
-given_first before all setting words rest begins new gives =
-    record { given = setting ∷ gives.given; spelled = begins ∙ ap (λ ws. setting_words setting ++ ws) gives.spelled; adds = (new, gives.adds) }
+given_first before all setting words rest fits begins new gives =
+    record { given = setting ∷ gives.given; spelled = begins ∙ ap (λ ws. setting_words setting ++ ws) gives.spelled; adds = (fits, new, gives.adds) }
 
 -- so what is found of the rest is found of the words
-pub some_given : (before : Settings) (setting : Setting) (words rest : List (List ℕ)) (found : Option Settings) → words ≡ setting_words setting ++ rest → has before setting ≡ false
+pub some_given : (before : Settings) (setting : Setting) (words rest : List (List ℕ)) (found : Option Settings) → IsSetting setting → words ≡ setting_words setting ++ rest → has before setting ≡ false
     → IfSome found (Gives (with_setting before setting) rest) → IfSome found (Gives before words)
-some_given before setting words rest None begins new gives = tt
-some_given before setting words rest (Some all) begins new gives = given_first before all setting words rest begins new gives
+some_given before setting words rest None fits begins new gives = tt
+some_given before setting words rest (Some all) fits begins new gives = given_first before all setting words rest fits begins new gives
 
-pub none_given : (before : Settings) (setting : Setting) (words rest : List (List ℕ)) (found : Option Settings) → words ≡ setting_words setting ++ rest
+pub none_given : (before : Settings) (setting : Setting) (words rest : List (List ℕ)) (found : Option Settings) → IsSetting setting → words ≡ setting_words setting ++ rest
     → IfNone found ((all : Settings) → ¬ Gives (with_setting before setting) rest all) → IfNone found ((all : Settings) → ¬ Gives before words all)
-none_given before setting words rest None begins none = λ all gives. none all (first_given before all setting words rest begins gives).1
-none_given before setting words rest (Some all) begins none = tt
+none_given before setting words rest None fits begins none = λ all gives. none all (first_given before all setting words rest fits begins gives).1
+none_given before setting words rest (Some all) fits begins none = tt
 
 -- where there are words, there is a first one
 pub some_word : (words : List (Bor (List ℕ))) → (length words == 0) ≡ false → map (λ (w : Bor (List ℕ)). w.now) words ≢ []
@@ -66,6 +84,6 @@ same_settings before all others words gives gives' = by before gives.given gives
   by before [] (setting ∷ more) same adds adds' = absurd (never_nothing setting (flat_map setting_words more) (sym same))
   by before (setting ∷ more) [] same adds adds' = absurd (never_nothing setting (flat_map setting_words more) same)
   by before (setting ∷ more) (setting' ∷ more') same adds adds' =
-      let first = same_setting setting' setting (flat_map setting_words more') (flat_map setting_words more) (sym same) in
+      let first = same_setting setting' setting (flat_map setting_words more') (flat_map setting_words more) adds'.0 adds.0 (sym same) in
       let goes : Adds before (setting ∷ more') others = subst (λ s. Adds before (s ∷ more') others) first.0 adds' in
-      by (with_setting before setting) more more' (sym first.1) adds.1 goes.1
+      by (with_setting before setting) more more' (sym first.1) adds.1.1 goes.1.1

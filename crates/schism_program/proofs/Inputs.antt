@@ -6,7 +6,7 @@ use Rattle.io_edge.specs.declared.reading.ReadAllFault.{ReadAllFault}
 use Rattle.io_edge.specs.declared.reading.ReadAllFault.TheVariants.{ReadFault, TooLong, Memory}
 use Rattle.io_edge.specs.Left.{GivesAll, LosesNext, LosesUpTo}
 use Rattle.schism_program.specs.declared.work.Work.{Work}
-use Rattle.schism_program.specs.declared.work.Work.TheVariants.{Play, Check, Make}
+use Rattle.schism_program.specs.declared.work.Work.TheVariants.{Play, Run, Check, Make}
 use Rattle.schism_program.specs.Outcome.{IsReadUpTo}
 use Rattle.schism_program.specs.Works.{most_bytes, Reads}
 
@@ -27,5 +27,6 @@ fault_up_to Memory old new most long failed wanting = let lost = wanting refl in
 -- a work with an input reads so much of it
 pub work_up_to : (work : Work) (left left' : Option (List ℕ)) → Reads work → LosesUpTo left left' (most_bytes work + 1) → IsReadUpTo work left left'
 work_up_to (Play steady brief) left left' reads lost = lost
+work_up_to (Run locked patience) left left' reads lost = lost
 work_up_to Check left left' reads lost = lost
 work_up_to (Make start seats lines) left left' reads lost = absurd reads

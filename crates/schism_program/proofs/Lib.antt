@@ -2,4 +2,6 @@ pub mod FirstLines
 pub mod OneStatus
 pub mod GivenSettings
 pub mod RangeNumbers
+pub mod SeatScripts
+pub mod RunHistories
 pub mod Inputs

@@ -1,6 +1,7 @@
 pub mod Settings
 pub mod Status
 pub mod Serving
+pub mod Running
 pub mod Verdict
 pub mod WorkFaults
 pub mod Works

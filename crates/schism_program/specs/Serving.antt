@@ -1,6 +1,7 @@
--- What an input is that is played, or refused, and what is told of it.
+-- What an input is that is served, or refused, and what is told of a play of it.
 use Rattle.std.specs.Prelude.{◌≡◌, ℕ, Bool, true, false, List, Some}
 use Rattle.script_text.specs.declared.cause.Cause.{Cause}
+use Rattle.script_text.specs.declared.script.Form.{Form}
 use Rattle.script_text.specs.declared.script.Form.TheVariants as forms
 use Rattle.script_text.specs.declared.script.Script.{Script}
 use Rattle.script_text.specs.Grammar.{IsScript}
@@ -13,9 +14,9 @@ use Rattle.reply_text.specs.History.{history_lines}
 use Rattle.reply_text.specs.write.Brief.{brief_lines}
 use Rattle.heap_runs.specs.Play.{IsPlay}
 
--- the input is a script
-abbrev pub IsPlayable : List ℕ → Type 0
-IsPlayable input = (script : Script) × IsScript forms.Play input script
+-- the input is a script of this form
+abbrev pub IsScriptText : Form → List ℕ → Type 0
+IsScriptText form input = (script : Script) × IsScript form input script
 
 -- the lines that tell the history of a play: all of them, or its brief
 abbrev pub told_lines : Bool → History → List (List ℕ)
@@ -35,6 +36,6 @@ abbrev pub IsMadeText : ℕ → ℕ → ℕ → List ℕ → Type 0
 IsMadeText start seats lines text =
     let script = made_script start seats lines in (text ≡ text_of (script_lines script.heap script.lines)) × IsScript forms.Play text script
 
--- the first fault of the script is this line's cause
-abbrev pub FailsToPlay : List ℕ → ℕ → Cause → Type 0
-FailsToPlay input line cause = first_fault forms.Play input ≡ Some (record { line = line; cause = cause })
+-- the first fault of the input as a script of this form is this line's cause
+abbrev pub FailsAsScript : Form → List ℕ → ℕ → Cause → Type 0
+FailsAsScript form input line cause = first_fault form input ≡ Some (record { line = line; cause = cause })

@@ -1,33 +1,49 @@
 -- What stands behind the word of a form.
-use Rattle.std.specs.Prelude.{◌≡◌, ℕ, Bool, true, false, List, [], ◌∷◌, codes}
+use Rattle.std.specs.Prelude.{◌≡◌, ℕ, Bool, true, false, List, [], ◌∷◌, codes, decimal, Option, None, Some, is_some}
 use Rattle.std.specs.List.{flat_map}
+use Rattle.heap_model.specs.Command.{IsWithin}
 use Rattle.schism_program.specs.declared.setting.Setting.{Setting}
-use Rattle.schism_program.specs.declared.setting.Setting.TheVariants.{Steady, Brief}
+use Rattle.schism_program.specs.declared.setting.Setting.TheVariants.{Steady, Brief, Locked, Patience}
 use Rattle.schism_program.specs.declared.setting.Settings.{Settings}
+
+-- the most finds that a patience asks for
+abbrev pub most_patience : ℕ
+most_patience = 1000000
 
 -- the words of a setting
 abbrev pub setting_words : Setting → List (List ℕ)
 setting_words Steady = codes "--pace" ∷ codes "steady" ∷ []
 setting_words Brief = codes "--brief" ∷ []
+setting_words Locked = codes "--locked" ∷ []
+setting_words (Patience n) = codes "--patience" ∷ decimal n ∷ []
+
+-- the setting's number is in its range, where it has one
+abbrev pub IsSetting : Setting → Type 0
+IsSetting (Patience n) = IsWithin 1 most_patience n
+IsSetting _ = Unit {0}
 
 -- nothing was given
 abbrev pub no_settings : Settings
-no_settings = record { steady = false; brief = false }
+no_settings = record { steady = false; brief = false; locked = false; patience = None }
 
--- whether the setting was given
+-- whether a setting of this kind was given
 abbrev pub has : Settings → Setting → Bool
 has settings Steady = settings.steady
 has settings Brief = settings.brief
+has settings Locked = settings.locked
+has settings (Patience n) = is_some settings.patience
 
 -- the settings with this one
 abbrev pub with_setting : Settings → Setting → Settings
 with_setting settings Steady = record settings { steady = true }
 with_setting settings Brief = record settings { brief = true }
+with_setting settings Locked = record settings { locked = true }
+with_setting settings (Patience n) = record settings { patience = Some n }
 
--- beside those from before these were given, each for the first time, and then all are those
+-- beside those from before these were given, each kind for the first time and in its range, and then all are those
 abbrev pub Adds : Settings → List Setting → Settings → Type 0
 Adds before [] all = all ≡ before
-Adds before (setting ∷ more) all = (has before setting ≡ false) × Adds (with_setting before setting) more all
+Adds before (setting ∷ more) all = IsSetting setting × (has before setting ≡ false) × Adds (with_setting before setting) more all
 
 -- beside those from before the words give settings, in any order, and then all are those
 pub record Gives (before : Settings) (words : List (List ℕ)) (all : Settings) : Type 0 where

@@ -4,28 +4,31 @@ ghost use Rattle.script_text.specs.declared.script.Form.TheVariants.{Play};
 ghost use Rattle.script_text.specs.Grammar.{IsScript};
 ghost use Rattle.script_text.specs.Writing.{IsOfForm};
 ghost use Rattle.script_text.specs.Text.{text_of};
-ghost use Rattle.schism_program.specs.Serving.{told_lines, FailsToPlay, IsMadeText, Plays};
+ghost use Rattle.schism_program.specs.Serving.{told_lines, FailsAsScript, IsMadeText, Plays};
 ghost use Rattle.schism_program.specs.Works.{FailsAt, IsIllegalAt, IsWork, MakesText, MayBeMade};
 
 use crate::fault::WorkFault;
+use crate::running::run_text;
 use crate::verdict::verdict;
 use crate::work::Work;
-use heap_model::Memory;
+use heap_model::{Gate, Memory};
 use heap_runs::{MachineHeap, play};
 use reply_text::{History, render_brief, render_history};
 use script_text::{Form, Script, make_script, read_script, write_script};
 use slack_pace::{Pace, Paces};
 use std::alloc::Global;
+use std::sync::Wait;
+use std::thread::Threads;
 
-/// The script that the input is.
-fn script_of(alloc: Global, input: &[u8]) -> Result<Script, WorkFault>
-    ensures ok { IfOk result (IsScript Play input.now) }
-    ensures form { IfOk result (IsOfForm Play) }
+/// The script that the input is, in this form.
+pub fn script_of(alloc: Global, input: &[u8], form: Form) -> Result<Script, WorkFault>
+    ensures ok { IfOk result (IsScript form input.now) }
+    ensures form { IfOk result (IsOfForm form) }
     ensures refused { (fault : ALineFault) → result ≡ Err (WorkFault.Refused fault) →
-        FailsToPlay input.now fault.line fault.cause }
+        FailsAsScript form input.now fault.line fault.cause }
     ensures legal { (line : ℕ) → result ≡ Err (WorkFault.NotLegal line) → ⊥ }
 {
-    let script = read_script(alloc, input, Form::Play)?;
+    let script = read_script(alloc, input, form)?;
     Ok(script)
 }
 
@@ -51,10 +54,10 @@ fn played_text(
 ) -> Result<Vec<u8>, WorkFault>
     ensures ok { IfOk result (λ text. Plays (is_some pace) brief input.now text.items) }
     ensures refused { (fault : ALineFault) → result ≡ Err (WorkFault.Refused fault) →
-        FailsToPlay input.now fault.line fault.cause }
+        FailsAsScript Play input.now fault.line fault.cause }
     ensures legal { (line : ℕ) → result ≡ Err (WorkFault.NotLegal line) → ⊥ }
 {
-    let script = script_of(alloc, input)?;
+    let script = script_of(alloc, input, Form::Play)?;
     let whole = MachineHeap::make(alloc, script.heap)?;
     let history = play(alloc, whole, script.heap, &script, pace)?;
     let text = told_text(alloc, &history, brief)?;
@@ -71,12 +74,14 @@ fn made_script_text(alloc: Global, start: u32, seats: u8, lines: u32) -> Result<
     Ok(text)
 }
 
-/// The text that the work makes of the input.
-pub fn made_text(
+/// The text that the work makes of the input. Only a run may wait, and only its work is handed the runtime.
+pub fn made_text<G: Gate, R: Threads + Wait + Sync>(
+    rt: &R,
     alloc: Global,
     work: Work,
     input: &[u8],
     paces: Paces,
+    gate: &G,
 ) -> Result<Vec<u8>, WorkFault>
     requires { IsWork work }
     ensures ok { IfOk result (λ text. MakesText work input.now text.items) }
@@ -94,6 +99,7 @@ pub fn made_text(
             steady: false,
             brief,
         } => played_text(alloc, input, None, brief),
+        Work::Run { patience, .. } => run_text(rt, alloc, input, paces.steady, patience, gate),
         Work::Check => verdict(alloc, input),
         Work::Make {
             start,

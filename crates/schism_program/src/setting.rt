@@ -1,7 +1,12 @@
 ghost use Rattle.std.specs.Prelude.{◌≡◌, ◌≢◌, ◌∷◌, [], ◌++◌, ℕ, List, map, IfSome, IfNone};
 ghost use Rattle.schism_program.specs.declared.setting.Setting.{Setting as ASetting};
 ghost use Rattle.schism_program.specs.declared.setting.Settings.{Settings as AreGiven};
-ghost use Rattle.schism_program.specs.Settings.{has, with_setting, setting_words, no_settings, Gives};
+ghost use Rattle.schism_program.specs.Settings.{has, with_setting, setting_words, no_settings, Gives, IsSetting};
+
+use crate::range::number_in;
+
+/// The most often that a patience asks a seat to find another one behind.
+pub const MOST_PATIENCE: u32 = 1_000_000;
 
 /// What may stand behind the word of a form, in any order and each once at most.
 #[derive(Clone, Copy, Debug, PartialEq, Eq)]
@@ -10,6 +15,10 @@ pub enum Setting {
     Steady,
     /// The brief of a history is written in its place.
     Brief,
+    /// Each call and each turn of a run is made under one lock.
+    Locked,
+    /// How often a seat of a run finds another one behind before it answers that its collect waits.
+    Patience(u32),
 }
 
 /// Which settings were given.
@@ -17,6 +26,8 @@ pub enum Setting {
 pub struct Settings {
     pub steady: bool,
     pub brief: bool,
+    pub locked: bool,
+    pub patience: Option<u32>,
 }
 
 impl Settings {
@@ -26,6 +37,8 @@ impl Settings {
         Settings {
             steady: false,
             brief: false,
+            locked: false,
+            patience: None,
         }
     }
 
@@ -35,6 +48,8 @@ impl Settings {
         match setting {
             Setting::Steady => self.steady,
             Setting::Brief => self.brief,
+            Setting::Locked => self.locked,
+            Setting::Patience(_) => self.patience.is_some(),
         }
     }
 
@@ -48,6 +63,14 @@ impl Settings {
             },
             Setting::Brief => Settings {
                 brief: true,
+                ..self
+            },
+            Setting::Locked => Settings {
+                locked: true,
+                ..self
+            },
+            Setting::Patience(n) => Settings {
+                patience: Some(n),
                 ..self
             },
         }
@@ -71,20 +94,49 @@ pub fn first_word<'a, 'b>(words: &'a [&'b str]) -> Option<(&'b str, &'a [&'b str
     Some((*first, rest))
 }
 
+/// The setting that the word is by itself.
+fn plain_setting(word: &str) -> Option<Setting>
+    ensures some { IfSome result (λ setting. IsSetting setting × (setting_words setting ≡ word.now ∷ [])) }
+    ensures none { IfNone result ((setting : ASetting) → setting_words setting ≢ word.now ∷ []) }
+{
+    match word {
+        "--brief" => Some(Setting::Brief),
+        "--locked" => Some(Setting::Locked),
+        _ => None,
+    }
+}
+
+/// The setting that the word is together with its value, which stands behind it.
+fn valued_setting(word: &str, value: &str) -> Option<Setting>
+    ensures some { IfSome result (λ setting. IsSetting setting × (setting_words setting ≡ word.now ∷ value.now ∷ [])) }
+    ensures none { IfNone result ((setting : ASetting) → IsSetting setting → setting_words setting ≢ word.now ∷ value.now ∷ []) }
+{
+    match word {
+        "--pace" => {
+            if value == "steady" {
+                Some(Setting::Steady)
+            } else {
+                None
+            }
+        }
+        "--patience" => Some(Setting::Patience(number_in(value, 1, MOST_PATIENCE)?)),
+        _ => None,
+    }
+}
+
 /// The setting that the first words are, and the words behind it.
 fn first_setting<'a, 'b>(words: &'a [&'b str]) -> Option<(Setting, &'a [&'b str])>
     ensures some { IfSome result (λ r. map (λ w. w.now) words.now ≡ setting_words r.0 ++ map (λ w. w.now) r.1.now) }
-    ensures none { IfNone result ((setting : ASetting) (rest : List (List ℕ)) → map (λ w. w.now) words.now ≢ setting_words setting ++ rest) }
+    ensures range { IfSome result (λ r. IsSetting r.0) }
+    ensures none { IfNone result ((setting : ASetting) (rest : List (List ℕ)) → IsSetting setting → map (λ w. w.now) words.now ≢ setting_words setting ++ rest) }
 {
     let (word, rest) = first_word(words)?;
-    if word == "--brief" {
-        return Some((Setting::Brief, rest));
+    if let Some(setting) = plain_setting(word) {
+        return Some((setting, rest));
     }
     let (value, rest) = first_word(rest)?;
-    if word == "--pace" && value == "steady" {
-        return Some((Setting::Steady, rest));
-    }
-    None
+    let setting = valued_setting(word, value)?;
+    Some((setting, rest))
 }
 
 /// The settings with those that the words are, where each is given for the first time.

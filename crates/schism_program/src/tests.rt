@@ -5,18 +5,22 @@ mod cycles;
 mod forms;
 mod judged;
 mod machine;
+mod runs;
 mod several_seats;
 mod turns;
 
 use crate::ending::report;
 use crate::status::{Status, status_text};
 use crate::top::schism;
+use heap_model::{Gate, OpenGate};
 use io_edge::{MemSink, MemSource, NeverSink, NeverSource};
 use script_text::Cause;
 use slack_pace::{Paces, Steady};
 use std::alloc::{AllocError, Global};
 use std::process::ExitCode;
+use std::sync::Wait;
 use std::test::Fail;
+use std::thread::Threads;
 
 const FIRST: &str = "schism 1\nheap 1 0 1\n0 new 1 2\n0 num 2 9\n0 set 1 0 2\n0 get 3 1 0\n";
 
@@ -63,6 +67,7 @@ fn paces(alloc: Global) -> Result<Paces, AllocError> {
 
 // What comes of it, and what was written; reads give 5 bytes a call and writes take 8.
 fn ended(
+    rt: &(impl Threads + Wait + Sync),
     alloc: Global,
     words: &[&str],
     text: &[u8],
@@ -73,8 +78,39 @@ fn ended(
     let mut source = MemSource::new(text, 5, Vec::from_slice(alloc, source_fails)?);
     let room = Vec::with_capacity(alloc, 8192)?;
     let mut sink = MemSink::new(room, 8, Vec::from_slice(alloc, sink_fails)?);
-    let status = schism(alloc, words, &mut source, &mut sink, paces(alloc)?);
+    let status = schism(
+        rt,
+        alloc,
+        words,
+        &mut source,
+        &mut sink,
+        paces(alloc)?,
+        &OpenGate,
+    );
     Ok((status, Vec::from_slice(alloc, sink.bytes())?))
+}
+
+// What the words in the line make of the text, and what was written, where no side fails; each seat of a run passes the gate.
+fn told<G: Gate>(
+    rt: &(impl Threads + Wait + Sync),
+    alloc: Global,
+    line: &str,
+    text: &[u8],
+    gate: &G,
+) -> Result<(Status, Vec<u8>), AllocError> {
+    let words: Vec<&str> = line.split(' ').collect(alloc)?;
+    let mut source = NeverSource::new(Vec::from_slice(alloc, text)?);
+    let mut sink = NeverSink::new(Vec::with_capacity(alloc, 262_144)?);
+    let status = schism(
+        rt,
+        alloc,
+        &words,
+        &mut source,
+        &mut sink,
+        paces(alloc)?,
+        gate,
+    );
+    Ok((status, Vec::from_slice(alloc, sink.bytes().unwrap_or(&[]))?))
 }
 
 #[test]
@@ -131,10 +167,10 @@ fn plays_scripts_and_checks_the_plays(rt: HostRuntime) -> Result<(), Fail> {
         ),
     ] {
         let alloc = rt.alloc();
-        let (end, taken) = ended(alloc, &["play"], text.as_bytes(), &[], &[])?;
+        let (end, taken) = ended(&rt, alloc, &["play"], text.as_bytes(), &[], &[])?;
         assert_eq!(rt; end, status, "{text}");
         assert_eq!(rt; taken.as_slice(), written.as_bytes(), "{text}");
-        let (again, told) = ended(alloc, &["check"], written.as_bytes(), &[], &[])?;
+        let (again, told) = ended(&rt, alloc, &["check"], written.as_bytes(), &[], &[])?;
         assert_eq!(rt; again, Status::Done, "{text}");
         assert_eq!(rt; told.as_slice(), verdict.as_bytes(), "{text}");
     }
@@ -163,7 +199,7 @@ fn refuses_scripts(rt: HostRuntime) -> Result<(), Fail> {
         ("schism 1", 2, Cause::BadHeap),
         ("", 1, Cause::NoHeader),
     ] {
-        let (end, taken) = ended(rt.alloc(), &["play"], text.as_bytes(), &[], &[])?;
+        let (end, taken) = ended(&rt, rt.alloc(), &["play"], text.as_bytes(), &[], &[])?;
         assert_eq!(rt; end, refused(line, cause), "{text}");
         assert!(rt; taken.is_empty());
     }
@@ -181,7 +217,7 @@ fn checks_histories_of_collections(rt: HostRuntime) -> Result<(), Fail> {
         (one_dropped(alloc, 10)?, illegal(20), ""),
         (one_dropped(alloc, 16)?, illegal(20), ""),
     ] {
-        let (end, told) = ended(alloc, &["check"], history.as_bytes(), &[], &[])?;
+        let (end, told) = ended(&rt, alloc, &["check"], history.as_bytes(), &[], &[])?;
         assert_eq!(rt; end, status, "{history}");
         assert_eq!(rt; told.as_slice(), verdict.as_bytes(), "{history}");
     }
@@ -201,7 +237,7 @@ fn checks_no_other_texts(rt: HostRuntime) -> Result<(), Fail> {
         (FIRST, 1, Cause::NoHeader),
         ("", 1, Cause::NoHeader),
     ] {
-        let (end, told) = ended(rt.alloc(), &["check"], text.as_bytes(), &[], &[])?;
+        let (end, told) = ended(&rt, rt.alloc(), &["check"], text.as_bytes(), &[], &[])?;
         assert_eq!(rt; end, refused(line, cause), "{text}");
         assert!(rt; told.is_empty());
     }
@@ -246,7 +282,7 @@ fn plays_the_first_script_cut_at_the_end_of_a_line(rt: HostRuntime) -> Result<()
     assert_eq!(rt; FIRST.len(), 64);
     for cut in 0..65 {
         let text = &FIRST.as_bytes()[..cut];
-        let (ended, taken) = ended(rt.alloc(), &["play"], text, &[], &[])?;
+        let (ended, taken) = ended(&rt, rt.alloc(), &["play"], text, &[], &[])?;
         assert_eq!(rt; refused_line(ended), faulty_line(cut), "cut at {cut}");
         match front_played(cut) {
             Some((front, last)) => {
@@ -277,7 +313,7 @@ fn reads_no_more_than_the_limit(rt: HostRuntime) -> Result<(), Fail> {
         (1_048_576, refused(3, Cause::NoSeat)),
         (1_048_577, Status::TooLong),
     ] {
-        let (ended, taken) = ended(rt.alloc(), &["play"], &text[..cut], &[], &[])?;
+        let (ended, taken) = ended(&rt, rt.alloc(), &["play"], &text[..cut], &[], &[])?;
         assert_eq!(rt; ended, status, "{cut} bytes");
         assert!(rt; taken.is_empty());
     }
@@ -294,7 +330,15 @@ fn reads_no_more_of_a_history_than_the_limit(rt: HostRuntime) -> Result<(), Fail
         let text = vec![in alloc; b' '; count]?;
         let mut source = MemSource::new(text, 4096, Vec::new(alloc));
         let mut sink = MemSink::new(Vec::new(alloc), 8, Vec::new(alloc));
-        let ended = schism(alloc, &["check"], &mut source, &mut sink, paces(alloc)?);
+        let ended = schism(
+            &rt,
+            alloc,
+            &["check"],
+            &mut source,
+            &mut sink,
+            paces(alloc)?,
+            &OpenGate,
+        );
         assert_eq!(rt; ended, status);
     }
     Ok(())
@@ -312,6 +356,7 @@ fn says_which_side_failed(rt: HostRuntime) -> Result<(), Fail> {
         (14, 35, Status::Done, 276),
     ] {
         let (ended, taken) = ended(
+            &rt,
             rt.alloc(),
             &["play"],
             FIRST.as_bytes(),
@@ -337,7 +382,7 @@ fn says_which_side_failed_in_a_check(rt: HostRuntime) -> Result<(), Fail> {
         (57, 1, Status::WriteFault, "legal 15"),
         (57, 2, Status::Done, "legal 15\n"),
     ] {
-        let (end, told) = ended(rt.alloc(), &["check"], text, &[source_fail], &[sink_fail])?;
+        let (end, told) = ended(&rt, rt.alloc(), &["check"], text, &[source_fail], &[sink_fail])?;
         assert_eq!(rt; end, status, "read {source_fail}, write {sink_fail}");
         assert_eq!(rt; told.as_slice(), front.as_bytes());
     }
@@ -358,7 +403,15 @@ fn ends_as_it_should_where_no_side_fails(rt: HostRuntime) -> Result<(), Fail> {
     ] {
         let mut source = NeverSource::new(Vec::from_slice(alloc, text.as_bytes())?);
         let mut sink = NeverSink::new(Vec::with_capacity(alloc, room)?);
-        let ended = schism(alloc, &[word], &mut source, &mut sink, paces(alloc)?);
+        let ended = schism(
+            &rt,
+            alloc,
+            &[word],
+            &mut source,
+            &mut sink,
+            paces(alloc)?,
+            &OpenGate,
+        );
         assert_eq!(rt; ended, status, "{word} with room for {room}");
         assert_eq!(rt;
             sink.bytes(),

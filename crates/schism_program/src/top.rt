@@ -11,19 +11,25 @@ use crate::input::read_input;
 use crate::serving::made_text;
 use crate::status::Status;
 use crate::work::Work;
+use heap_model::Gate;
 use io_edge::{ReadAllFault, Sink, Source, write_all};
 use script_text::LineFault;
 use slack_pace::Paces;
 use std::alloc::Global;
+use std::sync::Wait;
+use std::thread::Threads;
 
-/// Plays the script that the source gives, or checks the history, or makes a script, as the words ask, and writes what comes
-/// of it to the sink. The whole text stands before the first byte is written.
-pub fn schism<S: Source, K: Sink>(
+/// Plays or runs the script that the source gives, or checks the history, or makes a script, as the words ask, and writes what comes
+/// of it to the sink. The whole text stands before the first byte is written. A run's seats work on threads of their own, and each passes the
+/// gate before each of its commands; no other form starts a thread or waits for one.
+pub fn schism<S: Source, K: Sink, G: Gate, R: Threads + Wait + Sync>(
+    rt: &R,
     alloc: Global,
     words: &[&str],
     source: &mut S,
     sink: &mut K,
     paces: Paces,
+    gate: &G,
 ) -> Status
     ensures usage { (result ≡ Status.Usage) ↔ (¬ IsForm (map (λ w. w.now) words.now)) }
     ensures unread { result ≡ Status.Usage → source.new ≡ source.old }
@@ -66,7 +72,7 @@ pub fn schism<S: Source, K: Sink>(
         Err(ReadAllFault::ReadFault) => return Status::ReadFault,
         Err(ReadAllFault::Memory) => return Status::Memory,
     };
-    let text = match made_text(alloc, work, &input, paces) {
+    let text = match made_text(rt, alloc, work, &input, paces, gate) {
         Ok(text) => text,
         Err(WorkFault::Refused(LineFault { line, cause })) => return Status::Refused {
             line,

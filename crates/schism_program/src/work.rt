@@ -1,41 +1,32 @@
-ghost use Rattle.std.specs.Prelude.{◌≡◌, ◌≤◌, ℕ, Bool as ABool, decimal, codes, map, IfNone, IfSome};
+ghost use Rattle.std.specs.Prelude.{◌≡◌, ℕ, Bool as ABool, codes, map, IfNone, IfSome};
 ghost use Rattle.schism_program.specs.Works.{most_bytes, form_word, AskFor, Completes, IsForm, IsWork, Reads};
 ghost use Rattle.schism_program.specs.declared.work.Work.TheVariants as works;
 
+use crate::range::number_in;
 use crate::setting::{Settings, first_word};
 use heap_model::limits::MOST_SEATS;
-use script_text::{MOST_MADE_LINES, MOST_START, read_number};
+use script_text::{MOST_MADE_LINES, MOST_START};
 
-/// The most bytes of a script that is played.
+/// The most bytes of a script that is played or run.
 pub const MOST_SCRIPT: usize = 1_048_576;
 
 /// The most bytes of a history that is checked.
 pub const MOST_HISTORY: usize = 16_777_216;
+
+/// How often a seat of a run finds another one behind before it answers that its collect waits, where the words don't say.
+const USUAL_PATIENCE: u32 = 1_000;
 
 /// What the program does.
 #[derive(Clone, Copy, Debug, PartialEq, Eq)]
 pub enum Work {
     /// Plays a script, with the steady pace or with none, and tells the play's history or its brief.
     Play { steady: bool, brief: bool },
+    /// Runs a script, each seat on a thread of its own, and tells the run's history.
+    Run { locked: bool, patience: u32 },
     /// Checks a history.
     Check,
     /// Makes a script.
     Make { start: u32, seats: u8, lines: u32 },
-}
-
-/// The number that the word is, in the range with both ends.
-fn number_in(word: &str, least: u32, most: u32) -> Option<u32>
-    ensures some { IfSome result (λ n. (word.now ≡ decimal n) × (least ≤ n) × (n ≤ most)) }
-    ensures none { IfNone result ((n : ℕ) → word.now ≡ decimal n → least ≤ n → n ≤ most → ⊥) }
-{
-    let Some(number) = read_number(word.as_bytes()) else {
-        return None;
-    };
-    if u64::from(least) <= number && number <= u64::from(most) {
-        Some(number as u32)
-    } else {
-        None
-    }
 }
 
 /// The play that the words behind the form's ask for.
@@ -46,9 +37,29 @@ fn play_of(words: &[&str]) -> Option<Work>
     let Some(settings) = Settings::of(words) else {
         return None;
     };
+    if settings.locked || settings.patience.is_some() {
+        return None;
+    }
     Some(Work::Play {
         steady: settings.steady,
         brief: settings.brief,
+    })
+}
+
+/// The run that the words behind the form's ask for.
+fn run_of(words: &[&str]) -> Option<Work>
+    ensures some { IfSome result (λ work. (form_word work ≡ codes "run") × Completes (map (λ w. w.now) words.now) work) }
+    ensures none { IfNone result ((locked : ABool) (patience : ℕ) → ¬ Completes (map (λ w. w.now) words.now) (works.Run locked patience)) }
+{
+    let Some(settings) = Settings::of(words) else {
+        return None;
+    };
+    if settings.brief {
+        return None;
+    }
+    Some(Work::Run {
+        locked: settings.locked,
+        patience: settings.patience.unwrap_or(USUAL_PATIENCE),
     })
 }
 
@@ -100,6 +111,7 @@ impl Work {
         };
         match form {
             "play" => play_of(rest),
+            "run" => run_of(rest),
             "check" => check_of(rest),
             "make" => make_of(rest),
             _ => None,
@@ -112,7 +124,7 @@ impl Work {
         ensures none { IfNone result (¬ Reads self) }
     {
         match self {
-            Work::Play { .. } => Some(MOST_SCRIPT),
+            Work::Play { .. } | Work::Run { .. } => Some(MOST_SCRIPT),
             Work::Check => Some(MOST_HISTORY),
             Work::Make { .. } => None,
         }

@@ -1,14 +1,15 @@
 //! The forms of the words after the program's name: plays at a steady pace, briefs, and scripts that are made.
 
-use super::{FIRST, ended, paces};
+use super::{FIRST, ended, told};
 use crate::status::Status;
-use crate::top::schism;
-use io_edge::{NeverSink, NeverSource};
+use heap_model::OpenGate;
 use std::alloc::{AllocError, Global};
+use std::sync::Wait;
 use std::test::Fail;
+use std::thread::Threads;
 
 /// Words that are no form, each with one space between two.
-const NO_FORMS: [&str; 28] = [
+const NO_FORMS: [&str; 44] = [
     "plays",
     "Check",
     "play extra",
@@ -28,6 +29,22 @@ const NO_FORMS: [&str; 28] = [
     "play -- --brief",
     "play --brief --",
     "play --locked",
+    "play --patience 5",
+    "run extra",
+    "--locked run",
+    "run --brief",
+    "run --locked --locked",
+    "run --locked --patience",
+    "run --patience 0",
+    "run --patience 01",
+    "run --patience 1000001",
+    "run --patience -1",
+    "run --patience=5",
+    "run --patience 5 --patience 5",
+    "run --pace steady --pace steady",
+    "run --pace --locked steady",
+    "run --pace debt",
+    "run -- --locked",
     "make",
     "make 7 4",
     "make 7 4 2000 1",
@@ -40,20 +57,24 @@ const NO_FORMS: [&str; 28] = [
 ];
 
 /// The status that the words come to where the first call of each side would fail: so neither side is touched where it is Usage.
-fn ended_by(alloc: Global, line: &str) -> Result<Status, AllocError> {
+fn ended_by(
+    rt: &(impl Threads + Wait + Sync),
+    alloc: Global,
+    line: &str,
+) -> Result<Status, AllocError> {
     let words: Vec<&str> = line.split(' ').collect(alloc)?;
-    Ok(ended(alloc, &words, FIRST.as_bytes(), &[0], &[0])?.0)
+    Ok(ended(rt, alloc, &words, FIRST.as_bytes(), &[0], &[0])?.0)
 }
 
 #[test]
 fn says_usage_of_other_words(rt: HostRuntime) -> Result<(), Fail> {
     let alloc = rt.alloc();
     assert_eq!(rt;
-        ended(alloc, &[], FIRST.as_bytes(), &[0], &[0])?.0,
+        ended(&rt, alloc, &[], FIRST.as_bytes(), &[0], &[0])?.0,
         Status::Usage
     );
     for line in NO_FORMS {
-        assert_eq!(rt; ended_by(alloc, line)?, Status::Usage, "{line}");
+        assert_eq!(rt; ended_by(&rt, alloc, line)?, Status::Usage, "{line}");
     }
     for line in [
         "play",
@@ -61,23 +82,20 @@ fn says_usage_of_other_words(rt: HostRuntime) -> Result<(), Fail> {
         "play --pace steady",
         "play --brief --pace steady",
         "play --pace steady --brief",
+        "run",
+        "run --locked",
+        "run --pace steady",
+        "run --patience 1",
+        "run --patience 1000000 --pace steady --locked",
+        "run --locked --patience 1000 --pace steady",
         "check",
     ] {
-        assert_eq!(rt; ended_by(alloc, line)?, Status::ReadFault, "{line}");
+        assert_eq!(rt; ended_by(&rt, alloc, line)?, Status::ReadFault, "{line}");
     }
     for line in ["make 2147483647 16 32768", "make 0 1 0"] {
-        assert_eq!(rt; ended_by(alloc, line)?, Status::WriteFault, "{line}");
+        assert_eq!(rt; ended_by(&rt, alloc, line)?, Status::WriteFault, "{line}");
     }
     Ok(())
-}
-
-/// What the words make of the text.
-fn told(alloc: Global, line: &str, text: &[u8]) -> Result<(Status, Vec<u8>), AllocError> {
-    let words: Vec<&str> = line.split(' ').collect(alloc)?;
-    let mut source = NeverSource::new(Vec::from_slice(alloc, text)?);
-    let mut sink = NeverSink::new(Vec::with_capacity(alloc, 65536)?);
-    let status = schism(alloc, &words, &mut source, &mut sink, paces(alloc)?);
-    Ok((status, Vec::from_slice(alloc, sink.bytes().unwrap_or(&[]))?))
 }
 
 // The first draws are 16838, which picks a copy, 5758 and 10113 for its registers; 17515 for a set, 31051, 5627 and 23010; 7419
@@ -85,11 +103,11 @@ fn told(alloc: Global, line: &str, text: &[u8]) -> Result<(Status, Vec<u8>), All
 #[test]
 fn makes_a_script_and_plays_it(rt: HostRuntime) -> Result<(), Fail> {
     let alloc = rt.alloc();
-    let (status, script) = told(alloc, "make 1 1 4", b"")?;
+    let (status, script) = told(&rt, alloc, "make 1 1 4", b"", &OpenGate)?;
     assert_eq!(rt; status, Status::Done);
     let wanted = "schism 1\nheap 64 256 1\n0 copy 14 1\n0 set 11 3 2\n0 set 4 6 13\n0 poll\n";
     assert_eq!(rt; script.as_slice(), wanted.as_bytes());
-    let (status, played) = told(alloc, "play", &script)?;
+    let (status, played) = told(&rt, alloc, "play", &script, &OpenGate)?;
     assert_eq!(rt; status, Status::Done);
     let wanted =
         "history 1 play\nheap 64 256 1\n0 copy 14 1 = ok\n0 set 11 3 2 = no object\n0 set 4 6 13 = no object\n0 poll = 0\nspace used 11 of 1024 spine 0 of 256\n0 leave = ok\nc phase 1\nc phase 2\nc phase 3\nc phase 4\nc phase 5\nc frees 11\nc phase 6\nc ends 0 kept 0\nend used 0\n";
@@ -101,12 +119,12 @@ fn makes_a_script_and_plays_it(rt: HostRuntime) -> Result<(), Fail> {
 #[test]
 fn plays_a_made_script_at_a_steady_pace(rt: HostRuntime) -> Result<(), Fail> {
     let alloc = rt.alloc();
-    let (status, script) = told(alloc, "make 7 4 2000", b"")?;
+    let (status, script) = told(&rt, alloc, "make 7 4 2000", b"", &OpenGate)?;
     assert_eq!(rt; status, Status::Done);
     let wanted =
         "brief 1\nheap 64 256 4\ncommands 2000 refused 232\nmade 409 cycles 14 freed 1737 swung 195\nspace used 252 of 1024 spine 108 of 256\nend used 0\n";
     for line in ["play --pace steady --brief", "play --brief --pace steady"] {
-        let (status, brief) = told(alloc, line, &script)?;
+        let (status, brief) = told(&rt, alloc, line, &script, &OpenGate)?;
         assert_eq!(rt; status, Status::Done);
         assert_eq!(rt; brief.as_slice(), wanted.as_bytes(), "{line}");
     }
@@ -119,7 +137,7 @@ fn plays_a_made_script_at_a_steady_pace(rt: HostRuntime) -> Result<(), Fail> {
 fn plays_at_a_steady_pace(rt: HostRuntime) -> Result<(), Fail> {
     let alloc = rt.alloc();
     let script = b"schism 1\nheap 1 0 1\n0 new 1 2\nc turns 0\n0 num 2 9\n0 poll\n";
-    let (status, played) = told(alloc, "play --pace steady", script)?;
+    let (status, played) = told(&rt, alloc, "play --pace steady", script, &OpenGate)?;
     assert_eq!(rt; status, Status::Done);
     let wanted =
         "history 1 play\nheap 1 0 1\n0 takes 5\n0 new 1 2 = 0.0\nc phase 1\nc turns 0 = done\n0 num 2 9 = ok\n0 answers 1\n0 poll = 1\nc phase 2\nspace used 16 of 16 spine 0 of 0\n0 gives back 4\n0 leave = ok\nc phase 3\nc phase 4\nc phase 5\nc frees 12\nc phase 6\nc ends 0 kept 0\nc phase 8\nc phase 9\nc phase 10\nc phase 11\nc phase 12\nc phase 13\nc ends 1 kept 0\nend used 0\n";

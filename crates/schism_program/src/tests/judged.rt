@@ -2,7 +2,9 @@ use super::ended;
 use crate::status::{Status, status_text};
 use std::alloc::{AllocError, Global};
 use std::process::Abort;
+use std::sync::Wait;
 use std::test::Fail;
+use std::thread::Threads;
 
 mod counts;
 mod cycles;
@@ -105,12 +107,12 @@ fn history_of(alloc: Global, pieces: &str) -> Result<String, AllocError> {
 }
 
 // A verdict is what is written of a legal history, or what is said of another, of which nothing is written.
-fn judges(rt: &(impl Abort + AllocGlobal), cases: &[&str]) -> Result<(), AllocError> {
+fn judges(rt: &(impl Abort + AllocGlobal + Threads + Wait + Sync), cases: &[&str]) -> Result<(), AllocError> {
     let alloc = rt.alloc();
     for case in cases {
         let (pieces, verdict) = case.split_once(" => ").expect(rt, "a case has a verdict");
         let text = history_of(alloc, pieces)?;
-        let (status, taken) = ended(alloc, &["check"], text.as_bytes(), &[], &[])?;
+        let (status, taken) = ended(rt, alloc, &["check"], text.as_bytes(), &[], &[])?;
         if status == Status::Done {
             let written = format!(in alloc; "{verdict}\n")?;
             assert_eq!(rt; taken.as_slice(), written.as_bytes(), "{case}");

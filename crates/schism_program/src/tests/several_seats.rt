@@ -4,7 +4,9 @@ use super::ended;
 use crate::status::Status;
 use std::alloc::{AllocError, Global};
 use std::process::Abort;
+use std::sync::Wait;
 use std::test::Fail;
+use std::thread::Threads;
 
 /// A script, the history of its play, and how many entries that has. Lines stand with "; " between them.
 ///
@@ -75,17 +77,17 @@ pub(super) fn text_of(alloc: Global, lines: &str) -> Result<String, AllocError> 
 
 /// Plays each row's script, compares what is written with its history, and what the check of that says with its verdict.
 pub(super) fn plays(
-    rt: &impl Abort,
+    rt: &(impl Abort + Threads + Wait + Sync),
     alloc: Global,
     rows: &[(&str, &str, &str)],
 ) -> Result<(), Fail> {
     for &(script, history, verdict) in rows {
         let script = text_of(alloc, script)?;
         let history = text_of(alloc, history)?;
-        let (end, written) = ended(alloc, &["play"], script.as_bytes(), &[], &[])?;
+        let (end, written) = ended(rt, alloc, &["play"], script.as_bytes(), &[], &[])?;
         assert_eq!(rt; end, Status::Done, "{script}");
         assert_eq!(rt; written.as_slice(), history.as_bytes(), "{script}");
-        let (end, told) = ended(alloc, &["check"], history.as_bytes(), &[], &[])?;
+        let (end, told) = ended(rt, alloc, &["check"], history.as_bytes(), &[], &[])?;
         assert_eq!(rt; end, Status::Done, "{script}");
         assert_eq!(rt; told.as_slice(), text_of(alloc, verdict)?.as_bytes());
     }

@@ -7,11 +7,11 @@ returns-in_default-clause-none t c = λ all. none_begins c.args.settings all _ (
 
 pub returns-then-has-clause-none : goal.returns-then-has-clause-none
 returns-then-has-clause-none t c = λ all gives.
-    let first = first_given c.args.settings all c.in-Some.setting _ _ c.in-Some.ensures.some gives in
+    let first = first_given c.args.settings all c.in-Some.setting _ _ c.in-Some.ensures.range c.in-Some.ensures.some gives in
     cc (first.0, c.has.ensures, c.if-has.true)
 
 pub returns-clause-some : goal.returns-clause-some
-returns-clause-some t c = some_given c.args.settings c.in-Some.setting _ _ c.more_settings.result c.in-Some.ensures.some (sym c.has.ensures ∙ c.if-has.false) (rw c.with.ensures at c.more_settings.ensures.some)
+returns-clause-some t c = some_given c.args.settings c.in-Some.setting _ _ c.more_settings.result c.in-Some.ensures.range c.in-Some.ensures.some (sym c.has.ensures ∙ c.if-has.false) (rw c.with.ensures at c.more_settings.ensures.some)
 
 pub returns-clause-none : goal.returns-clause-none
-returns-clause-none t c = none_given c.args.settings c.in-Some.setting _ _ c.more_settings.result c.in-Some.ensures.some (rw c.with.ensures at c.more_settings.ensures.none)
+returns-clause-none t c = none_given c.args.settings c.in-Some.setting _ _ c.more_settings.result c.in-Some.ensures.range c.in-Some.ensures.some (rw c.with.ensures at c.more_settings.ensures.none)

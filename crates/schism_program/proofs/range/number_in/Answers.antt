@@ -2,8 +2,8 @@ use Rattle.std.proofs.Common.{◌≡◌, ◌^◌, Some, sym, ap, ◌∙◌, arit
 use Rattle.script_text.specs.Numbers.{number_below}
 use Rattle.script_text.proofs.Numbers.{number_below-Some}
 use Rattle.schism_program.proofs.RangeNumbers.{none_within, outside_none}
-use Rattle.schism_program.proofs.work.number_in.Goals as goal
-use Rattle.schism_program.proofs.work.number_in.Goals.{else-from-number-via-then-from-number+else-number-from, else-from-number-via-else-from-number}
+use Rattle.schism_program.proofs.range.number_in.Goals as goal
+use Rattle.schism_program.proofs.range.number_in.Goals.{else-from-number-via-then-from-number+else-number-from, else-from-number-via-else-from-number}
 
 pub returns-in_default-clause-none : goal.returns-in_default-clause-none
 returns-in_default-clause-none c = none_within c.args.word.now c.read_number.result c.args.least c.args.most c.ranges.most.fits (c.read_number.ensures ∙ ap (number_below (2 ^ 64)) c.as_bytes.ensures.value) c.in_default.is

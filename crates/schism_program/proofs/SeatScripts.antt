@@ -1,0 +1,87 @@
+-- The scripts of the seats are those of a run.
+use Rattle.std.proofs.Common.{◌≡◌, ◌≢◌, ℕ, ◌+◌, ◌<◌, ◌≤◌, ◌==◌, Bool, true, false, if◌then◌else◌, List, [], ◌∷◌, ◌++◌, length, map, Vec, Global, sym, ap, ◌∙◌, subst, refl, arith}
+use Rattle.std.specs.Prelude.{All, slice_index_or}
+use Rattle.std.specs.List.{AllByRecursion, range_with_len}
+use Rattle.std.proofs.lemmas.List.{length-map}
+use Rattle.std.proofs.lemmas.List.Elements.{All-from_recursion}
+use Rattle.std.proofs.lemmas.List.FromFn.{length-map-range_with_len, get_or-map-range_with_len}
+use Rattle.std.proofs.Math.ListN.{get_or-map}
+use Rattle.heap_model.specs.declared.command.Command.{Command}
+use Rattle.heap_model.specs.declared.command.Command.TheVariants as commands
+use Rattle.heap_model.specs.Limits.{stamp_limit}
+use Rattle.locked_heap.specs.Given.{IsOfScript, IsScript}
+use Rattle.script_text.specs.declared.script.Form.TheVariants.{Run}
+use Rattle.script_text.specs.declared.script.Line.{Line}
+use Rattle.script_text.specs.declared.script.Line.TheVariants as lines
+use Rattle.script_text.specs.declared.script.Script.{Script}
+use Rattle.script_text.specs.Grammar.{IsLine, IsScripted}
+use Rattle.script_text.specs.Writing.{IsOfForm}
+use Rattle.schism_program.specs.Running.{commands_of, line_commands}
+
+-- the script of each seat, in the order of their numbers
+abbrev pub scripts_by_seat : Script → List (List Command)
+scripts_by_seat script = map (λ number. commands_of number script.lines) (range_with_len 0 script.heap.seats)
+
+-- the commands in a list of them
+abbrev items : Vec Command Global → List Command
+items script = script.items
+
+-- a command that a script may have is one of a seat's script
+of_script : (command : Command) → IsScripted command → IsOfScript command
+of_script (commands.New d fields) is = (is, λ same. cc)
+of_script (commands.Array d cells) is = (is, λ same. cc)
+of_script (commands.Get d r i) is = (is, λ same. cc)
+of_script (commands.Set r i v) is = (is, λ same. cc)
+of_script (commands.Num d n) is = (is, λ same. cc)
+of_script (commands.Nil d) is = (is, λ same. cc)
+of_script (commands.Copy d r) is = (is, λ same. cc)
+of_script (commands.Same a b) is = (is, λ same. cc)
+of_script (commands.Len r) is = (is, λ same. cc)
+of_script commands.Poll is = (is, λ same. cc)
+of_script commands.Collect is = (is, λ same. cc)
+of_script commands.Leave is = absurd is
+
+-- the command of a line is one more at most
+few_more : (own : Bool) (command : Command) (rest : List Command) (n : ℕ) → length rest ≤ n → length ((if own then command ∷ [] else []) ++ rest) ≤ n + 1
+few_more true command rest n few = omega (arith, few)
+few_more false command rest n few = omega (arith, few)
+
+-- a seat has no more commands than there are lines
+few_commands : (number : ℕ) (script : List Line) → length (commands_of number script) ≤ length script
+few_commands number [] = omega arith
+few_commands number (lines.Seat other command ∷ more) = omega (arith, few_more (other == number) command (commands_of number more) (length more) (few_commands number more))
+few_commands number (lines.Turns command ∷ more) = omega (arith, few_commands number more)
+
+-- it is one of a seat's script, as the others are
+all_more : (own : Bool) (command : Command) (rest : List Command) → IsOfScript command → AllByRecursion IsOfScript rest → AllByRecursion IsOfScript ((if own then command ∷ [] else []) ++ rest)
+all_more true command rest is all = (is, all)
+all_more false command rest is all = all
+
+all_commands : (seats number : ℕ) (script : List Line) → AllByRecursion (IsLine Run seats) script → AllByRecursion IsOfScript (commands_of number script)
+all_commands seats number [] all = tt
+all_commands seats number (lines.Seat other command ∷ more) all = all_more (other == number) command (commands_of number more) (of_script command all.0.1) (all_commands seats number more all.1)
+all_commands seats number (lines.Turns command ∷ more) all = absurd all.0
+
+-- so what each seat is handed is a script
+pub seat_script : (number : ℕ) (script : Script) → IsOfForm Run script → IsScript (commands_of number script.lines)
+seat_script number script of_form = record {
+  few = omega (arith, few_commands number script.lines, of_form.short);
+  each = All-from_recursion IsOfScript (commands_of number script.lines) (all_commands script.heap.seats number script.lines of_form.lines);
+}
+
+-- there is one for each seat
+pub seated : (scripts : List (Vec Command Global)) (script : Script) → map items scripts ≡ scripts_by_seat script → length scripts ≡ script.heap.seats
+seated scripts script same = sym (length-map scripts items) ∙ ap (length {A = List Command}) same ∙ length-map-range_with_len (λ number. commands_of number script.lines) 0 script.heap.seats
+
+-- each of them is
+pub seat_scripts : (scripts : List (Vec Command Global)) (script : Script) → IsOfForm Run script → map items scripts ≡ scripts_by_seat script → All (λ (s : Vec Command Global). IsScript s.items) scripts
+seat_scripts scripts script of_form same k d below =
+    let commands = λ (number : ℕ). commands_of number script.lines in
+    let found : commands k ≡ (slice_index_or scripts k d).items
+    = sym (get_or-map-range_with_len commands 0 script.heap.seats k k d.items (omega (arith, below, seated scripts script same)) refl) ∙ ap (λ l. slice_index_or l k d.items) (sym same) ∙ get_or-map items scripts k d in
+    subst IsScript found (seat_script k script of_form)
+
+-- and it is what the seat of its number is handed
+pub handed_script : (scripts : List (Vec Command Global)) (script : Script) (number : ℕ) → number < script.heap.seats → map items scripts ≡ scripts_by_seat script → slice_index_or (map items scripts) number [] ≡ commands_of number script.lines
+handed_script scripts script number within same =
+    ap (λ l. slice_index_or l number []) same ∙ get_or-map-range_with_len (λ n. commands_of n script.lines) 0 script.heap.seats number number [] within refl

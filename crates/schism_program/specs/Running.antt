@@ -1,0 +1,67 @@
+-- What a run of a script comes to.
+use Rattle.std.specs.Prelude.{◌≡◌, ℕ, ◌<◌, ◌==◌, Bool, true, false, if◌then◌else◌, List, [], ◌∷◌, ◌++◌, filter, None}
+use Rattle.std.specs.List.{flat_map}
+use Rattle.heap_model.specs.declared.command.Command.{Command}
+use Rattle.heap_model.specs.declared.command.Command.TheVariants.{Leave}
+use Rattle.heap_model.specs.declared.entry.Entry.{Entry}
+use Rattle.heap_model.specs.declared.heap.Heap.{Heap}
+use Rattle.heap_model.specs.account.Account.{IsLegal}
+use Rattle.heap_model.specs.account.Effects.{is_of}
+use Rattle.heap_model.specs.account.Noting.{is_collectors}
+use Rattle.heap_model.specs.account.Space.{words_granted, words_returned}
+use Rattle.script_text.specs.declared.script.Form.TheVariants as forms
+use Rattle.script_text.specs.declared.script.Line.{Line}
+use Rattle.script_text.specs.declared.script.Line.TheVariants as lines
+use Rattle.script_text.specs.declared.script.Script.{Script}
+use Rattle.script_text.specs.Grammar.{IsScript}
+use Rattle.script_text.specs.Text.{text_of}
+use Rattle.reply_text.specs.declared.history.History.{History}
+use Rattle.reply_text.specs.History.{history_lines}
+use Rattle.log_merge.specs.Legal.{IsLegalHistory}
+use Rattle.locked_heap.specs.declared.ran.LockedRan.{LockedRan}
+use Rattle.locked_heap.specs.Ran.{EndsEmpty}
+use Rattle.locked_heap.specs.Told.{commands_told}
+
+-- the command of the line, where the line is the seat's
+abbrev pub line_commands : ℕ → Line → List Command
+line_commands number (lines.Seat other command) = if other == number then command ∷ [] else []
+line_commands number (lines.Turns command) = []
+
+-- the commands of the seat's lines, in their order
+abbrev pub commands_of : ℕ → List Line → List Command
+commands_of number script = flat_map (line_commands number) script
+
+-- in both orders each seat's own entries stand in the same order, and so do the collector's
+pub record KeepsLogs (one other : List Entry) : Type 0 where
+  pub seats : (number : ℕ) → filter (is_of number) other ≡ filter (is_of number) one
+  pub collector : filter is_collectors other ≡ filter is_collectors one
+
+-- behind one lock the order itself is legal in full as a run; else some order of the same entries is that keeps each log's order
+abbrev pub IsLegalRun : Bool → Heap → List Entry → Type 0
+IsLegalRun true heap entries = IsLegal heap false entries
+IsLegalRun false heap entries = (other : List Entry) × KeepsLogs entries other × IsLegal heap false other
+
+-- the history is that of a run of the script: each seat's commands are those of its lines in their order, each once, and then its leave; the last cycle, which began
+-- after every leave, left nothing in use
+pub record IsRunOf (locked : Bool) (script : Script) (history : History) : Type 0 where
+  pub form : history.form ≡ forms.Run
+  pub heap : history.heap ≡ script.heap
+  pub unmarked : history.mark ≡ None
+  pub legal : IsLegalHistory history
+  pub whole : IsLegalRun locked history.heap history.entries
+  pub commands : (number : ℕ) → number < script.heap.seats → commands_told number history.entries ≡ commands_of number script.lines ++ Leave ∷ []
+  pub last_cycle : EndsEmpty script.heap history.entries
+  pub none_used : history.end_used ≡ 0
+  pub all_returned : words_returned history.entries ≡ words_granted history.entries
+
+-- the history that tells what a run came to
+abbrev pub run_history : Heap → LockedRan → History
+run_history heap ran = record { form = forms.Run; heap = heap; entries = ran.history.items; mark = None; end_used = ran.end_used }
+
+-- the text tells a run of the input's script
+pub record Runs (locked : Bool) (input text : List ℕ) : Type 0 where
+  pub script : Script
+  pub history : History
+  pub spelled : IsScript forms.Run input script
+  pub ran : IsRunOf locked script history
+  pub rendered : text ≡ text_of (history_lines history)

@@ -1,0 +1,105 @@
+//! Runs: each seat works on a thread of its own, so what comes differs from run to run. Each history is checked, and judged in full as a run.
+
+mod gates;
+mod judging;
+
+use super::several_seats::text_of;
+use super::{refused, told};
+use crate::status::Status;
+use gates::{OneAfterTheOther, TwoAtOnce};
+use heap_model::{Gate, OpenGate};
+use judging::{has_line, judge};
+use script_text::Cause;
+use std::alloc::Global;
+use std::process::Abort;
+use std::sync::Wait;
+use std::test::Fail;
+use std::thread::Threads;
+
+/// The words of a run, by which the heap is behind one lock either way.
+const RUNS: [&str; 2] = ["run", "run --locked"];
+
+/// What a run of the script tells, which is legal. Lines stand with "; " between them.
+fn ran<G: Gate>(
+    rt: &(impl Abort + Threads + Wait + Sync),
+    alloc: Global,
+    line: &str,
+    script: &str,
+    gate: &G,
+) -> Result<Vec<u8>, Fail> {
+    let script = text_of(alloc, script)?;
+    let (end, history) = told(rt, alloc, line, script.as_bytes(), gate)?;
+    assert_eq!(rt; end, Status::Done, "{script}");
+    let (end, _) = told(rt, alloc, "check", &history, &OpenGate)?;
+    assert_eq!(rt; end, Status::Done, "{script}");
+    judge(alloc, &history)?;
+    assert!(rt; has_line(&history, b"end used 0"), "{script}");
+    Ok(history)
+}
+
+// Each seat goes on to its second command only once the other one has come there too: so no thread made both scripts. Of the two sets one
+// found the field as it opened, and the other one replaced what that had set.
+#[test]
+fn shares_a_field(rt: HostRuntime) -> Result<(), Fail> {
+    let script = "schism 1; heap 1 0 2; 0 num 1 5; 0 set 0 3 1; 0 get 2 0 3; 1 num 1 6; 1 set 0 3 1; 1 get 2 0 3";
+    for line in RUNS {
+        let gate = TwoAtOnce::new();
+        let history = ran(&rt, rt.alloc(), line, script, &gate)?;
+        assert!(rt; gate.met(), "{line}");
+        let first = has_line(&history, b"0 set 0 3 1 = was -") && has_line(&history, b"1 set 0 3 1 = was 0:1");
+        let second = has_line(&history, b"1 set 0 3 1 = was -") && has_line(&history, b"0 set 0 3 1 = was 1:1");
+        assert!(rt; first || second, "{line}");
+    }
+    Ok(())
+}
+
+// No cycle needs another seat, so the collect sees the end of the first one or of the one behind it.
+#[test]
+fn collects_alone(rt: HostRuntime) -> Result<(), Fail> {
+    let script = "schism 1; heap 1 0 1; 0 new 1 2; 0 nil 1; 0 collect";
+    for line in RUNS {
+        let history = ran(&rt, rt.alloc(), line, script, &OpenGate)?;
+        assert!(rt; has_line(&history, b"0 collect = cycle 0") || has_line(&history, b"0 collect = cycle 1"), "{line}");
+    }
+    Ok(())
+}
+
+// Seat 1 begins nothing before the collect of seat 0 is answered, so it is found behind the first phase however often the patience asks.
+#[test]
+fn waits_for_a_seat_that_never_polls(rt: HostRuntime) -> Result<(), Fail> {
+    let script = "schism 1; heap 1 0 2; 0 collect; 0 poll; 1 nil 1";
+    for line in ["run --patience 3", "run --patience 7 --locked", "run --locked"] {
+        let gate = OneAfterTheOther::new();
+        let history = ran(&rt, rt.alloc(), line, script, &gate)?;
+        assert!(rt; has_line(&history, b"0 collect = waits 1 answered 0 phase 1"), "{line}");
+    }
+    Ok(())
+}
+
+#[test]
+fn refuses_lines_of_the_collector(rt: HostRuntime) -> Result<(), Fail> {
+    let script = b"schism 1\nheap 1 0 1\nc turns 2\nc turns 5\n";
+    for line in RUNS {
+        let (end, written) = told(&rt, rt.alloc(), line, script, &OpenGate)?;
+        assert_eq!(rt; end, refused(3, Cause::NoSeat), "{line}");
+        assert!(rt; written.is_empty());
+    }
+    Ok(())
+}
+
+#[test]
+fn runs_made_scripts(rt: HostRuntime) -> Result<(), Fail> {
+    let alloc = rt.alloc();
+    for made in ["make 7 2 200", "make 7 4 200", "make 7 16 320"] {
+        let (end, script) = told(&rt, alloc, made, b"", &OpenGate)?;
+        assert_eq!(rt; end, Status::Done, "{made}");
+        for _ in 0..10 {
+            let (end, history) = told(&rt, alloc, "run --locked", &script, &OpenGate)?;
+            assert_eq!(rt; end, Status::Done, "{made}");
+            let (end, _) = told(&rt, alloc, "check", &history, &OpenGate)?;
+            assert_eq!(rt; end, Status::Done, "{made}");
+            judge(alloc, &history)?;
+        }
+    }
+    Ok(())
+}
