@@ -19,7 +19,7 @@ no_looks = record { first = None; seen = 0; behind = None; waits = 0 }
 abbrev pub forgotten : Looks → Looks
 forgotten looks = record looks { first = None; behind = None }
 
--- the first phase that was found, with this one after it
+-- the first phase that was found since the last reply: this one, where none was found before
 abbrev pub first_of : Option ℕ → ℕ → Option ℕ
 first_of None found = Some found
 first_of (Some p) found = Some p
@@ -32,7 +32,7 @@ looked found looks = record looks { first = first_of looks.first found; seen = f
 abbrev pub seen_phase : ℕ → Looks → Looks
 seen_phase found looks = record looks { seen = found }
 
--- one more, where that has 64 bits
+-- the count and one more, as far as 64 bits count
 abbrev pub counted_once_more : ℕ → ℕ
 counted_once_more n = if nat_lt (n + 1) (2 ^ 64) then n + 1 else n
 

@@ -14,7 +14,7 @@ use Rattle.core_machine.specs.declared.place.Place.TheVariants.{Idle}
 use Rattle.core_machine.specs.declared.seat.register.Register.{Register}
 use Rattle.core_machine.specs.seat.Looks.{Looks, no_looks, forgotten}
 
--- where no spine stands that the seat knows of
+-- the place of a spine while the seat knows of none
 abbrev pub no_spot : Spot
 no_spot = record { half = 0; offset = 0 }
 
@@ -148,7 +148,7 @@ call_over seat = record seat {
   shaded = 0;
 }
 
--- so it is after a reply, which forgets what was found since the last one
+-- the call is over with its reply, and the seat forgets what it has found since the one before
 abbrev pub after_call : Seat → Seat
 after_call seat = record (call_over seat) { looks = forgotten seat.looks }
 
