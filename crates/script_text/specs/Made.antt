@@ -23,11 +23,11 @@ most_made_lines = 32768
 abbrev pub target_of : ℕ → ℕ
 target_of drawn = 1 + drawn % last_register
 
--- the register that it names where one is read
+-- the register that a draw names where one is read
 abbrev pub register_of : ℕ → ℕ
 register_of drawn = drawn % register_count
 
--- the field or cell that it names
+-- the field or cell that a draw names
 abbrev pub index_of : ℕ → ℕ
 index_of drawn = drawn % 8
 
@@ -48,7 +48,7 @@ commands_of x y z =
 abbrev pub drawn_command : ℕ → Command
 drawn_command state = slice_index_or (commands_of (draw 2 state) (draw 3 state) (draw 4 state)) (draw 1 state % 8) Poll
 
--- in every fourth round the seats poll, which draws nothing
+-- the command of line i: in every fourth round the seats poll, which draws nothing, and else it is drawn
 abbrev pub made_command : ℕ → ℕ → ℕ → Command
 made_command seats i state = if i / seats % 4 == 3 then Poll else drawn_command state
 
