@@ -53,7 +53,7 @@ pub record Coloured (heap : Heap) (words : List ℕ) (owner : ℕ → Owner) (co
   -- from barriers to the sweep a kept object with a marked fragment is marked by its first
   pub first : IsBetween barriers sweep phase → (f i k : ℕ) → owner f ≡ Kept i k → IsMarked colour f → IsMarked colour (fragment_at (fragments i) 0)
 
--- what a seat has borne of its new object is black while its last answer is to a phase from black births to the sweep, and else white
+-- what a seat has borne of its new object is black where its last answer is from black births to the sweep, and else white
 pub record BornColours (owner : ℕ → Owner) (colour : ℕ → Colour) (number answer : ℕ) : Type 0 where
   pub dark : IsBetween black_births sweep answer → (f : ℕ) → owner f ≡ Borne number → colour f ≡ Black
   pub light : ¬ IsBetween black_births sweep answer → (f : ℕ) → owner f ≡ Borne number → colour f ≡ White

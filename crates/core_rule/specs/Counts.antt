@@ -23,7 +23,7 @@ use Rattle.core_rule.specs.Objects.{NamesKept}
 use Rattle.core_rule.specs.Owners.{Owner, taken_bit}
 use Rattle.core_rule.specs.Holding.{fragments_in_hand}
 
--- a get has loaded a reference to a kept object: the graph's register has it, and the history the reply that the seat's list awaits
+-- a get has loaded a reference to a kept object, which the graph's register holds, and the seat's list awaits its reply
 pub record IsAwaitingName (g : Graph) (made : List Id) (owner : ℕ → Owner) (fragments : ℕ → List ℕ) (number : ℕ) (seat : Seat) (awaited : List Entry) : Type 0 where
   pub id : Id
   pub kept : NamesKept made owner fragments (values.Object id)

@@ -28,7 +28,7 @@ FieldStands heap words colour seat ShadingNew = DeletionBarrier heap words colou
 FieldStands heap words colour seat Swapping = DeletionBarrier heap words colour seat.reached seat.part None
 FieldStands heap words colour seat _ = Unit {0}
 
--- a set's old value is marked once it was shaded; at the swap both values are, where the last answer is from barriers to the sweep
+-- once shaded a set's old value is marked; at the swap both values are, where the last answer is from barriers to the sweep
 abbrev pub ShadedStands : (ℕ → Colour) → Seat → Access → Type 0
 ShadedStands colour seat ShadingNew = IfSome (head_of seat.loaded) (IsMarked colour)
 ShadedStands colour seat Swapping = IsBetween barriers sweep seat.answered
@@ -61,8 +61,8 @@ WhilePolling P _ = Unit {0}
 
 -- of a set in flight no value is lost unmarked, and what a set or an answer in flight has shaded is marked
 pub record Flight (heap : Heap) (words : List ℕ) (colour : ℕ → Colour) (phase : ℕ) (seat : Seat) : Type 0 where
-  -- that no value is lost is so once the seat has answered the cycle's phase of black births
+  -- no value is lost once the seat has answered the cycle's phase of black births
   pub set : IsBetween black_births sweep phase → IsBetween black_births sweep seat.answered → WhileAccess (FieldStands heap words colour seat) seat.place
   pub shaded : IsBetween barriers sweep phase → WhileAccess (ShadedStands colour seat) seat.place
-  -- an answer that marking begins shades the objects of its seat's registers
+  -- an answer that marking begins has shaded the objects of its seat's registers
   pub roots : seat.asked % cycle_phases ≡ marking → WhilePolling (RootsStand colour seat) seat.place

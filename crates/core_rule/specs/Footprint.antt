@@ -48,7 +48,7 @@ kept_bit inside made _ = 0
 abbrev pub in_groups_before : ℕ → (ℕ → ℕ) → ℕ → ℕ
 in_groups_before group bit f = if nat_lt (f / group_fragments) group then bit f else 0
 
--- the same, counted from this group on
+-- a number of each fragment, counted from this group on alone
 abbrev pub in_groups_from : ℕ → (ℕ → ℕ) → ℕ → ℕ
 in_groups_from group bit f = if nat_lt (f / group_fragments) group then 0 else bit f
 

@@ -90,10 +90,10 @@ pub record HalvesStand (heap : Heap) (state : State) (book : Book) : Type 0 wher
   -- a kept array's spine may stand in the half that was left until copying comes to it
   pub arrays : (i : ℕ) → i < length book.made → IsKept book.owner book.fragments i → (node_at (graph_of heap book.history) book.made i).array ≡ true
       → ((book.spines i).half ≡ (next_spine heap state.words).half) ⊎ AwaitsCopy state.collector.phase state.collector.stage (fragment_at (book.fragments i) 0)
-  -- a seat's new spine may, until the seat answers the phase of copying
+  -- a seat's new spine may stand there until the seat answers the phase of copying
   pub hands : (number : ℕ) → number < heap.seats → HasPlace (seat_at state number) (seat_at state number).place
       → ((seat_at state number).spine.half ≡ (next_spine heap state.words).half) ⊎ IsEarlyRange state.collector.phase state.collector.stage (seat_at state number).answered
-  -- the spine of an array that has swung in this phase doesn't
+  -- the spine of an array that has swung in this phase stands there no longer
   pub swung : state.collector.phase % cycle_phases ≡ copying_phase → (i : ℕ) → i < length book.made → IsKept book.owner book.fragments i → HasSwung (id_at book.made i) book.history
       → (book.spines i).half ≡ (next_spine heap state.words).half
   -- the copy in progress is right

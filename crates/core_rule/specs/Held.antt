@@ -25,7 +25,7 @@ pub record IsInRegister (seat : Seat) (f : ℕ) : Type 0 where
   pub counts : ¬ IsAwaited seat.place (target_of seat.command) register
   pub holds : register_head (register_in seat.registers register) ≡ Some f
 
--- a call on a field holds the fragment that it has reached and the object that it has loaded, and while it awaits a name that object alone
+-- a call on a field holds what it has reached and the object that it has loaded; while it awaits a name, that object alone
 abbrev pub AccessHolds : Seat → Access → ℕ → Type 0
 AccessHolds seat Naming f = head_of seat.loaded ≡ Some f
 AccessHolds seat _ f = (f ≡ seat.reached) ⊎ (head_of seat.loaded ≡ Some f)

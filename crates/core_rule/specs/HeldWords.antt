@@ -1,4 +1,4 @@
--- Which spine words are held: those of a held array's spine, of a spine in a party's hand, and of one whose place a call has loaded.
+-- Which spine words are held: those of held arrays' spines, of a spine in a party's hand, and of one whose place a call has loaded.
 use Rattle.std.specs.Prelude.{◌≡◌, ℕ, ◌<◌, ◌⊎◌, Some}
 use Rattle.heap_words.specs.declared.spot.Spot.{Spot}
 use Rattle.heap_words.specs.Spot.{spot_in}

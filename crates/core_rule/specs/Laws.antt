@@ -104,7 +104,7 @@ EachWaitIsBehind = (heap : Heap) (state : State) (book : Book) (seat answer p : 
     → (next_turn heap state.collector).answer (found_by heap state (next_turn heap state.collector).step) ≡ Waits seat answer p
     → (seat < heap.seats) × IsBehind seat answer p book.history × (answer + 1 ≡ p)
 
--- the fragment is part of an object that is to be freed, and the word tells the spine words of an array that begins there, and else none
+-- the fragment is an object's that is to be freed, and the word tells its spine words exactly where an array begins there
 pub record IsDeadTold (heap : Heap) (book : Book) (f word : ℕ) : Type 0 where
   pub object : ℕ
   pub part : ℕ
@@ -114,7 +114,7 @@ pub record IsDeadTold (heap : Heap) (book : Book) (f word : ℕ) : Type 0 where
   pub some : part ≡ 0 → (node_at (graph_of heap book.history) book.made object).array ≡ true → 0 < spine_words_in word
   pub only : 0 < spine_words_in word → (part ≡ 0) × ((node_at (graph_of heap book.history) book.made object).array ≡ true)
 
--- so it is with each fragment that the sweep examines, and the word that this turn finds
+-- each fragment that the sweep examines is to be freed, and the word that its turn finds tells its array's spine words
 abbrev pub EachDeadIsTold : Type 0
 EachDeadIsTold = (heap : Heap) (state : State) (book : Book) (group dead place words : ℕ) → Rule heap state book → state.collector.stage ≡ stages.Examining group dead place words
     → IsDeadTold heap book (group_fragments * group + place) (found_by heap state (next_turn heap state.collector).step)

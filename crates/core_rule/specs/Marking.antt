@@ -77,7 +77,7 @@ IsFewCopied (copying.Loading copy) = copy.array.words ≤ array_words most_cells
 IsFewCopied (copying.Storing copy word) = copy.array.words ≤ array_words most_cells
 IsFewCopied (copying.Swinging copy) = copy.array.words ≤ array_words most_cells
 
--- the array scanned or copied has no more spine words than the largest, and a scan that is through made no more steps than that takes
+-- no more spine words are scanned or copied than the largest array has, and a scan that is through took no more steps than that
 abbrev pub IsFewWords : Stage → Type 0
 IsFewWords (stages.Locating scan spine_words) = spine_words ≤ array_words most_cells
 IsFewWords (stages.Indexing s) = s.words ≤ array_words most_cells

@@ -59,7 +59,7 @@ unfoldable pub record_object_word : (Id → ℕ) → Name → List Cell → List
 record_object_word head name cells fragments k part =
     if is_cell k part then field_word head (slice_get cells (3 * k + part - 2)) else record_word_of name (length cells) fragments k part
 
--- word `part` of fragment k of an array with these cells and its spine at this place: behind its first fragment each has four cells
+-- word `part` of fragment k of an array with these cells and its spine here: each fragment but the first has four cells
 unfoldable pub array_object_word : (Id → ℕ) → Name → List Cell → Spot → ℕ → ℕ → ℕ
 array_object_word head name cells spine k part =
     if k == 0 then sentinel_word_of name (length cells) spine part else field_word head (slice_get cells (4 * (k - 1) + part))

@@ -35,7 +35,7 @@ pub record IsLeftReplica (heap : Heap) (words : List ℕ) (object : Node) (fragm
   pub left : (k : ℕ) → k < spine_words_of object → spine_owner address.half (address.offset + k) ≡ Gone
   pub listed : (k : ℕ) → k < spine_words_of object → at heap words (spine_place address k) ≡ spine_word (fragment_at fragments (k + 1))
 
--- here a call on an array has loaded the place of its spine, and isn't done with its cell
+-- at this place a call on an array has loaded the place of its spine, and isn't done with its cell
 abbrev pub HasLoaded : Place → Type 0
 HasLoaded (places.Access Indexing) = Unit {0}
 HasLoaded (places.Access Getting) = Unit {0}
@@ -65,7 +65,7 @@ ReadsSpine heap words nodes owner fragments spines spine_owner seat =
     (i f : ℕ) → CallsObject seat f → owner f ≡ Kept i 0 → (nodes i).array ≡ true
     → (seat.address ≡ spines i) ⊎ IsLeftReplica heap words (nodes i) (fragments i) spine_owner seat.answered seat.address
 
--- so it is from the load of the spine's place on, until the call is done with its cell
+-- the place of a spine that a call has loaded is such a one until the call is done with its cell
 abbrev pub AddressStands : Heap → List ℕ → (ℕ → Node) → (ℕ → Owner) → (ℕ → List ℕ) → (ℕ → Spot) → (ℕ → ℕ → SpineOwner) → Seat → Place → Type 0
 AddressStands heap words nodes owner fragments spines spine_owner seat place = WhileLoaded (ReadsSpine heap words nodes owner fragments spines spine_owner seat) place
 

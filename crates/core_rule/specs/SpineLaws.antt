@@ -17,11 +17,12 @@ use Rattle.core_rule.specs.Rule.{Rule}
 use Rattle.core_rule.specs.Spines.{next_spine}
 use Rattle.core_rule.specs.Stands.{Stands}
 
--- the next spine begins within the granted words, these are within the budget, and with what the cycle has returned within twice that
+-- the next spine begins within the granted words, and these are within the budget
 pub record IsOffsetWithin (heap : Heap) (state : State) (book : Book) : Type 0 where
   pub within : (next_spine heap state.words).offset ≤ granted heap state book
   pub low : granted heap state book ≤ heap.spine
   pub returned : (next_spine heap state.words).offset ≤ granted heap state book + returned_in_cycle book.history
+  -- with what the cycle has returned they are within twice the budget
   pub most : granted heap state book + returned_in_cycle book.history ≤ 2 * heap.spine
 
 -- a book with these entries stands for the state, and by it the next spine's place is within those bounds

@@ -34,16 +34,16 @@ fragment_most groups = groups + 2060
 abbrev pub next_pass : ℕ → Bool → ℕ
 next_pass groups found = if found then groups + 1 else 0
 
--- what is left of marking: for each fragment that isn't seen yet, for the scan under way, for the groups from this one on, for a next pass
+-- what is left of marking: for fragments not seen yet, the scan under way, the groups from this one on, and a next pass
 abbrev pub marking_left : ℕ → ℕ → ℕ → ℕ → ℕ → ℕ
 marking_left groups seen scan group again = (group_fragments * groups - seen) * fragment_most groups + scan + (groups - group) + again
 
--- the same while a fragment is scanned, which counts as seen, and whose pass has found something; and the flip
+-- what is left of marking and the flip while a fragment is scanned, which counts as seen, and whose pass has found something
 abbrev pub scanning_left : Heap → List ℕ → Scan → ℕ
 scanning_left heap words scan =
     marking_left heap.groups (scanned_count heap words + 1) (scan_most - scan.steps) (scan.fragment / group_fragments) (heap.groups + 1) + 1
 
--- the most turns for a marked fragment that is copied: three loads, the place, two turns for each of 1,024 spine words, and the swing
+-- the most turns of a visit to a marked fragment: three loads, a place, two turns for each of 1,024 spine words, and the swing
 abbrev pub copy_most : ℕ
 copy_most = 2053
 
@@ -70,7 +70,7 @@ copying_left groups (copying.Swinging copy) = visit_left groups copy.array.visit
 abbrev pub sweep_most : ℕ
 sweep_most = 19
 
--- the most turns of what a phase is for: of marking with the flip, of copying, of the sweep, of the clearing, and of the others none
+-- the most turns of a phase's work: of marking with the flip, of copying, of the sweep, of the clearing; in the others none
 abbrev pub work_most : ℕ → ℕ → ℕ
 work_most groups phase =
     if phase % cycle_phases == marking then group_fragments * groups * fragment_most groups + groups + 1

@@ -45,7 +45,7 @@ pub record IsLone (mine : List Entry) (registers : List Value) (lengths : List �
   pub few_objects : length lengths < 2 ^ 32
   pub few_sets : sets < 2 ^ 26
 
--- the seat's own and what is free fit beside the board, an object of each fragment has room, and no more spine words are used than there are
+-- what the seat has and what is free fit beside the board, with a place for an object of each, and no more spine words are used than there are
 pub record HasSpace (unborn free words objects capacity : ℕ) : Type 0 where
   pub few_fragments : unborn + free ≤ 5
   pub room : objects + (unborn + free) ≤ capacity

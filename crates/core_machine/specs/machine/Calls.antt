@@ -57,7 +57,7 @@ pub record CountsCall (old new : Seat) (command : Command) : Type 0 where
   pub sets_more : new.sets ≤ old.sets + 1
   pub present_stays : command ≢ Leave → new.left ≡ old.left
 
--- the seat has told what one tells that leaves with its reserve as all that it has of its own
+-- the seat has told that it gives back its reserve, where it has one, and that it leaves
 abbrev pub TellsLeave : State → State → ℕ → Type 0
 TellsLeave old new number =
     (seat_at new number).mine ≡ (seat_at old number).mine ++ leave_entries number (length (seat_at old number).reserve)

@@ -73,7 +73,7 @@ pub record HandFits (heap : Heap) (hand body : List ℕ) (spine : Spot) : Type 0
   pub body_within : AreFragments heap body
   pub spine_within : FitsSpot spine
 
--- the fragment that a call has reached is the heap's, what it has loaded refers to one or none, and its spine's place is such a spot
+-- what a call has reached is the heap's, what it has loaded refers into the heap if at all, and its spine's place is such a spot
 pub record WayFits (heap : Heap) (reached : ℕ) (address : Spot) (loaded : ℕ) : Type 0 where
   pub reached_within : reached < group_fragments * heap.groups
   pub address_within : FitsSpot address

@@ -51,12 +51,12 @@ abbrev pub FirstUpTo : Option ℕ → ℕ → Type 0
 FirstUpTo None p = ⊥
 FirstUpTo (Some first) p = first ≤ p
 
--- what was found allows this reply: a cycle that began after a look and whose end was seen, or the seat that was found to be behind
+-- what was found allows this reply: a cycle that began after a look and was seen to end, or the seat that was found behind
 abbrev pub MayNote : Looks → CollectReply → Type 0
 MayNote looks (Cycle j) = FirstUpTo looks.first (cycle_phases * j) × (cycle_phases * (j + 1) ≤ looks.seen)
 MayNote looks (Waits other answered phase) = looks.behind ≡ Some (record { seat = other; answered = answered; phase = phase })
 
--- the seat of this number may make the inner call after what it found: it asks another seat of the heap, and notes what it has found
+-- the seat may make the inner call: it asks another seat of the heap, and notes only what it has found
 abbrev pub MayMake : Heap → ℕ → Looks → Inner → Type 0
 MayMake heap number looks Look = Unit {0}
 MayMake heap number looks Answer = Unit {0}

@@ -58,7 +58,7 @@ pub record Seat : Type 0 where
   pub part : ℕ
   -- where the spine stands of the array that its call is in, once that was loaded
   pub address : Spot
-  -- the field that the call has loaded: for a get, while the name of what it refers to is awaited, and for a set with the barrier on
+  -- the field that the call has loaded: for a get while it awaits a name, and for a set with the barrier on
   pub loaded : ℕ
   -- the phase that it is about to answer
   pub asked : ℕ

@@ -10,7 +10,7 @@ use Rattle.core_machine.specs.declared.table.address.Address.TheVariants.{Phase,
 abbrev pub table_length : Heap → ℕ
 table_length heap = 19 + 65 * heap.groups + 4 * heap.spine
 
--- a spine word's place behind the fragments, half 0 before half 1; where its offset is too large a place of its own past the table's end
+-- a spine word's place behind the fragments, half 0 before half 1; too large an offset has a place of its own past the table's end
 abbrev pub spine_index : ℕ → ℕ → ℕ → ℕ
 spine_index spine half offset = if nat_lt offset (2 * spine) then 2 * spine * half + offset else 2 * offset + half
 

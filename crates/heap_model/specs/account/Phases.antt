@@ -30,7 +30,7 @@ pub record IsBehind (number answer p : ℕ) (history : List Entry) : Type 0 wher
   pub answered : last_answer number history ≡ answer
   pub here : phase history ≡ p
 
--- the other seat was so behind at some time since this seat's last reply, right after that reply at the earliest
+-- the other seat was behind in this way at some time since this seat's last reply, right after that at the earliest
 abbrev pub WasBehind : ℕ → ℕ → ℕ → ℕ → List Entry → Type 0
 WasBehind number other answer p history =
     (later rest : List Entry) × (since_reply number history ≡ later ++ rest) × IsBehind other answer p (up_to_reply number history ++ later)
@@ -40,7 +40,7 @@ abbrev pub SawBehind : Bool → List Entry → ℕ → ℕ → ℕ → ℕ → T
 SawBehind true before number other answer p = IsBehind other answer p before
 SawBehind false before number other answer p = (p ≡ answer + 1) × WasBehind number other answer p before
 
--- a poll shows the phase, which its seat has answered; a collect a cycle that began since the last reply and has ended, or another seat behind
+-- a poll shows the phase that its seat has answered; a collect a cycle begun and ended since its last reply, or another seat behind
 abbrev pub ShowsPhases : Heap → Bool → List Entry → ℕ → Command → Reply → Type 0
 ShowsPhases heap play before number commands.Poll (replies.Phase p) = (p ≡ phase before) × (p ≡ last_answer number before)
 ShowsPhases heap play before number commands.Collect (replies.Cycle cycle) = HasEnded cycle before × BeganSince number cycle before

@@ -15,7 +15,7 @@ use Rattle.heap_model.specs.account.Windows.{since_reply}
 abbrev pub given_up : ℕ → List Entry → ℕ
 given_up number history = total (λ e. e.freed) history + total_but number (λ e. e.given) history
 
--- in a play what is free and the seat's own is found; in a run it may miss what was given up, and count what others took, since its last reply
+-- in a play just what is free and the seat's own is found; in a run up to what was given up or others took since its last reply
 abbrev pub FindsSpace : Heap → Bool → List Entry → ℕ → ℕ → Type 0
 FindsSpace heap true before number found = found + fragments_gained before + spent_of number before ≡ group_fragments * heap.groups + fragments_lost before + taken_of number before
 FindsSpace heap false before number found =
@@ -32,7 +32,7 @@ abbrev pub RefusesRightly : Heap → Bool → List Entry → Entry → Type 0
 RefusesRightly heap play before (entries.Said number command reply) = ShowsSpace heap play before number command reply
 RefusesRightly heap play before _ = Unit {0}
 
--- in a play the spine words in use are found; in a run it may miss those of others' new arrays, and count those returned or asked for since
+-- in a play the spine words in use are found; in a run up to what was returned or others made since its last reply, or ask for
 abbrev pub FindsSpine : Heap → Bool → List Entry → ℕ → ℕ → Type 0
 FindsSpine heap true before number shown = shown + words_returned before ≡ words_granted before
 FindsSpine heap false before number shown =

@@ -21,7 +21,7 @@ no_seat = record { own = no_effect; own_then = no_effect; all_then = no_effect; 
 abbrev pub account_at : List SeatAccount → ℕ → SeatAccount
 account_at seats number = slice_index_or seats number no_seat
 
--- the first phase in which the other was behind since the seat's last reply: the one then, where it was behind already, or else the next
+-- the first phase since the seat's last reply in which the other was behind: the phase then, if it was behind, or else the next
 abbrev pub first_behind : SeatAccount → ℕ → ℕ
 first_behind seat other = seat.all_then.phases + (if slice_index_or seat.behind_then other false then 0 else 1)
 

@@ -46,7 +46,7 @@ FoundFromSeat m seat = All (IsFound m) seat.registers
 abbrev pub FoundFromObject : Marking → Node → Type 0
 FoundFromObject m object = All (λ cell. IsFound m cell.value) object.cells
 
--- only reached objects are marked, with all that a register refers to, and all that a marked object refers to unless that one waits
+-- only reached objects are marked, among them what registers refer to, and what a marked object refers to unless that one waits
 pub record IsSearch (g : Graph) (walk : Search) : Type 0 where
   pub objects : HasMarks g walk.marks
   pub reached : (id : Id) → HasMark walk.marks id → Reaches g id
