@@ -37,7 +37,7 @@ IsAnswered places.Idle = Unit {0}
 IsAnswered (places.Access Naming) = Unit {0}
 IsAnswered _ = ⊥
 
--- the call in flight began when the history had this length, and wasn't answered since
+-- the history was once this long, and as long as a reply is to come the seat has got none since then
 pub record Began (history : List Entry) (number begun : ℕ) (place : Place) : Type 0 where
   pub earlier : begun ≤ length history
   pub unanswered : ¬ IsAnswered place → list_any (is_reply_to number) (drop begun history) ≡ false

@@ -84,7 +84,7 @@ pub record IsOnWay (registers : List Register) (made sets : ℕ) (command : Comm
 abbrev pub SeatIsOnWay : Seat → Type 0
 SeatIsOnWay seat = IsOnWay seat.registers seat.made seat.sets seat.command seat.links seat.part seat.loaded
 
--- the way stands at an array's first fragment, and goes on by its spine
+-- the way of a call on a field has no links and has loaded nothing: it goes on by a spine
 pub record IsAtSentinel (registers : List Register) (made sets : ℕ) (command : Command) (links part loaded : ℕ) : Type 0 where
   pub works : HoldsObject registers made sets command
   pub names : NamesField command
@@ -92,7 +92,7 @@ pub record IsAtSentinel (registers : List Register) (made sets : ℕ) (command :
   pub part_within : part < 4
   pub none_loaded : loaded ≡ 0
 
--- the seat's way stands at an array's first fragment
+-- the seat's way goes on by a spine
 abbrev pub SeatIsAtSentinel : Seat → Type 0
 SeatIsAtSentinel seat = IsAtSentinel seat.registers seat.made seat.sets seat.command seat.links seat.part seat.loaded
 
