@@ -1,5 +1,4 @@
--- What one step of a seat does: what is due, and what it does to the seat and adds to its entries. Both are functions of the heap,
--- the seat's number, the seat and the word found alone.
+-- What one step of a seat does: what is due, what it does to the seat, and what it adds to the seat's entries and to the history.
 use Rattle.std.specs.Prelude.{ℕ, List}
 use Rattle.heap_model.specs.declared.entry.Entry.{Entry}
 use Rattle.core_machine.specs.declared.step.Step.{Step}

@@ -1,4 +1,4 @@
--- The spine words that are granted: they are those of arrays and of calls; and those that have their places in the half of the next spine stand before it.
+-- The spine words that are granted: those of arrays and of calls; and that those with a place in the next spine's half stand before it.
 use Rattle.std.specs.Prelude.{◌≡◌, ℕ, ◌+◌, ◌*◌, ◌^◌, ◌<◌, ◌≤◌, ◌==◌, false, if◌then◌else◌, List}
 use Rattle.heap_model.specs.declared.entry.Entry.{Entry}
 use Rattle.heap_model.specs.declared.heap.Heap.{Heap}
@@ -40,14 +40,14 @@ granted_at seat (places.Making Storing) = spine_need seat
 granted_at seat (places.Making Bearing) = spine_need seat
 granted_at seat _ = 0
 
--- those of them that have their place in this half
+-- the spine words of a seat's call that have their place in this half
 abbrev pub placed_at : ℕ → Seat → Place → ℕ
 placed_at half seat (places.Making Listing) = if seat.spine.half == half then spine_need seat else 0
 placed_at half seat (places.Making Storing) = if seat.spine.half == half then spine_need seat else 0
 placed_at half seat (places.Making Bearing) = if seat.spine.half == half then spine_need seat else 0
 placed_at half seat _ = 0
 
--- those that it has asked for and was refused, and hasn't taken back yet
+-- the spine words that a seat has asked for and was refused, and hasn't taken back yet
 abbrev pub refused_at : Seat → Place → ℕ
 refused_at seat (places.Making Withdrawing) = spine_need seat
 refused_at seat _ = 0
@@ -61,7 +61,7 @@ abbrev pub kept_weight : (ℕ → ℕ) → Owner → ℕ
 kept_weight weight (Kept i k) = if k == 0 then weight i else 0
 kept_weight weight _ = 0
 
--- the same where it is to be freed
+-- the weight of an object where the fragment is its first one, and to be freed
 abbrev pub dead_weight : (ℕ → ℕ) → Owner → ℕ
 dead_weight weight (Dead i k) = if k == 0 then weight i else 0
 dead_weight weight _ = 0
@@ -70,7 +70,7 @@ dead_weight weight _ = 0
 abbrev pub kept_sum : Heap → (ℕ → ℕ) → (ℕ → Owner) → ℕ
 kept_sum heap weight owner = sum_upto (group_fragments * heap.groups) (λ f. kept_weight weight (owner f))
 
--- those of all that are to be freed
+-- the weights of all objects that are to be freed
 abbrev pub dead_sum : Heap → (ℕ → ℕ) → (ℕ → Owner) → ℕ
 dead_sum heap weight owner = sum_upto (group_fragments * heap.groups) (λ f. dead_weight weight (owner f))
 
@@ -78,11 +78,11 @@ dead_sum heap weight owner = sum_upto (group_fragments * heap.groups) (λ f. dea
 abbrev pub words_of_object : (ℕ → Node) → ℕ → ℕ
 words_of_object nodes i = spine_words_of (nodes i)
 
--- how many it has in this half
+-- how many spine words an object has in this half
 abbrev pub words_in_half : ℕ → (ℕ → Node) → (ℕ → Spot) → ℕ → ℕ
 words_in_half half nodes spines i = if (spines i).half == half then spine_words_of (nodes i) else 0
 
--- the objects of the book
+-- the objects of the book, by their numbers
 abbrev pub nodes_in : Heap → Book → ℕ → Node
 nodes_in heap book = node_at (graph_of heap book.history) book.made
 
@@ -91,7 +91,7 @@ abbrev pub returning : Stage → ℕ
 returning (stages.Returning group words) = words
 returning _ = 0
 
--- those of arrays that are to be freed or were freed, and that aren't returned yet
+-- the spine words of arrays that are to be freed or were freed, and that aren't returned yet
 abbrev pub unreturned : Heap → State → Book → ℕ
 unreturned heap state book = dead_sum heap (words_of_object (nodes_in heap book)) book.owner + returning state.collector.stage
 
@@ -111,11 +111,11 @@ abbrev pub placed_words : Heap → State → Book → ℕ → ℕ
 placed_words heap state book half =
     of_seats heap state (placed_at half) + kept_sum heap (words_in_half half (nodes_in heap book) book.spines) book.owner + copying_words state.collector.stage
 
--- what the history's returns since its last cycle began have given back
+-- the spine words that were returned since the last cycle began
 abbrev pub returned_in_cycle : List Entry → ℕ
 returned_in_cycle history = words_returned (since_cycle history)
 
--- the sweep has counted the spine words of the arrays that are to be freed and begin in its group, before its place
+-- the sweep has counted the spine words of its group's arrays that are to be freed, as far as it has looked
 abbrev pub SweepCounts : (ℕ → ℕ) → (ℕ → Owner) → Stage → Type 0
 SweepCounts words owner (stages.Examining group dead place counted) = counted ≡ sum_upto place (λ j. dead_weight words (owner (group_fragments * group + j)))
 SweepCounts words owner (stages.Freeing group dead counted) = counted ≡ sum_upto group_fragments (λ j. dead_weight words (owner (group_fragments * group + j)))
@@ -128,7 +128,9 @@ pub record BudgetsStand (heap : Heap) (state : State) (book : Book) : Type 0 whe
       → (next_spine heap state.words).offset ≡ placed_words heap state book (next_spine heap state.words).half + unreturned heap state book
   pub leaving : IsLeaving state.collector.phase state.collector.stage
       → (next_spine heap state.words).offset ≡ placed_words heap state book (next_spine heap state.words).half
+  -- the budget word has what is granted, and what was refused and not taken back yet
   pub word : at heap state.words Budget ≡ granted heap state book + of_seats heap state refused_at
+  -- what is granted and not a call's is what the history has granted and not returned
   pub told : words_granted book.history + of_seats heap state granted_at ≡ granted heap state book + words_returned book.history
   pub low : granted heap state book ≤ heap.spine
   -- a cycle returns no more than the budget, and nothing before its sweep
@@ -136,7 +138,7 @@ pub record BudgetsStand (heap : Heap) (state : State) (book : Book) : Type 0 whe
   pub early : IsBetween barriers copying_phase state.collector.phase → returned_in_cycle book.history ≡ 0
   pub counts : SweepCounts (words_of_object (nodes_in heap book)) book.owner state.collector.stage
 
--- what a call has found that takes its spine words back is what a run may show, and a number of 32 bits
+-- a call that takes its spine words back has found a number that a run may show, below 2^32
 abbrev pub UsedStands : Heap → List Entry → ℕ → Seat → Place → Type 0
 UsedStands heap history number seat (places.Making Withdrawing) = FindsSpine heap false history number seat.used × (seat.used < 2 ^ 32)
 UsedStands heap history number seat _ = Unit {0}

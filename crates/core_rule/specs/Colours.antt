@@ -14,7 +14,7 @@ marked_bit White = 0
 marked_bit Grey = 1
 marked_bit Black = 1
 
--- whether it is scanned
+-- whether a fragment of the colour is scanned
 abbrev pub scanned_bit : Colour → ℕ
 scanned_bit White = 0
 scanned_bit Grey = 0
@@ -30,7 +30,7 @@ pub record Marks (heap : Heap) (words : List ℕ) (colour : ℕ → Colour) : Ty
   pub scanned : (f : ℕ) → f < 16 * heap.groups → bit_at (control_of heap words f) (48 + f % 16) ≡ scanned_bit (colour f)
   pub outside : (f : ℕ) → 16 * heap.groups ≤ f → colour f ≡ White
 
--- a source of the fragment leads to the fragment g
+-- the fragment is one of the heap's, and this source of it leads to the fragment g
 pub record WordPointsTo (heap : Heap) (words : List ℕ) (f source g : ℕ) : Type 0 where
   pub within : f < 16 * heap.groups
   pub to : source_pointer heap words f source ≡ Some g
@@ -40,16 +40,20 @@ pub record IsBetween (low high phase : ℕ) : Type 0 where
   pub from : low ≤ phase % cycle_phases
   pub upto : phase % cycle_phases ≤ high
 
--- at rest all is white, and nothing is black in the first phase; what is marked is born; while black fragments are made, they lead to
--- marked ones alone; and a kept object with a marked fragment is marked by its first
+-- the colours are right for this phase, these owners and these words
 pub record Coloured (heap : Heap) (words : List ℕ) (owner : ℕ → Owner) (colour : ℕ → Colour) (fragments : ℕ → List ℕ) (phase : ℕ) : Type 0 where
+  -- at rest all is white
   pub rest : phase % cycle_phases ≡ resting → (f : ℕ) → colour f ≡ White
+  -- in a cycle's first phase nothing is black
   pub early : phase % cycle_phases ≡ barriers → (f : ℕ) → colour f ≢ Black
+  -- what is marked is born
   pub born : (f : ℕ) → IsMarked colour f → born_bit (owner f) ≡ 1
+  -- from black births to the sweep black fragments lead to marked ones alone
   pub black : IsBetween black_births sweep phase → (f source g : ℕ) → colour f ≡ Black → WordPointsTo heap words f source g → IsMarked colour g
+  -- from barriers to the sweep a kept object with a marked fragment is marked by its first
   pub first : IsBetween barriers sweep phase → (f i k : ℕ) → owner f ≡ Kept i k → IsMarked colour f → IsMarked colour (fragment_at (fragments i) 0)
 
--- what the seat has borne of the object that it makes is black while its last answer is to a phase from black births up to the sweep, and else white
+-- what a seat has borne of its new object is black where its last answer is from black births to the sweep, and else white
 pub record BornColours (owner : ℕ → Owner) (colour : ℕ → Colour) (number answer : ℕ) : Type 0 where
   pub dark : IsBetween black_births sweep answer → (f : ℕ) → owner f ≡ Borne number → colour f ≡ Black
   pub light : ¬ IsBetween black_births sweep answer → (f : ℕ) → owner f ≡ Borne number → colour f ≡ White
@@ -59,7 +63,7 @@ pub record HasColour (heap : Heap) (words : List ℕ) (f : ℕ) (c : Colour) : T
   pub marked : bit_at (control_of heap words f) (32 + f % 16) ≡ marked_bit c
   pub scanned : bit_at (control_of heap words f) (48 + f % 16) ≡ scanned_bit c
 
--- they are those of what a seat with this last answer bears
+-- the fragment's marked and scanned bits are those that a seat with this last answer gives to what it bears
 pub record HasBirthColour (heap : Heap) (words : List ℕ) (f answer : ℕ) : Type 0 where
   pub dark : IsBetween black_births sweep answer → HasColour heap words f Black
   pub light : ¬ IsBetween black_births sweep answer → HasColour heap words f White

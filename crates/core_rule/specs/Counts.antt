@@ -23,7 +23,7 @@ use Rattle.core_rule.specs.Objects.{NamesKept}
 use Rattle.core_rule.specs.Owners.{Owner, taken_bit}
 use Rattle.core_rule.specs.Holding.{fragments_in_hand}
 
--- a get has loaded a reference to a kept object: the graph's register has it, and the history has the reply, which the seat's own list awaits
+-- a get has loaded a reference to a kept object, which the graph's register holds, and the seat's list awaits its reply
 pub record IsAwaitingName (g : Graph) (made : List Id) (owner : ℕ → Owner) (fragments : ℕ → List ℕ) (number : ℕ) (seat : Seat) (awaited : List Entry) : Type 0 where
   pub id : Id
   pub kept : NamesKept made owner fragments (values.Object id)
@@ -31,7 +31,7 @@ pub record IsAwaitingName (g : Graph) (made : List Id) (owner : ℕ → Owner) (
   pub held : register_value g number (target_of seat.command) ≡ values.Object id
   pub told : awaited ≡ Said number seat.command (Got (values.Object id) (stamp_of seat.loaded)) ∷ []
 
--- what the history has of the seat that its own list awaits
+-- what the history has of the seat and its own list still awaits: the reply of a get that awaits a name, and else nothing
 abbrev pub Awaits : Graph → List Id → (ℕ → Owner) → (ℕ → List ℕ) → ℕ → Seat → Place → List Entry → Type 0
 Awaits g made owner fragments number seat (places.Access Naming) awaited = IsAwaitingName g made owner fragments number seat awaited
 Awaits g made owner fragments number seat _ awaited = awaited ≡ []
@@ -42,7 +42,7 @@ pub record OwnList (g : Graph) (history : List Entry) (made : List Id) (owner : 
   pub own : seat.mine ++ awaited ≡ filter (is_of number) history
   pub awaits : Awaits g made owner fragments number seat seat.place awaited
 
--- the seat's own counts are those of the graph and of the history
+-- what the seat has counted of its own is what the graph and the history say
 pub record CountsAgree (g : Graph) (history : List Entry) (number : ℕ) (seat : Seat) : Type 0 where
   -- it made as many objects, and did as many sets, as the graph has of it
   pub numbered : seat.made ≡ length (graph_seat g number).objects
@@ -52,6 +52,6 @@ pub record CountsAgree (g : Graph) (history : List Entry) (number : ℕ) (seat :
   -- what it has is what it took and neither gave back nor made into objects
   pub unborn : length seat.reserve + length (fragments_in_hand seat.hand seat.body) + spent_of number history ≡ taken_of number history
 
--- as many fragments are taken as are in use
+-- as many fragments are taken as the history says are in use
 abbrev pub AreUsed : Heap → (ℕ → Owner) → List Entry → Type 0
 AreUsed heap owner history = sum_upto (16 * heap.groups) (λ f. taken_bit (owner f)) + fragments_lost history ≡ fragments_gained history

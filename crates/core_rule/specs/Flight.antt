@@ -17,19 +17,18 @@ use Rattle.core_machine.specs.seat.Seat.{Seat}
 use Rattle.core_rule.specs.Book.{Colour}
 use Rattle.core_rule.specs.Colours.{IsMarked, WordPointsTo, IsBetween}
 
--- what word `part` of the fragment leads to now is what it led to when it was loaded, or marked; once that was shaded, it is marked
+-- what word `part` of the fragment leads to is marked, or is the value `old` that was loaded from it
 abbrev pub DeletionBarrier : Heap → List ℕ → (ℕ → Colour) → ℕ → ℕ → Option ℕ → Type 0
 DeletionBarrier heap words colour f part old = (g : ℕ) → WordPointsTo heap words f part g → (old ≡ Some g) ⊎ IsMarked colour g
 
--- the field of a set past its load of the old value
+-- what is true of the field of a set past its load of the old value
 abbrev pub FieldStands : Heap → List ℕ → (ℕ → Colour) → Seat → Access → Type 0
 FieldStands heap words colour seat ShadingOld = DeletionBarrier heap words colour seat.reached seat.part (head_of seat.loaded)
 FieldStands heap words colour seat ShadingNew = DeletionBarrier heap words colour seat.reached seat.part None
 FieldStands heap words colour seat Swapping = DeletionBarrier heap words colour seat.reached seat.part None
 FieldStands heap words colour seat _ = Unit {0}
 
--- the old value of a set is marked once it was shaded; and at the swap so is the new one, while the seat's last answer is to a phase from barriers up to
--- the sweep
+-- once shaded a set's old value is marked; at the swap both values are, where the last answer is from barriers to the sweep
 abbrev pub ShadedStands : (ℕ → Colour) → Seat → Access → Type 0
 ShadedStands colour seat ShadingNew = IfSome (head_of seat.loaded) (IsMarked colour)
 ShadedStands colour seat Swapping = IsBetween barriers sweep seat.answered
@@ -60,9 +59,10 @@ abbrev pub WhilePolling : (Polling → Type 0) → Place → Type 0
 WhilePolling P (places.Polling place) = P place
 WhilePolling P _ = Unit {0}
 
--- of a set whose seat has answered the cycle's phase of black births no value is lost unmarked; what a set has shaded is marked; and so are the
--- objects of a seat's registers where it is about to answer that marking begins
+-- of a set in flight no value is lost unmarked, and what a set or an answer in flight has shaded is marked
 pub record Flight (heap : Heap) (words : List ℕ) (colour : ℕ → Colour) (phase : ℕ) (seat : Seat) : Type 0 where
+  -- no value is lost once the seat has answered the cycle's phase of black births
   pub set : IsBetween black_births sweep phase → IsBetween black_births sweep seat.answered → WhileAccess (FieldStands heap words colour seat) seat.place
   pub shaded : IsBetween barriers sweep phase → WhileAccess (ShadedStands colour seat) seat.place
+  -- an answer that marking begins has shaded the objects of its seat's registers
   pub roots : seat.asked % cycle_phases ≡ marking → WhilePolling (RootsStand colour seat) seat.place

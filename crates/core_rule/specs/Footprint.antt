@@ -27,7 +27,7 @@ use Rattle.core_rule.specs.Owners.{Owner, Free, Taken, Borne, Kept, Dead, taken_
 abbrev pub is_among : List Id → Id → Bool
 is_among ids id = list_any (is_same_id id) ids
 
--- whether the id is one of those that were reached when the cycle began, or of an object that wasn't made then
+-- whether the id was reached when the cycle began, or is of an object that wasn't made then
 abbrev pub is_inside : Graph → List Id → Id → Bool
 is_inside earlier begun id = if is_among begun id then true else not (is_some (node earlier id))
 
@@ -48,14 +48,15 @@ kept_bit inside made _ = 0
 abbrev pub in_groups_before : ℕ → (ℕ → ℕ) → ℕ → ℕ
 in_groups_before group bit f = if nat_lt (f / group_fragments) group then bit f else 0
 
--- the same, counted from this group on
+-- a number of each fragment, counted from this group on alone
 abbrev pub in_groups_from : ℕ → (ℕ → ℕ) → ℕ → ℕ
 in_groups_from group bit f = if nat_lt (f / group_fragments) group then 0 else bit f
 
--- what was counted while marks were cleared, and what is taken in the groups still to come, is within the bound; and no less was counted than
--- those groups have of what was reached when the cycle began
+-- what was counted while marks were cleared is enough and not too much
 pub record ClearedWithin (heap : Heap) (made begun : List Id) (owner : ℕ → Owner) (most group kept : ℕ) : Type 0 where
+  -- with what is taken in the groups still to come it is within the bound
   pub at_most : kept + sum_upto (group_fragments * heap.groups) (in_groups_from group (λ f. taken_bit (owner f))) ≤ most
+  -- it is no less than the groups behind have of what was reached when the cycle began
   pub at_least : sum_upto (group_fragments * heap.groups) (in_groups_before group (λ f. kept_bit (is_among begun) made (owner f))) ≤ kept
 
 -- what the collector is about to mark is inside; what it counts while it clears marks is right
@@ -66,7 +67,7 @@ StageStandsInside heap made begun inside owner most (stages.Clearing group kept)
 StageStandsInside heap made begun inside owner most (stages.Ending kept) = ClearedWithin heap made begun owner most heap.groups kept
 StageStandsInside heap made begun inside owner most _ = Unit {0}
 
--- while a cycle is under way, by what was reached when it began
+-- the footprint of a cycle under way: what is or may come to be marked is inside, and what is inside is within the bound
 pub record Footprint (heap : Heap) (state : State) (book : Book) (begun : List Id) (inside : Id → Bool) (most : ℕ) : Type 0 where
   -- what is marked is inside, and in the last phase all that is kept
   pub kept : (f i k : ℕ) → book.owner f ≡ Kept i k → IsMarked book.colour f ⊎ (phase book.history % cycle_phases ≡ clearing) → inside (id_at book.made i) ≡ true
@@ -78,7 +79,7 @@ pub record Footprint (heap : Heap) (state : State) (book : Book) (begun : List I
   -- what is inside is within the bound
   pub size : sum_upto (group_fragments * heap.groups) (λ f. inside_bit inside book.made (book.owner f)) ≤ most
 
--- while a cycle is under way, whatever was reached when it began has its footprint
+-- while a cycle is under way, what was reached when it began has its footprint
 abbrev pub CycleStands : Heap → State → Book → Type 0
 CycleStands heap state book = phase book.history % cycle_phases ≢ rest → (begun : List Id) → IsReach (graph_of heap (up_to_cycle book.history)) begun
     → Footprint heap state book begun (is_inside (graph_of heap (up_to_cycle book.history)) begun) (bound heap begun book.history)

@@ -24,10 +24,11 @@ free_in_all heap owner = sum_upto (16 * heap.groups) (λ f. free_bit (owner f))
 abbrev pub free_in_passed : Heap → (ℕ → Owner) → ℕ → ℕ → ℕ
 free_in_passed heap owner cursor tried = sum_upto tried (λ j. free_in owner ((cursor + j) % heap.groups))
 
--- since the call began: what is free in the groups passed was freed or given back since, by others or by this call; and what this call
--- gave back is free, or others took it since
+-- what a gather knows, by what others have done since its call began
 pub record GathersRight (heap : Heap) (owner : ℕ → Owner) (number : ℕ) (since : List Entry) (cursor tried given : ℕ) : Type 0 where
+  -- what is free in the groups passed was freed or given back since, by others or by this call
   pub passed : free_in_passed heap owner cursor tried ≤ given_up number since + given
+  -- what this call gave back is free, or others took as much since
   pub returned : given ≤ free_in_all heap owner + total_but number (λ e. e.taken) since
 
 -- no reply is to come: there is no call, or the history has its reply, which only awaits a name
@@ -36,7 +37,7 @@ IsAnswered places.Idle = Unit {0}
 IsAnswered (places.Access Naming) = Unit {0}
 IsAnswered _ = ⊥
 
--- the call in flight began when the history had this length, and wasn't answered since
+-- the history was once this long, and as long as a reply is to come the seat has got none since then
 pub record Began (history : List Entry) (number begun : ℕ) (place : Place) : Type 0 where
   pub earlier : begun ≤ length history
   pub unanswered : ¬ IsAnswered place → list_any (is_reply_to number) (drop begun history) ≡ false

@@ -19,18 +19,18 @@ use Rattle.core_rule.specs.Registers.{IsAwaited}
 abbrev pub OwnsFragment : Seat → ℕ → Type 0
 OwnsFragment seat f = 1 ≤ tally f seat.reserve + tally f seat.hand + tally f seat.body
 
--- a register holds the object whose first fragment this is; the one that a get fills doesn't count while it awaits the name of another object
+-- a register holds the object that begins with this fragment; one that awaits the name of another object doesn't count
 pub record IsInRegister (seat : Seat) (f : ℕ) : Type 0 where
   pub register : ℕ
   pub counts : ¬ IsAwaited seat.place (target_of seat.command) register
   pub holds : register_head (register_in seat.registers register) ≡ Some f
 
--- a call on its way holds the fragment that it has reached, and the object that it has loaded; a get that awaits a name holds that object alone
+-- a call on a field holds what it has reached and the object that it has loaded; while it awaits a name, that object alone
 abbrev pub AccessHolds : Seat → Access → ℕ → Type 0
 AccessHolds seat Naming f = head_of seat.loaded ≡ Some f
 AccessHolds seat _ f = (f ≡ seat.reached) ⊎ (head_of seat.loaded ≡ Some f)
 
--- no other call has reached or loaded anything
+-- a call on a field holds what it has reached and loaded, and no other call holds anything
 abbrev pub CallHolds : Seat → Place → ℕ → Type 0
 CallHolds seat (places.Access place) f = AccessHolds seat place f
 CallHolds seat _ f = ⊥

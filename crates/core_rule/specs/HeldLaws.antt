@@ -45,7 +45,7 @@ NoPlaceTakesHeld = (heap : Heap) (state : State) (book : Book) (number words hal
     → due_step heap number (seat_at state number) ≡ Some (steps.Spine (SpotClaim words))
     → IsAmong (spot_in (at heap state.words addresses.Spot)) words half offset → ¬ IsHeldWord heap state half offset
 
--- nor is one that the collector's claim gives to a copy
+-- no word that the collector's claim gives to a copy is held before
 abbrev pub NoCopyTakesHeld : Type 0
 NoCopyTakesHeld = (heap : Heap) (state : State) (book : Book) (words half offset : ℕ) → Rule heap state book
     → (next_turn heap state.collector).step ≡ steps.Copying (CopyClaim words)
@@ -76,7 +76,7 @@ EachSpineStoreIsOwn = (heap : Heap) (state : State) (book : Book) (number half o
     → due_step heap number (seat_at state number) ≡ Some (steps.Spine (SpineStore half offset fragment))
     → IsInHandOf state number half offset × OnlyInHandOf heap state half offset number
 
--- so is a word of a copy
+-- a word of a copy is stored into the copy's own range, and where it is held it is so by that alone
 abbrev pub EachCopyStoreIsOwn : Type 0
 EachCopyStoreIsOwn = (heap : Heap) (state : State) (book : Book) (half offset word : ℕ) → Rule heap state book
     → (next_turn heap state.collector).step ≡ steps.Copying (CopyStore half offset word)

@@ -1,4 +1,4 @@
--- Which spine words are held: those of a held array's spine, of a spine in a party's hand, and of one whose place a call has loaded.
+-- Which spine words are held: those of held arrays' spines, of a spine in a party's hand, and of one whose place a call has loaded.
 use Rattle.std.specs.Prelude.{◌≡◌, ℕ, ◌<◌, ◌⊎◌, Some}
 use Rattle.heap_words.specs.declared.spot.Spot.{Spot}
 use Rattle.heap_words.specs.Spot.{spot_in}
@@ -20,32 +20,32 @@ pub record IsAmong (spine : Spot) (words half offset : ℕ) : Type 0 where
   pub within : index < words
   pub is : IsWordOf spine half offset index
 
--- the seat has it in its hand: its call has claimed it for the spine that it makes
+-- the seat has the spine word in its hand: its call has claimed it for the spine that it makes
 pub record IsInHandOf (state : State) (number half offset : ℕ) : Type 0 where
   pub has : HasPlace (seat_at state number) (seat_at state number).place
   pub among : IsAmong (seat_at state number).spine (spine_need (seat_at state number)) half offset
 
--- its call has loaded the place of a spine to which the word belongs, and isn't over: the array is the one in the call's register
+-- the seat's call, which isn't over, has loaded the place of a spine with this word: that of the array in the call's register
 pub record IsLoadedBy (heap : Heap) (state : State) (number half offset : ℕ) : Type 0 where
   pub loaded : HasLoaded (seat_at state number).place
   pub sentinel : ℕ
   pub calls : CallsObject (seat_at state number) sentinel
   pub among : IsAmong (seat_at state number).address (spine_words_in (at heap state.words (Word sentinel 0))) half offset
 
--- the collector has claimed it for the copy in progress
+-- the collector has claimed the spine word for the copy in progress
 pub record IsInCopy (state : State) (half offset : ℕ) : Type 0 where
   pub copy : SpineCopy
   pub progress : copy_in state.collector.stage ≡ Some copy
   pub among : IsAmong copy.to copy.array.words half offset
 
--- it belongs to the spine of a held fragment that is born and begins an array
+-- the spine word belongs to the spine of a held fragment that is born and begins an array
 pub record IsOfHeld (heap : Heap) (state : State) (half offset : ℕ) : Type 0 where
   pub sentinel : ℕ
   pub held : IsHeld heap state sentinel
   pub born : IsBorn heap state.words sentinel
   pub among : IsAmong (spot_in (at heap state.words (Word sentinel 2))) (spine_words_in (at heap state.words (Word sentinel 0))) half offset
 
--- a seat has it in its hand, or its call has loaded it
+-- a seat has the spine word in its hand, or its call has loaded the spine's place
 abbrev pub IsHeldBySeat : Heap → State → ℕ → ℕ → Type 0
 IsHeldBySeat heap state half offset = (number : ℕ) × (number < heap.seats) × (IsInHandOf state number half offset ⊎ IsLoadedBy heap state number half offset)
 

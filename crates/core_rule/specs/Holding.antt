@@ -14,8 +14,7 @@ abbrev pub fragments_in_hand : List ℕ → List ℕ → List ℕ
 fragments_in_hand hand [] = hand
 fragments_in_hand hand (first ∷ body) = first ∷ body
 
--- the fragments that the seat has and hasn't borne are those of its reserve and its hand, each once; those that it has borne are the
--- others of the new object, each once
+-- reserve and hand are what the seat has and hasn't borne, each once; the rest of the new object is what it has borne, each once
 pub record Holding (owner : ℕ → Owner) (number : ℕ) (reserve hand body : List ℕ) : Type 0 where
   pub held : (f : ℕ) → tally f reserve + tally f hand ≡ holds_bit number (owner f)
   pub borne : (f : ℕ) → tally f (fragments_in_hand hand body) ≡ tally f hand + bears_bit number (owner f)

@@ -37,19 +37,18 @@ use Rattle.core_machine.specs.table.Decode.{spine_words_in}
 use Rattle.core_rule.specs.Objects.{node_at}
 use Rattle.core_rule.specs.Owners.{Dead}
 
--- some book stands for the state, with this history
+-- some book stands for the state, with the old history and then these entries
 pub record StandsFor (heap : Heap) (state : State) (before added : List Entry) : Type 0 where
   pub book : Book
   pub grown : book.history ≡ before ++ added
   pub stands : Stands heap state book
 
--- from any state and book that stands for it, whatever led to them, each event that may happen gives a state that some book
--- stands for, whose history is the old one and then the event's entries
+-- from any state that a book stands for, each event that may happen gives a state that a book with its entries stands for
 abbrev pub EachEventKeeps : Type 0
 EachEventKeeps = (heap : Heap) (state : State) (book : Book) (event : Event) → Stands heap state book → Can heap state event
     → StandsFor heap (state_after heap state event) book.history (entries heap state event)
 
--- so does every run from the opening
+-- after every run from the opening a book with the run's history stands for the state
 abbrev pub EveryRunKeeps : Type 0
 EveryRunKeeps = (heap : Heap) (state : State) (events : List Event) → IsHeap heap → IsOpening heap state → Run heap state events
     → StandsFor heap (state_after_all heap state events) [] (history heap state events)
@@ -62,7 +61,7 @@ IsAlone state number = (other : ℕ) → other < length state.seats → other �
 abbrev pub AllIdle : State → Type 0
 AllIdle state = (number : ℕ) → number < length state.seats → (seat_at state number).place ≡ Idle
 
--- the other seat's word is this one now, and the phase is this one
+-- the other seat's word is `answer` now, and the phase is `p`
 pub record IsBehindNow (heap : Heap) (words : List ℕ) (other answer p : ℕ) : Type 0 where
   pub word : at heap words (Answer other) ≡ answer
   pub here : at heap words Phase ≡ p
@@ -72,7 +71,7 @@ abbrev pub NotesNow : Heap → State → Inner → Type 0
 NotesNow heap state (Note (notes.Waits other answer p)) = IsBehindNow heap state.words other answer p
 NotesNow heap state _ = Unit {0}
 
--- the event is that of a seat that is alone, which notes no seat that isn't behind any more, or a turn between two calls
+-- the event is a seat's while no other has a call in flight, and notes only who is behind now, or is a turn between two calls
 abbrev pub HappensAlone : Heap → State → Event → Type 0
 HappensAlone heap state (Begins number command) = IsAlone state number
 HappensAlone heap state (BeginsInner number inner) = IsAlone state number × NotesNow heap state inner
@@ -99,13 +98,13 @@ abbrev pub WordsAreUsed : Type 0
 WordsAreUsed = (heap : Heap) (state : State) (book : Book) → Rule heap state book → AllIdle state
     → (at heap state.words Budget + words_returned book.history ≡ words_granted book.history) × (at heap state.words Budget ≤ heap.spine)
 
--- where a turn answers that it waits for a seat, that seat is there, and by the history it hasn't left and has answered the phase before the one told
+-- where a turn answers that it waits for a seat, the history says of this seat that it hasn't left and is one phase behind
 abbrev pub EachWaitIsBehind : Type 0
 EachWaitIsBehind = (heap : Heap) (state : State) (book : Book) (seat answer p : ℕ) → Rule heap state book
     → (next_turn heap state.collector).answer (found_by heap state (next_turn heap state.collector).step) ≡ Waits seat answer p
     → (seat < heap.seats) × IsBehind seat answer p book.history × (answer + 1 ≡ p)
 
--- the fragment is part of an object that is to be freed, and the word tells spine words exactly where it is an array's first fragment, and as many as that array has
+-- the fragment is an object's that is to be freed, and the word tells its spine words exactly where an array begins there
 pub record IsDeadTold (heap : Heap) (book : Book) (f word : ℕ) : Type 0 where
   pub object : ℕ
   pub part : ℕ
@@ -115,7 +114,7 @@ pub record IsDeadTold (heap : Heap) (book : Book) (f word : ℕ) : Type 0 where
   pub some : part ≡ 0 → (node_at (graph_of heap book.history) book.made object).array ≡ true → 0 < spine_words_in word
   pub only : 0 < spine_words_in word → (part ≡ 0) × ((node_at (graph_of heap book.history) book.made object).array ≡ true)
 
--- so it is with each fragment that the sweep examines and the word that this turn finds
+-- each fragment that the sweep examines is to be freed, and the word that its turn finds tells its array's spine words
 abbrev pub EachDeadIsTold : Type 0
 EachDeadIsTold = (heap : Heap) (state : State) (book : Book) (group dead place words : ℕ) → Rule heap state book → state.collector.stage ≡ stages.Examining group dead place words
     → IsDeadTold heap book (group_fragments * group + place) (found_by heap state (next_turn heap state.collector).step)
@@ -132,12 +131,12 @@ EachTurnComesTo = (heap : Heap) (state : State) (book : Book) (old new : Collect
     → AllByRecursion (λ entry. is_collectors entry ≡ true) (entries heap state Turns)
     × ComesTo old new ((next_turn heap state.collector).answer (found_by heap state (next_turn heap state.collector).step))
 
--- where the entry is an answer to a phase in which marking begins, each of the seat's registers that holds an object has a marked one
+-- where the entry is an answer to a phase in which marking begins, the objects that the seat's registers hold are marked
 abbrev pub HasMarkedRoots : State → (ℕ → Colour) → Entry → Type 0
 HasMarkedRoots state colour (Answers seat p) = p % cycle_phases ≡ marking → (r : ℕ) → IsRootMarked colour (seat_at state seat).registers r
 HasMarkedRoots state colour _ = Unit {0}
 
--- so it is with each entry of an event
+-- each answer in which marking begins is given when the objects that its seat's registers hold are marked
 abbrev pub EachAnswerIsMarked : Type 0
 EachAnswerIsMarked = (heap : Heap) (state : State) (book : Book) (event : Event) → Rule heap state book → Can heap state event
     → All (HasMarkedRoots state book.colour) (entries heap state event)

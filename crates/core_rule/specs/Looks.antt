@@ -19,19 +19,19 @@ pub record WasSeen (history : List Entry) (number p : ℕ) : Type 0 where
   pub since : phase (up_to_reply number history) ≤ p
   pub begun : p ≤ phase history
 
--- the seat that was found to be behind is another one of the heap, and was so since the last reply, by one phase
+-- the seat that was found to be behind is another one of the heap, and was behind by one phase at some time since the last reply
 pub record WasFound (heap : Heap) (history : List Entry) (number : ℕ) (found : FoundBehind) : Type 0 where
   pub below : found.seat < heap.seats
   pub other : found.seat ≢ number
   pub next : found.phase ≡ found.answered + 1
   pub behind : WasBehind number found.seat found.answered found.phase history
 
--- what was found since the seat's last reply
+-- what the seat has found out was so at some time since its last reply
 pub record FoundSince (heap : Heap) (history : List Entry) (number : ℕ) (looks : Looks) : Type 0 where
   pub first : IfSome looks.first (WasSeen history number)
   pub behind : IfSome looks.behind (WasFound heap history number)
 
--- another seat is asked for
+-- the number is that of another seat of the heap
 pub record IsOther (heap : Heap) (number other : ℕ) : Type 0 where
   pub below : other < heap.seats
   pub apart : other ≢ number
@@ -55,13 +55,14 @@ abbrev pub WhileCollecting : (Collecting → Type 0) → Place → Type 0
 WhileCollecting P (places.Collecting place) = P place
 WhileCollecting P _ = Unit {0}
 
--- the seat saw a phase that has begun, found what was so since its last reply, and knows what it is to know of the seat that it asks; while a get's name is awaited,
--- its reply stands in the history already, and it has yet to forget what it found before
+-- what a seat has found out by its inner calls was so, and it knows what it is to know of the seat that it asks
 pub record LooksStand (heap : Heap) (history : List Entry) (number : ℕ) (place : Place) (looks : Looks) : Type 0 where
+  -- the phase that it saw last has begun
   pub seen : looks.seen ≤ phase history
+  -- while a get's name is awaited its reply stands in the history already, and it has yet to forget what it found before
   pub found : place ≢ places.Access Naming → FoundSince heap history number looks
   pub asks : WhileCollecting (CollectingStands heap history number) place
 
--- so it is with each seat
+-- what each seat has found out by its inner calls was so
 abbrev pub AllLooksStand : Heap → State → List Entry → Type 0
 AllLooksStand heap state history = (number : ℕ) → number < heap.seats → LooksStand heap history number (seat_at state number).place (seat_at state number).looks

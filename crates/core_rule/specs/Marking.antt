@@ -50,7 +50,7 @@ pub record IsSpineOf (heap : Heap) (words : List ℕ) (s : SpineScan) : Type 0 w
   pub as_many : s.words ≡ spine_words_in (at heap words (Word s.scan.fragment 0))
   pub there : s.spine ≡ spot_in (at heap words (Word s.scan.fragment 2))
 
--- what a scan has seen at each of its places, and has loaded: behind its first word, only a fragment without a spine is scanned word by word
+-- what a scan has seen and loaded at each stage; behind a first word it goes on word by word only where that tells of no spine
 abbrev pub ScanStands : Heap → List ℕ → (ℕ → Owner) → (ℕ → Colour) → (ℕ → List ℕ) → Stage → Type 0
 ScanStands heap words owner colour fragments (stages.Scanning scan) =
     IsSeen heap words colour scan.fragment scan.part × (0 < scan.part → TellsNoSpine heap words scan.fragment)
@@ -77,8 +77,7 @@ IsFewCopied (copying.Loading copy) = copy.array.words ≤ array_words most_cells
 IsFewCopied (copying.Storing copy word) = copy.array.words ≤ array_words most_cells
 IsFewCopied (copying.Swinging copy) = copy.array.words ≤ array_words most_cells
 
--- the array that is scanned has no more spine words than one of the most cells has, and a scan that has seen to all its words has made no more steps than
--- such an array's
+-- no more spine words are scanned or copied than the largest array has, and a scan that is through took no more steps than that
 abbrev pub IsFewWords : Stage → Type 0
 IsFewWords (stages.Locating scan spine_words) = spine_words ≤ array_words most_cells
 IsFewWords (stages.Indexing s) = s.words ≤ array_words most_cells
@@ -98,13 +97,14 @@ pub record AfterMarking (owner : ℕ → Owner) (colour : ℕ → Colour) : Type
   pub white_dead : (f : ℕ) → IsWhite owner colour f → (i : ℕ) × (k : ℕ) × (owner f ≡ Dead i k)
   pub dead_white : (f i k : ℕ) → owner f ≡ Dead i k → colour f ≡ White
 
--- what is grey is part of a kept object; a scan, a pass, a sweep and a clearing are right; and nothing is to be freed but from the end of marking to
--- the end of the sweep
+-- what is true of marking, of the sweep and of the clearing at this stage
 pub record MarkingStands (heap : Heap) (words : List ℕ) (owner : ℕ → Owner) (colour : ℕ → Colour) (fragments : ℕ → List ℕ) (phase : ℕ) (stage : Stage) : Type 0 where
+  -- what is grey is part of a kept object
   pub grey : (f : ℕ) → colour f ≡ Grey → IsPart owner f
   pub scan : ScanStands heap words owner colour fragments stage
   pub few : IsFewWords stage
   pub pass : PassStands colour stage
   pub sweep_stands : SweepStands heap owner colour phase stage
+  -- nothing is to be freed but from the end of marking to the end of the sweep
   pub alive : ¬ IsSettled phase stage → (f i k : ℕ) → owner f ≢ Dead i k
   pub after : IsSettled phase stage → AfterMarking owner colour

@@ -59,7 +59,7 @@ unfoldable pub record_object_word : (Id → ℕ) → Name → List Cell → List
 record_object_word head name cells fragments k part =
     if is_cell k part then field_word head (slice_get cells (3 * k + part - 2)) else record_word_of name (length cells) fragments k part
 
--- word `part` of fragment k of an array with these cells and its spine at this place: behind its first fragment each has four cells
+-- word `part` of fragment k of an array with these cells and its spine here: each fragment but the first has four cells
 unfoldable pub array_object_word : (Id → ℕ) → Name → List Cell → Spot → ℕ → ℕ → ℕ
 array_object_word head name cells spine k part =
     if k == 0 then sentinel_word_of name (length cells) spine part else field_word head (slice_get cells (4 * (k - 1) + part))
@@ -69,7 +69,7 @@ abbrev pub object_word : (Id → ℕ) → Name → Node → Spot → List ℕ �
 object_word head name object spine fragments k part =
     if object.array then array_object_word head name object.cells spine k part else record_object_word head name object.cells fragments k part
 
--- the object, and one without cells where there is none
+-- the object, and a record without cells where there is none
 abbrev pub node_in : Option Node → Node
 node_in None = fresh false 0
 node_in (Some object) = object
@@ -89,7 +89,7 @@ NamesKept made owner fragments Nil = Unit {0}
 NamesKept made owner fragments (Number n) = n < 2 ^ 30
 NamesKept made owner fragments (Object id) = (object_number made id < length made) × IsKept owner fragments (object_number made id)
 
--- a kept object's fragments are its own, and have the words of its name and cells; and the words of an array's spine name its payload fragments
+-- a kept object's fragments are its own and have the words of its name and cells, and an array's spine words name its payload
 pub record KeptObject (heap : Heap) (words : List ℕ) (owner : ℕ → Owner) (head : Id → ℕ) (i : ℕ) (id : Id) (object : Node) (fragments : List ℕ) (spine : Spot) : Type 0 where
   pub sized : IsSized object.array (length object.cells)
   pub whole : length fragments ≡ fragments_of object
@@ -102,11 +102,11 @@ pub record KeptObject (heap : Heap) (words : List ℕ) (owner : ℕ → Owner) (
 abbrev pub node_at : Graph → List Id → ℕ → Node
 node_at g made i = node_in (node g (id_at made i))
 
--- its cells
+-- the cells of the object of this number
 abbrev pub cells_at : Graph → List Id → ℕ → List Cell
 cells_at g made i = (node_at g made i).cells
 
--- the kept objects have the graph's cells, and each fragment that is kept is one of theirs; the board, a record, begins with fragment 0
+-- the kept objects have the graph's cells, and each fragment that is kept is one of theirs; the board begins with fragment 0
 pub record Objects (heap : Heap) (words : List ℕ) (g : Graph) (made : List Id) (owner : ℕ → Owner) (fragments : ℕ → List ℕ) (spines : ℕ → Spot) : Type 0 where
   pub kept : (i : ℕ) → i < length made → IsKept owner fragments i
       → KeptObject heap words owner (object_head made fragments) i (id_at made i) (node_at g made i) (fragments i) (spines i)

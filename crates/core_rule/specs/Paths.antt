@@ -15,15 +15,15 @@ pub record Edge (heap : Heap) (words : List ℕ) (f g : ℕ) : Type 0 where
   pub source : ℕ
   pub points : WordPointsTo heap words f source g
 
--- at the end of a path along these edges whose first one leaves a grey fragment, and all of whose fragments behind that are white
+-- a path along these edges comes here from a grey fragment, and all behind that are white
 pub data Guarded (edge : ℕ → ℕ → Type 0) (white grey : ℕ → Type 0) : ℕ → Type 0 where
   from_grey : (f g : ℕ) → grey f → edge f g → white g → Guarded edge white grey g
   from_white : (f g : ℕ) → Guarded edge white grey f → edge f g → white g → Guarded edge white grey g
 
--- so a fragment stands behind a grey one of the heap
+-- a path of white fragments comes to this one from a grey one of the heap
 abbrev pub IsGuarded : Heap → List ℕ → (ℕ → Owner) → (ℕ → Colour) → ℕ → Type 0
 IsGuarded heap words owner colour = Guarded (Edge heap words) (IsWhite owner colour) (λ f. colour f ≡ Grey)
 
--- it is marked, or marking still comes to it
+-- the fragment is marked, or marking still comes to it
 abbrev pub IsReached : Heap → List ℕ → (ℕ → Owner) → (ℕ → Colour) → ℕ → Type 0
 IsReached heap words owner colour f = IsMarked colour f ⊎ IsGuarded heap words owner colour f

@@ -21,13 +21,13 @@ IsNear phase answer = (answer ≡ phase) ⊎ (answer + 1 ≡ phase)
 abbrev pub answer_word : Bool → ℕ → ℕ
 answer_word left answer = if left then LEFT else answer
 
--- the seat has answered and left as the history says, its word says so too, it isn't behind by more than one phase, and the phase
--- that it has loaded last has begun
+-- the seat's answers, its leave and its word agree with the history, and it is behind by one phase at most
 pub record AnswersAgree (heap : Heap) (words : List ℕ) (phase answers : ℕ) (gone : Bool) (number : ℕ) (left : Bool) (answer asked : ℕ) : Type 0 where
   pub told : answers ≡ answer
   pub leaves : gone ≡ left
   pub word : at heap words (Answer number) ≡ answer_word left answer
   pub near : left ≡ false → IsNear phase answer
+  -- the phase that it has loaded last has begun
   pub loaded : asked ≤ phase
 
 -- the phase that is about to be answered is the phase, which comes after the seat's last answer
@@ -41,7 +41,7 @@ PollingStands phase answer asked Asking = Unit {0}
 PollingStands phase answer asked Shading = Asks phase answer asked
 PollingStands phase answer asked Answering = Asks phase answer asked
 
--- what is about to be answered at a place
+-- what is about to be answered at each place
 abbrev pub AnswerStands : ℕ → ℕ → ℕ → Place → Type 0
 AnswerStands phase answer asked (places.Polling place) = PollingStands phase answer asked place
 AnswerStands phase answer asked _ = Unit {0}

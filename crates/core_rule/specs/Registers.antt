@@ -21,7 +21,7 @@ HoldsValue made owner fragments (registers.Number n) value = (value ≡ values.N
 HoldsValue made owner fragments (registers.Object head id) value =
     (value ≡ values.Object id) × NamesKept made owner fragments (values.Object id) × (head ≡ object_head made fragments id)
 
--- a get has loaded a reference, and its register d still awaits the object's name
+-- the register is that of a get that has loaded a reference and awaits the object's name
 abbrev pub IsAwaited : Place → ℕ → ℕ → Type 0
 IsAwaited (places.Access Naming) d r = r ≡ d
 IsAwaited _ d r = ⊥

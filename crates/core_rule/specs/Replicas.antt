@@ -29,13 +29,13 @@ use Rattle.core_rule.specs.Colours.{IsMarked, IsBetween}
 use Rattle.core_rule.specs.Owners.{Owner, Kept, SpineOwner, Placed, Gone}
 use Rattle.core_rule.specs.Spines.{IsWordOf}
 
--- the place is that of a replica which an array has left: its words still name the payload fragments, and the seat hasn't answered the sweep yet
+-- an array has left the replica at this place, whose words still name its payload, and the seat hasn't answered the sweep yet
 pub record IsLeftReplica (heap : Heap) (words : List ℕ) (object : Node) (fragments : List ℕ) (spine_owner : ℕ → ℕ → SpineOwner) (answered : ℕ) (address : Spot) : Type 0 where
   pub late : IsBetween marking copying_phase answered
   pub left : (k : ℕ) → k < spine_words_of object → spine_owner address.half (address.offset + k) ≡ Gone
   pub listed : (k : ℕ) → k < spine_words_of object → at heap words (spine_place address k) ≡ spine_word (fragment_at fragments (k + 1))
 
--- a call whose object is an array has loaded the place of its spine there; a get that awaits a name has its cell
+-- at this place a call on an array has loaded the place of its spine, and isn't done with its cell
 abbrev pub HasLoaded : Place → Type 0
 HasLoaded (places.Access Indexing) = Unit {0}
 HasLoaded (places.Access Getting) = Unit {0}
@@ -45,7 +45,7 @@ HasLoaded (places.Access ShadingNew) = Unit {0}
 HasLoaded (places.Access Swapping) = Unit {0}
 HasLoaded _ = ⊥
 
--- what is so of a call at these places
+-- what holds where a call has loaded the place of a spine
 abbrev pub WhileLoaded : Type 0 → Place → Type 0
 WhileLoaded P (places.Access Indexing) = P
 WhileLoaded P (places.Access Getting) = P
@@ -59,17 +59,17 @@ WhileLoaded P _ = Unit {0}
 abbrev pub CallsObject : Seat → ℕ → Type 0
 CallsObject seat f = register_head (register_in seat.registers (object_of seat.command)) ≡ Some f
 
--- where that is an array, the place in hand is its spine's, or one that it has left
+-- where the call's object is an array, the place that it has loaded is that of its spine, or of a replica that it has left
 abbrev pub ReadsSpine : Heap → List ℕ → (ℕ → Node) → (ℕ → Owner) → (ℕ → List ℕ) → (ℕ → Spot) → (ℕ → ℕ → SpineOwner) → Seat → Type 0
 ReadsSpine heap words nodes owner fragments spines spine_owner seat =
     (i f : ℕ) → CallsObject seat f → owner f ≡ Kept i 0 → (nodes i).array ≡ true
     → (seat.address ≡ spines i) ⊎ IsLeftReplica heap words (nodes i) (fragments i) spine_owner seat.answered seat.address
 
--- so it is from the load of the place on until the call is over
+-- the place of a spine that a call has loaded is such a one until the call is done with its cell
 abbrev pub AddressStands : Heap → List ℕ → (ℕ → Node) → (ℕ → Owner) → (ℕ → List ℕ) → (ℕ → Spot) → (ℕ → ℕ → SpineOwner) → Seat → Place → Type 0
 AddressStands heap words nodes owner fragments spines spine_owner seat place = WhileLoaded (ReadsSpine heap words nodes owner fragments spines spine_owner seat) place
 
--- the marked fragments of a visit are marked
+-- the fragments that a visit has found to be marked are marked
 abbrev pub VisitIsMarked : (ℕ → Colour) → Visit → Type 0
 VisitIsMarked colour visit = (place : ℕ) → bit_at visit.marked place ≡ 1 → IsMarked colour (group_fragments * visit.group + place)
 
@@ -80,13 +80,13 @@ pub record BeginsArray (nodes : ℕ → Node) (owner : ℕ → Owner) (f words :
   pub is_array : (nodes index).array ≡ true
   pub as_many : words ≡ spine_words_of (nodes index)
 
--- the array that a visit has found, by its number and name
+-- a visit has found a kept array, and has its number of spine words and its id
 pub record HasFoundArray (nodes : ℕ → Node) (made : List Id) (owner : ℕ → Owner) (colour : ℕ → Colour) (array : ArrayAt) : Type 0 where
   pub marked : VisitIsMarked colour array.visit
   pub begins : BeginsArray nodes owner (sentinel_at array) array.words
   pub named : array.id ≡ id_at made begins.index
 
--- its spine stands there, in the half that was left
+-- the spine of the array that was found stands at this place, in the half that was left
 pub record IsToCopy (nodes : ℕ → Node) (made : List Id) (owner : ℕ → Owner) (colour : ℕ → Colour) (spines : ℕ → Spot) (half : ℕ) (array : ArrayAt) (from : Spot) : Type 0 where
   pub found : HasFoundArray nodes made owner colour array
   pub own : from ≡ spines found.begins.index

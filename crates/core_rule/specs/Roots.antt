@@ -19,13 +19,13 @@ pub record IsInMarking (collector : Collector) : Type 0 where
   pub phase : collector.phase % cycle_phases ≡ marking
   pub goes_on : ¬ HasMarked collector.stage
 
--- what a call on its way has reached, and the old value or the object that it has loaded
+-- `P` holds of what a call on a field has reached, and of the old value or the object that it has loaded
 abbrev pub AtCall : (ℕ → Type 0) → Seat → Access → Type 0
 AtCall P seat Naming = IfSome (head_of seat.loaded) P
 AtCall P seat ShadingOld = P seat.reached × IfSome (head_of seat.loaded) P
 AtCall P seat _ = P seat.reached
 
--- so it is with the objects of a seat's registers, and what its call has reached and loaded
+-- `P` holds of each root of a seat: of the objects in its registers, and of what its call has reached and loaded
 pub record OfRoots (P : ℕ → Type 0) (seat : Seat) : Type 0 where
   pub registers : (r : ℕ) → IfSome (register_head (register_in seat.registers r)) P
   pub call : WhileAccess (AtCall P seat) seat.place

@@ -42,20 +42,20 @@ pub record HeapStands (heap : Heap) (words : List ℕ) (book : Book) : Type 0 wh
   pub cycle : HeapInCycle heap words (phase book.history) book.owner book.colour book.fragments
   pub legal : IsLegal heap false book.history
 
--- what a seat has: its fragments, what it has stored into them, and their order
+-- what is true of what a seat has: its fragments, their order, what it has stored into them, and its new spine
 pub record OwnStands (heap : Heap) (words : List ℕ) (owner : ℕ → Owner) (spine_owner : ℕ → ℕ → SpineOwner) (number : ℕ) (seat : Seat) : Type 0 where
   pub holding : Holding owner number seat.reserve seat.hand seat.body
   pub stored : IsStored heap words number seat
   pub together : AreTogether heap seat.cursor seat.tried seat.hand seat.body
   pub spine : SpineInHand heap words spine_owner number seat
 
--- what it names: its registers, and the way that it is on
+-- what is true of what a seat names: its registers, the way that it is on, and the place of the spine on it
 pub record NamesStand (heap : Heap) (words : List ℕ) (g : Graph) (made : List Id) (owner : ℕ → Owner) (fragments : ℕ → List ℕ) (spines : ℕ → Spot) (spine_owner : ℕ → ℕ → SpineOwner) (number : ℕ) (seat : Seat) : Type 0 where
   pub registers : Registers g made owner fragments number seat.registers seat.place (target_of seat.command)
   pub way : WayStands (node_at g made) made owner fragments seat seat.place
   pub address : AddressStands heap words (node_at g made) owner fragments spines spine_owner seat seat.place
 
--- what the history tells of it: its entries, its counts, its call in flight and what that has gathered
+-- what the history tells of a seat: its entries, its counts, its call in flight and what that has gathered
 pub record ToldStands (heap : Heap) (g : Graph) (history : List Entry) (made : List Id) (owner : ℕ → Owner) (fragments : ℕ → List ℕ) (begun number : ℕ) (seat : Seat) : Type 0 where
   pub list : OwnList g history made owner fragments number seat
   pub counts : CountsAgree g history number seat
@@ -70,7 +70,7 @@ pub record SeatStands (heap : Heap) (words : List ℕ) (book : Book) (number : �
   pub told : ToldStands heap (graph_of heap book.history) book.history book.made book.owner book.fragments (book.begun number) number seat
   pub cycle : SeatInCycle heap words (phase book.history) (last_answer number book.history) (has_left number book.history) book.owner book.colour number seat
 
--- what is true of the collector's marking, and of the roots that it begins with
+-- what is true of the collector's marking, and of the roots to which it is to come
 pub record MarksStand (heap : Heap) (state : State) (owner : ℕ → Owner) (colour : ℕ → Colour) (fragments : ℕ → List ℕ) : Type 0 where
   pub heap_marks : MarkingStands heap state.words owner colour fragments state.collector.phase state.collector.stage
   pub roots : (number : ℕ) → number < heap.seats → RootsAreReached heap state.words owner colour state.collector (seat_at state number)

@@ -6,11 +6,11 @@ use Rattle.core_machine.specs.declared.table.address.Address.TheVariants.{Word}
 use Rattle.core_machine.specs.table.Layout.{at, spine_place}
 use Rattle.core_machine.specs.table.Decode.{pointer_in, payload_in, spine_words_in}
 
--- the fragment's first word tells of no spine: it is no array's meta
+-- the fragment's first word tells of no spine words, as an array's meta does
 abbrev pub TellsNoSpine : Heap → List ℕ → ℕ → Type 0
 TellsNoSpine heap words f = spine_words_in (at heap words (Word f 0)) ≡ 0
 
--- where word k of a fragment's spine leads, where the fragment's first word is the meta of an array with more spine words than that
+-- where word k of a fragment's spine leads, where its first word is the meta of an array with more spine words than k
 abbrev pub spine_pointer : Heap → List ℕ → ℕ → ℕ → Option ℕ
 spine_pointer heap words f k =
     if nat_lt k (spine_words_in (at heap words (Word f 0))) then Some (payload_in (at heap words (spine_place (spot_in (at heap words (Word f 2))) k))) else None

@@ -27,14 +27,17 @@ pub record IsWordOf (spine : Spot) (half offset k : ℕ) : Type 0 where
   pub half_is : half ≡ spine.half
   pub offset_is : offset ≡ spine.offset + k
 
--- what a party has is a seat's or the collector's; each kept array has the words of its spine, and no others; and what is to be freed tells how many words its
--- array has
+-- what is true of spine words: whose they are, and how many an array has that is to be freed
 pub record SpinesStand (heap : Heap) (words : List ℕ) (seats made : ℕ) (nodes : ℕ → Node) (owner : ℕ → Owner) (fragments : ℕ → List ℕ) (spines : ℕ → Spot) (spine_owner : ℕ → ℕ → SpineOwner) : Type 0 where
   pub spot : at heap words addresses.Spot ≡ spot_word (next_spine heap words)
+  -- a party is a seat or the collector
   pub parties : (half offset party k : ℕ) → spine_owner half offset ≡ Placed party k → party ≤ seats
+  -- each kept array has the words of its spine
   pub kept : (i j : ℕ) → i < made → IsKept owner fragments i → j < spine_words_of (nodes i) → spine_owner (spines i).half ((spines i).offset + j) ≡ Spined i j
+  -- and it has no others
   pub back : (half offset i j : ℕ) → spine_owner half offset ≡ Spined i j
       → (i < made) × IsKept owner fragments i × (j < spine_words_of (nodes i)) × IsWordOf (spines i) half offset j
+  -- what is to be freed tells how many spine words its array has
   pub tells : DeadTell heap words made nodes owner
 
 -- a spine has its place while its words and those of its array are stored, and until the array is whole
@@ -44,7 +47,7 @@ HasPlace seat (places.Making Storing) = IsArrayCall seat.command
 HasPlace seat (places.Making Bearing) = IsArrayCall seat.command
 HasPlace seat _ = ⊥
 
--- the seat has exactly the words of the spine that it makes, from when that has its place, and has stored the first ones: each names a payload fragment
+-- the seat has exactly the words of the spine that it makes, once that has its place, and has stored the first ones
 pub record SpineInHand (heap : Heap) (words : List ℕ) (spine_owner : ℕ → ℕ → SpineOwner) (number : ℕ) (seat : Seat) : Type 0 where
   pub placed : HasPlace seat seat.place → (j : ℕ) → j < spine_need seat → spine_owner seat.spine.half (seat.spine.offset + j) ≡ Placed number j
   pub own : (half offset j : ℕ) → spine_owner half offset ≡ Placed number j → HasPlace seat seat.place × (j < spine_need seat) × IsWordOf seat.spine half offset j

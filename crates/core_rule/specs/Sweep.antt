@@ -15,7 +15,7 @@ use Rattle.core_rule.specs.Book.{Colour, White}
 use Rattle.core_rule.specs.Objects.{IsSized}
 use Rattle.core_rule.specs.Owners.{Owner, Dead, dead_bit}
 
--- marking has ended at these stages of its phase
+-- at this stage of its phase marking has ended
 abbrev pub HasMarked : Stage → Type 0
 HasMarked stages.Flipping = Unit {0}
 HasMarked stages.Advancing = Unit {0}
@@ -33,7 +33,7 @@ AreFreed owner group = (f i k : ℕ) → f / group_fragments < group → owner f
 abbrev pub AreDead : (ℕ → Owner) → ℕ → ℕ → Type 0
 AreDead owner group bits = (place : ℕ) → place < group_fragments → bit_at bits place ≡ dead_bit (owner (group_fragments * group + place))
 
--- the object is of a right size, and the word tells as many spine words as it has where it is the first word of its first fragment, and none where it is that of a later one
+-- the object has a right size, and the word tells all of its spine words in its first fragment, and none in a later one
 pub record TellsWords (object : Node) (part word : ℕ) : Type 0 where
   pub sized : IsSized object.array (length object.cells)
   pub told : spine_words_in word ≡ (if part == 0 then spine_words_of object else 0)

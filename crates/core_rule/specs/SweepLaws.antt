@@ -12,9 +12,7 @@ use Rattle.heap_model.specs.account.Windows.{up_to_cycle}
 use Rattle.core_machine.specs.machine.Machine.{State, Event, Run, history}
 use Rattle.core_machine.specs.machine.Opening.{IsOpening}
 
--- wherever a cycle ends in a run it ends by the rules: all have answered its last phase, it leaves no more fragments than what was reached when it began, what was taken since and
--- what the seats brought, and no more spine words than what was reached then and the arrays that were made since have, and it has kept no more fragments than that and no less than what
--- is reached both then and now
+-- wherever a run's history ends a cycle, all have answered its last phase, and it leaves no more and keeps no less than it may
 abbrev pub EachEndLeavesLittle : Type 0
 EachEndLeavesLittle = (heap : Heap) (state : State) (events : List Event) (before rest : List Entry) (cycle kept : ℕ) → IsHeap heap → IsOpening heap state → Run heap state events
     → history heap state events ≡ before ++ Ends cycle kept ∷ rest → EndsCycle heap before (Ends cycle kept)

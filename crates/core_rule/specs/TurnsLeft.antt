@@ -22,8 +22,7 @@ use Rattle.core_rule.specs.Rule.{Rule}
 abbrev pub scanned_count : Heap → List ℕ → ℕ
 scanned_count heap words = sum_upto (group_fragments * heap.groups) (λ f. bit_at (control_of heap words f) (48 + f % group_fragments))
 
--- the most steps of one scan: those of an array's first fragment, of which two words are loaded, two steps are made for each of 1,024 array words, and
--- it is told to be scanned
+-- the most steps of a scan, that of the largest array: two loads, two steps for each of 1,024 spine words, and the blackening
 abbrev pub scan_most : ℕ
 scan_most = 2051
 
@@ -35,22 +34,20 @@ fragment_most groups = groups + 2060
 abbrev pub next_pass : ℕ → Bool → ℕ
 next_pass groups found = if found then groups + 1 else 0
 
--- what is left of marking: for each fragment that isn't seen yet the most of one, of the scan under way its steps, the groups from this one on, and the
--- next pass
+-- what is left of marking: for fragments not seen yet, the scan under way, the groups from this one on, and a next pass
 abbrev pub marking_left : ℕ → ℕ → ℕ → ℕ → ℕ → ℕ
 marking_left groups seen scan group again = (group_fragments * groups - seen) * fragment_most groups + scan + (groups - group) + again
 
--- the same while a fragment is scanned, which counts as seen, and whose pass has found something; and the flip
+-- what is left of marking and the flip while a fragment is scanned, which counts as seen, and whose pass has found something
 abbrev pub scanning_left : Heap → List ℕ → Scan → ℕ
 scanning_left heap words scan =
     marking_left heap.groups (scanned_count heap words + 1) (scan_most - scan.steps) (scan.fragment / group_fragments) (heap.groups + 1) + 1
 
--- the most turns for one marked fragment while spines are copied: its first word is loaded, and of an array its name and the place of its spine; a copy gets its place, two turns are
--- made for each of 1,024 words, and the array swings
+-- the most turns of a visit to a marked fragment: three loads, a place, two turns for each of 1,024 spine words, and the swing
 abbrev pub copy_most : ℕ
 copy_most = 2053
 
--- the most for one group: its word is loaded, and each of its sixteen fragments may be marked
+-- the most turns for one group of copying: its word is loaded, and each of its sixteen fragments may be marked
 abbrev pub visit_most : ℕ
 visit_most = 1 + group_fragments * copy_most
 
@@ -69,11 +66,11 @@ copying_left groups (copying.Loading copy) = visit_left groups copy.array.visit 
 copying_left groups (copying.Storing copy word) = visit_left groups copy.array.visit - (5 + 2 * copy.index)
 copying_left groups (copying.Swinging copy) = visit_left groups copy.array.visit - (4 + 2 * copy.index)
 
--- the most turns for one group of the sweep: its word is loaded, each of its sixteen fragments is looked at, they are freed, and spine words are returned
+-- the most turns for one group of the sweep: its word, each of sixteen fragments, their freeing, and the return of spine words
 abbrev pub sweep_most : ℕ
 sweep_most = 19
 
--- the most turns of what a phase is for, which is nothing but in those of marking with the flip, of copying, of the sweep and of the clearing
+-- the most turns of a phase's work: of marking with the flip, of copying, of the sweep, of the clearing; in the others none
 abbrev pub work_most : ℕ → ℕ → ℕ
 work_most groups phase =
     if phase % cycle_phases == marking then group_fragments * groups * fragment_most groups + groups + 1
@@ -106,7 +103,7 @@ stage_left heap words phase looked stages.Advancing = 0
 abbrev pub phase_most : Heap → ℕ
 phase_most heap = heap.seats + group_fragments * heap.groups * fragment_most heap.groups + sweep_most * heap.groups + 1
 
--- how many turns are left before the one that ends the cycle, by where the collector stands: the most of each phase to come, and those of this one
+-- how many turns are left before the one that ends the cycle: what is left of this phase, and the most of each one to come
 abbrev pub turns_left_at : Heap → List ℕ → ℕ → ℕ → Stage → ℕ
 turns_left_at heap words phase looked stage = (clearing - phase % cycle_phases) * phase_most heap + stage_left heap words phase looked stage
 

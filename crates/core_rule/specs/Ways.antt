@@ -29,22 +29,22 @@ pub record SetsOut (made : List Id) (owner : ℕ → Owner) (fragments : ℕ →
   pub index : ℕ
   pub way : OnWay made owner fragments seat index 0
 
--- the row in which a field of a record stands, or a cell of an array: behind the first fragment there are four cells in each
+-- the row of a record's field, or of an array's cell: behind an array's first fragment there are four cells in each
 abbrev pub row_in : Node → ℕ → ℕ
 row_in object field = if object.array then field / 4 + 1 else row_of field
 
--- the word of its fragment in which it stands
+-- the word of its fragment in which a field or a cell stands
 abbrev pub field_part : Node → ℕ → ℕ
 field_part object field = if object.array then field % 4 else part_of field
 
--- the command's field is one of the object's: from this row so many links lead on to the field's row, none in an array, and it stands in this word there
+-- the object has the command's field: so many links lead on to its row, none in an array, and it stands in this word there
 pub record FieldAhead (object : Node) (command : Command) (row links part : ℕ) : Type 0 where
   pub within : field_of command < length object.cells
   pub leads : row + links ≡ row_in object (field_of command)
   pub linked : object.array ≡ true → links ≡ 0
   pub there : part ≡ field_part object (field_of command)
 
--- the way of one whose object has the field
+-- the way of a call whose object has the field
 pub record Finds (nodes : ℕ → Node) (made : List Id) (owner : ℕ → Owner) (fragments : ℕ → List ℕ) (seat : Seat) : Type 0 where
   pub index : ℕ
   pub row : ℕ

@@ -3,7 +3,7 @@ use Rattle.heap_model.specs.Limits.{last_register, last_index, most_fields, most
 use Rattle.heap_model.specs.declared.command.Command.{Command}
 use Rattle.heap_model.specs.declared.command.Command.TheVariants.{New, Array, Get, Set, Num, Nil, Copy, Same, Len, Poll, Collect, Leave}
 
--- the number is in the range, both ends among it
+-- the number is from the least to the most, both of these included
 abbrev pub IsWithin : ℕ → ℕ → ℕ → Type 0
 IsWithin least most n = (least ≤ n) × (n ≤ most)
 

@@ -9,7 +9,7 @@ group_fragments = 16
 abbrev pub most_groups : ℕ
 most_groups = 4096
 
--- the most spine words that a heap grants
+-- the most spine words that a heap may grant
 abbrev pub most_spine : ℕ
 most_spine = 16384
 

@@ -11,7 +11,7 @@ IsCell cell = (cell.value < 2 ^ 30) × (cell.stamp < 2 ^ 32)
 abbrev pub cell_word : Cell → ℕ
 cell_word cell = kind_number cell.kind * 2 ^ 62 + cell.value * 2 ^ 32 + cell.stamp
 
--- the cell whose word it is
+-- the cell that a word is read as
 abbrev pub cell_of : ℕ → Cell
 cell_of word = record { kind = kind_of word; value = word / 2 ^ 32 % 2 ^ 30; stamp = word % 2 ^ 32 }
 

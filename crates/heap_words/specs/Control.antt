@@ -47,7 +47,7 @@ lowest_grey_of word = find (is_grey word) (range_with_len 0 16)
 abbrev pub free_mask_of : ℕ → ℕ
 free_mask_of bits = 2 ^ 64 - 1 - (bits * 2 ^ 16 + bits)
 
--- all bits of a word but the marked and the scanned ones
+-- all bits of a word but those of the marked and the scanned fragments
 abbrev pub marks_cleared : ℕ
 marks_cleared = 2 ^ 32 - 1
 

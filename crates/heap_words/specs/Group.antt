@@ -10,7 +10,7 @@ IsGroup group =
 abbrev pub group_word : Group → ℕ
 group_word group = group.scanned * 2 ^ 48 + group.marked * 2 ^ 32 + group.born * 2 ^ 16 + group.taken
 
--- the group whose word it is
+-- the group that a word is read as
 abbrev pub group_of : ℕ → Group
 group_of word = record {
   taken = word % 2 ^ 16;

@@ -7,7 +7,7 @@ use Rattle.heap_words.specs.declared.meta.Meta.{Meta}
 abbrev pub IsMeta : Meta → Type 0
 IsMeta meta = (meta.length < 2 ^ 13) × (meta.next < 2 ^ 16) × (IsTrue meta.array → meta.next ≡ 0)
 
--- the word of the fixed cell of the length, plus 2^29 for an array, and the next fragment
+-- the word of a meta: a fixed cell whose value is the length, plus 2^29 for an array, and whose stamp is the next fragment
 abbrev pub meta_word : Meta → ℕ
 meta_word meta =
     cell_word (fixed_cell (if meta.array then 2 ^ 29 + meta.length else meta.length) meta.next)
@@ -16,10 +16,10 @@ meta_word meta =
 abbrev pub meta_pointer : Cell → Option ℕ
 meta_pointer cell = if nat_lt cell.value (2 ^ 29) then (if cell.stamp == 0 then None else Some cell.stamp) else None
 
--- the length in an array's meta, read of any cell; a record's meta has none of an array
+-- the length that a cell tells as an array's meta; as a record's it tells none
 abbrev pub array_length : Cell → Option ℕ
 array_length cell = if nat_lt cell.value (2 ^ 29) then None else Some (cell.value % 2 ^ 13)
 
--- the length in a meta
+-- the length that a meta's word tells
 abbrev pub length_of : ℕ → ℕ
 length_of word = (cell_of word).value % 2 ^ 13

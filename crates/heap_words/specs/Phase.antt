@@ -1,11 +1,11 @@
 use Rattle.std.specs.Prelude.{ℕ, ◌+◌, ◌-◌, ◌*◌, ◌/◌, ◌%◌, ◌^◌, ◌<◌}
 use Rattle.heap_words.specs.declared.phase.Phase.{Phase}
 
--- how many phases come before it, seven in each cycle
+-- how many phases come before this one, seven in each cycle
 abbrev pub phase_number : Phase → ℕ
 phase_number phase = 7 * phase.cycle + phase.k
 
--- it is one of the seven of a cycle, and its number is below the largest of 64 bits
+-- k is one of a cycle's seven, and the phase's number is below the largest word
 abbrev pub IsPhase : Phase → Type 0
 IsPhase phase = (phase.k < 7) × (phase_number phase < 2 ^ 64 - 1)
 

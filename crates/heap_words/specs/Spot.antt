@@ -6,10 +6,10 @@ use Rattle.heap_words.specs.declared.spot.Spot.{Spot}
 abbrev pub IsSpot : Spot → Type 0
 IsSpot spot = (spot.half < 2) × (spot.offset < 2 ^ 32)
 
--- the word of the fixed cell of the half and the offset
+-- the word of a spot: a fixed cell whose value is the half, and whose stamp is the offset
 abbrev pub spot_word : Spot → ℕ
 spot_word spot = cell_word (fixed_cell spot.half spot.offset)
 
--- the spot that a word tells: the half has one bit, and the offset at most thirty-one
+-- the spot that a word tells: one bit of its cell is the half, and thirty-one are the offset
 abbrev pub spot_in : ℕ → Spot
 spot_in word = record { half = (cell_of word).value % 2; offset = (cell_of word).stamp % 2 ^ 31 }

@@ -10,6 +10,6 @@ abbrev pub CountsFault : {T E : Type 0} → Result T E → ℕ → ℕ → Type 
 CountsFault (Ok value) old new = new ≡ old
 CountsFault (Err fault) old new = (old ≤ new) × Rose old new
 
--- one more, up to the last value
+-- the count and one more, as far as 64 bits count
 abbrev pub one_more : ℕ → ℕ
 one_more count = min (count + 1) (2 ^ 64 - 1)

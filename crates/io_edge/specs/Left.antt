@@ -2,7 +2,7 @@
 use Rattle.std.specs.Prelude.{◌≡◌, ℕ, ◌<◌, ◌≤◌, List, [], length, take, Option, None, Some, ⊤}
 use Rattle.std.specs.Io.KnownBytes.{Consumes, IsAtEnd}
 
--- the first n of these bytes are the next that were left, with none only at the end or without room
+-- the first n of these bytes are the next that were left; n is 0 only at the end or without room
 pub record Gives (old new : Option (List ℕ)) (into : List ℕ) (n : ℕ) : Type 0 where
   pub within : n ≤ length into
   pub next : Consumes old new (take n into)
@@ -17,6 +17,6 @@ GivesAll (Some left) new bytes = (bytes ≡ left) × (new ≡ Some [])
 abbrev pub LosesNext : Option (List ℕ) → Option (List ℕ) → ℕ → Type 0
 LosesNext old new n = (bytes : List ℕ) × Consumes old new bytes × (length bytes ≡ n)
 
--- as many of the next bytes are gone, or fewer
+-- at most so many of the next bytes that were left are gone
 abbrev pub LosesUpTo : Option (List ℕ) → Option (List ℕ) → ℕ → Type 0
 LosesUpTo old new most = (n : ℕ) × (n ≤ most) × LosesNext old new n

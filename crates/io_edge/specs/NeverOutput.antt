@@ -1,7 +1,9 @@
 -- What a sink that never fails holds.
 use Rattle.std.specs.Prelude.{ℕ, List, Option}
 
--- the bytes taken, which it tells as long as all fitted, and how many more fit
+-- what a sink that never fails holds
 pub record NeverOutput : Type 0 where
+  -- the bytes that were taken, as long as all of them fitted
   pub taken : Option (List ℕ)
+  -- how many more fit
   pub room : ℕ

@@ -23,12 +23,12 @@ entry_of _ = []
 abbrev pub entries_of : List HistoryLine → List Entry
 entries_of lines = flat_map entry_of lines
 
--- in a play an entry keeps the rules of space and phases too
+-- in a play the entry keeps the rules of space and phases after these; in a run nothing is asked
 abbrev pub KeepsRules : Form → Heap → List Entry → Entry → Type 0
 KeepsRules Play heap before entry = KeepsSpace heap true before entry
 KeepsRules Run heap before entry = Unit {0}
 
--- the entry may stand after these
+-- the entry may stand after these entries
 abbrev pub KeepsEntry : Form → Heap → List Entry → Entry → Type 0
 KeepsEntry form heap before entry = Accepts (graph_of heap before) entry × KeepsRules form heap before entry
 
@@ -44,7 +44,7 @@ abbrev pub KeepLines : Form → Heap → List Entry → List HistoryLine → Typ
 KeepLines form heap before [] = Unit {0}
 KeepLines form heap before (line ∷ rest) = KeepsLine form heap before line × KeepLines form heap (before ++ entry_of line) rest
 
--- of the lines after the first two, this number is that of the first that isn't right
+-- this is the number of the first line that isn't right, where these lines come after the first two
 pub record IsFirstWrongLine (form : Form) (heap : Heap) (lines : List HistoryLine) (number : ℕ) : Type 0 where
   pub before : List HistoryLine
   pub line : HistoryLine

@@ -15,15 +15,15 @@ use Rattle.heap_model.specs.calls.SeatCalls.{GathersEnough, GathersTooLittle, ta
 use Rattle.heap_model.specs.calls.SeatLaws.{IsOwn}
 use Rattle.heap_model.specs.account.Space.{taken_of, spent_of}
 
--- one group, six spine words and one seat
+-- a heap of one group, six spine words and one seat
 abbrev pub lone_heap : Heap
 lone_heap = record { groups = 1; spine = 6; seats = 1 }
 
--- the graph after the seat's entries
+-- the graph after the lone seat's entries
 abbrev pub lone_graph : List Entry → Graph
 lone_graph mine = graph_after (opening lone_heap) mine
 
--- the graph's one seat has these registers, these lengths of objects, and so many sets
+-- the graph's one seat has these registers, objects of these lengths and so many sets, and has left or not
 pub record IsLoneGraph (g : Graph) (registers : List Value) (lengths : List ℕ) (sets : ℕ) (left : Bool) : Type 0 where
   pub alone : length g.seats ≡ 1
   pub board : length g.board.cells ≡ 32
@@ -38,21 +38,20 @@ pub record TellsLone (mine : List Entry) (unborn last : ℕ) : Type 0 where
   pub had : spent_of 0 mine + unborn ≡ taken_of 0 mine
   pub last_answer : last_answer 0 mine ≡ last
 
--- so the seat is after these entries
+-- what the entries say of the lone seat: its registers, objects and sets, the fragments of its own, and its last answer
 pub record IsLone (mine : List Entry) (registers : List Value) (lengths : List ℕ) (sets : ℕ) (left : Bool) (unborn last : ℕ) : Type 0 where
   pub graph : IsLoneGraph (lone_graph mine) registers lengths sets left
   pub tells : TellsLone mine unborn last
   pub few_objects : length lengths < 2 ^ 32
   pub few_sets : sets < 2 ^ 26
 
--- what the seat has and what is free is no more than the group has beside the board, there is room for an object of each
--- fragment, and no more spine words are used than there are
+-- what the seat has and what is free fit beside the board, with a place for an object of each, and no more spine words are used than there are
 pub record HasSpace (unborn free words objects capacity : ℕ) : Type 0 where
   pub few_fragments : unborn + free ≤ 5
   pub room : objects + (unborn + free) ≤ capacity
   pub few_words : words ≤ 6
 
--- one claim of so many fragments, and none of 0
+-- one claim of so many fragments, and no claim of 0
 abbrev pub claim_of : ℕ → List ℕ
 claim_of count = if count == 0 then [] else count ∷ []
 

@@ -15,12 +15,12 @@ use Rattle.reply_text.specs.Values.{IsSpace}
 use Rattle.reply_text.specs.write.Lines.{history_line}
 use Rattle.reply_text.specs.Written.{IsWritten}
 
--- the first line
+-- the first line of a history, which tells its form
 abbrev pub form_line : Form → List ℕ
 form_line Play = codes "history 1 play"
 form_line Run = codes "history 1 run"
 
--- the space line
+-- the space line of a mark
 abbrev pub space_line : SpaceMark → HistoryLine
 space_line mark = lines.Space mark.used mark.total mark.spine mark.budget
 
@@ -55,7 +55,7 @@ pub record IsSpellable (history : History) : Type 0 where
   pub end_used : history.end_used < 2 ^ 64
   pub short : length (history_lines history) < too_many
 
--- the text is this history
+-- the text spells this history, which has a text
 pub record IsHistory (text : List ℕ) (history : History) : Type 0 where
   pub spelled : lines_of text ≡ history_lines history
   pub value : IsSpellable history

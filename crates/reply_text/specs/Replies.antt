@@ -10,51 +10,51 @@ use Rattle.heap_model.specs.declared.reply.TurnReply.{TurnReply}
 use Rattle.heap_model.specs.declared.reply.TurnReply.TheVariants as turns
 use Rattle.reply_text.specs.Values.{IsId, IsStamp, IsValue, IsWait, IsLack}
 
--- a reply to `new`
+-- a reply that `new` can give
 abbrev pub IsMaking : Reply → Type 0
 IsMaking (replies.Made id) = IsId id
 IsMaking (replies.Full need found) = IsLack need found
 IsMaking _ = ⊥
 
--- a reply to `array`
+-- a reply that `array` can give
 abbrev pub IsArraying : Reply → Type 0
 IsArraying (replies.SpineFull need used) = IsLack need used
 IsArraying reply = IsMaking reply
 
--- there is no such place
+-- the reply tells that there is no such object or no such field
 abbrev pub TellsNoPlace : Reply → Type 0
 TellsNoPlace replies.NoObject = Unit {0}
 TellsNoPlace replies.NoField = Unit {0}
 TellsNoPlace _ = ⊥
 
--- a reply to `get`
+-- a reply that `get` can give
 abbrev pub IsGetting : Reply → Type 0
 IsGetting (replies.Got value stamp) = IsValue value × IsStamp stamp
 IsGetting reply = TellsNoPlace reply
 
--- a reply to `set`
+-- a reply that `set` can give
 abbrev pub IsSetting : Reply → Type 0
 IsSetting (replies.Was stamp) = IsStamp stamp
 IsSetting reply = TellsNoPlace reply
 
--- a reply to `same`
+-- a reply that `same` can give
 abbrev pub IsComparing : Reply → Type 0
 IsComparing replies.Yes = Unit {0}
 IsComparing replies.No = Unit {0}
 IsComparing _ = ⊥
 
--- a reply to `len`
+-- a reply that `len` can give
 abbrev pub IsMeasuring : Reply → Type 0
 IsMeasuring (replies.Length n) = n < 2 ^ 16
 IsMeasuring replies.NoObject = Unit {0}
 IsMeasuring _ = ⊥
 
--- a reply to `poll`
+-- a reply that `poll` can give
 abbrev pub IsPolling : Reply → Type 0
 IsPolling (replies.Phase p) = p < 2 ^ 64
 IsPolling _ = ⊥
 
--- a reply to `collect`
+-- a reply that `collect` can give
 abbrev pub IsCollecting : Reply → Type 0
 IsCollecting (replies.Cycle j) = j < 2 ^ 64
 IsCollecting (replies.Waits seat answered phase) = IsWait seat answered phase

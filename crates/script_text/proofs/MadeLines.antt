@@ -7,7 +7,7 @@ use Rattle.heap_model.specs.Limits.{most_seats}
 use Rattle.script_text.specs.declared.script.Form.{Form}
 use Rattle.script_text.specs.declared.script.Line.{Line}
 use Rattle.script_text.specs.declared.script.Line.TheVariants as lines
-use Rattle.script_text.specs.Generator.{state_after}
+use Rattle.script_text.specs.Generator.{state_after_draws}
 use Rattle.script_text.specs.Grammar.{IsLine, IsScripted}
 use Rattle.script_text.specs.Made.{made_command, made_heap, made_line, draws_of, most_made_lines, state_before}
 use Rattle.script_text.specs.Writing.{IsOfForm}
@@ -23,7 +23,7 @@ lines_more start seats number state before after line e f g h =
     rw (h, e, g, f) (sym (map-range_with_len_more (made_line start seats) 0 number number (omega arith)))
 
 -- the state before the next line
-pub state_more : (start seats number state next : ℕ) → state ≡ state_before start seats number → next ≡ state_after (draws_of (made_command seats number state)) state →
+pub state_more : (start seats number state next : ℕ) → state ≡ state_before start seats number → next ≡ state_after_draws (draws_of (made_command seats number state)) state →
     next ≡ state_before start seats (number + 1)
 state_more start seats number state next e f = rw (f, e, add-one) refl
 

@@ -16,12 +16,12 @@ abbrev pub line_cause : Form → ℕ → ℕ → List ℕ → Option Cause
 line_cause form seats number line =
     if nat_lt most_lines number then Some TooManyLines else words_fault form seats (words_of line)
 
--- its fault, with the number
+-- what is wrong with the line of this number, together with that number
 abbrev pub line_fault : Form → ℕ → ℕ → List ℕ → Option LineFault
 line_fault form seats number line =
     option_map (λ cause. record { line = number; cause = cause }) (line_cause form seats number line)
 
--- the first fault of the lines, of which the first has this number
+-- the first fault of these lines, the first of which has this number
 abbrev pub lines_fault : Form → ℕ → ℕ → List (List ℕ) → Option LineFault
 lines_fault form seats number [] = None
 lines_fault form seats number (line ∷ more) =

@@ -6,10 +6,10 @@ unfoldable pub next_state : ℕ → ℕ
 next_state state = (1103515245 * state + 12345) % 2 ^ 31
 
 -- the state after so many draws
-abbrev pub state_after : ℕ → ℕ → ℕ
-state_after zero state = state
-state_after (suc n) state = next_state (state_after n state)
+abbrev pub state_after_draws : ℕ → ℕ → ℕ
+state_after_draws zero state = state
+state_after_draws (suc n) state = next_state (state_after_draws n state)
 
 -- what the draw of this place gives, counted from 1
 abbrev pub draw : ℕ → ℕ → ℕ
-draw place state = state_after place state / 65536
+draw place state = state_after_draws place state / 65536

@@ -16,7 +16,7 @@ use Rattle.script_text.specs.declared.script.Script.{Script}
 use Rattle.script_text.specs.Text.{lines_of}
 use Rattle.script_text.specs.Words.{script_lines}
 
--- a command that a script may have, with its numbers in their ranges
+-- a command that a line of a script may have, with its numbers in their ranges
 abbrev pub IsScripted : Command → Type 0
 IsScripted Leave = ⊥
 IsScripted command = IsCommand command
@@ -36,7 +36,7 @@ IsLine Run seats (lines.Turns command) = ⊥
 abbrev pub most_lines : ℕ
 most_lines = 65536
 
--- the text is this script
+-- the text spells this script, which is of the grammar in this form
 pub record IsScript (form : Form) (text : List ℕ) (script : Script) : Type 0 where
   pub spelled : lines_of text ≡ script_lines script.heap script.lines
   pub heap : IsHeap script.heap

@@ -9,12 +9,12 @@ use Rattle.script_text.specs.declared.script.Form.TheVariants.{Play, Run}
 use Rattle.script_text.specs.Numbers.{number_of}
 use Rattle.script_text.specs.Operands.{Range, commands, turn_commands, operands_fault}
 
--- what is wrong with the operands of a command, where there is one
+-- what is wrong with a named command: its operands, or that there is no such command
 abbrev pub named_fault : Option (List Range) → List (List ℕ) → Option Cause
 named_fault None rest = Some NoCommand
 named_fault (Some ranges) rest = operands_fault ranges rest
 
--- what is wrong with the words of a command that is to be one of the table
+-- what is wrong with these words as a command of the table
 abbrev pub command_fault : List (List ℕ × List Range) → List (List ℕ) → Option Cause
 command_fault table [] = Some NoCommand
 command_fault table (word ∷ rest) = named_fault (lookup (bytes_eq word) table) rest

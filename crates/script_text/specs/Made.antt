@@ -8,7 +8,7 @@ use Rattle.heap_model.specs.declared.command.Command.TheVariants.{New, Array, Ge
 use Rattle.script_text.specs.declared.script.Line.{Line}
 use Rattle.script_text.specs.declared.script.Line.TheVariants as lines
 use Rattle.script_text.specs.declared.script.Script.{Script}
-use Rattle.script_text.specs.Generator.{draw, state_after}
+use Rattle.script_text.specs.Generator.{draw, state_after_draws}
 use Rattle.script_text.specs.Words.{command_words}
 
 -- the greatest start of the generator
@@ -20,35 +20,35 @@ abbrev pub most_made_lines : ℕ
 most_made_lines = 32768
 
 -- the register that a draw names where one is written
-abbrev pub target_of : ℕ → ℕ
-target_of drawn = 1 + drawn % last_register
+abbrev pub drawn_target : ℕ → ℕ
+drawn_target drawn = 1 + drawn % last_register
 
--- the register that it names where one is read
-abbrev pub register_of : ℕ → ℕ
-register_of drawn = drawn % register_count
+-- the register that a draw names where one is read
+abbrev pub drawn_register : ℕ → ℕ
+drawn_register drawn = drawn % register_count
 
--- the field or cell that it names
-abbrev pub index_of : ℕ → ℕ
-index_of drawn = drawn % 8
+-- the field or cell that a draw names
+abbrev pub drawn_index : ℕ → ℕ
+drawn_index drawn = drawn % 8
 
 -- the commands that can be picked, with these draws for their operands from left to right
 abbrev pub commands_of : ℕ → ℕ → ℕ → List Command
 commands_of x y z =
-    New (target_of x) (1 + y % 12)
-    ∷ Array (target_of x) (1 + y % 32)
-    ∷ Get (target_of x) (register_of y) (index_of z)
-    ∷ Set (register_of x) (index_of y) (register_of z)
-    ∷ Num (target_of x) y
-    ∷ Nil (target_of x)
-    ∷ Copy (target_of x) (register_of y)
-    ∷ Same (register_of x) (register_of y)
+    New (drawn_target x) (1 + y % 12)
+    ∷ Array (drawn_target x) (1 + y % 32)
+    ∷ Get (drawn_target x) (drawn_register y) (drawn_index z)
+    ∷ Set (drawn_register x) (drawn_index y) (drawn_register z)
+    ∷ Num (drawn_target x) y
+    ∷ Nil (drawn_target x)
+    ∷ Copy (drawn_target x) (drawn_register y)
+    ∷ Same (drawn_register x) (drawn_register y)
     ∷ []
 
 -- the command that the draws from a state make: the first picks it, the others are its operands
 abbrev pub drawn_command : ℕ → Command
 drawn_command state = slice_index_or (commands_of (draw 2 state) (draw 3 state) (draw 4 state)) (draw 1 state % 8) Poll
 
--- in every fourth round the seats poll, which draws nothing
+-- the command of line i: in every fourth round the seats poll, which draws nothing, and else it is drawn
 abbrev pub made_command : ℕ → ℕ → ℕ → Command
 made_command seats i state = if i / seats % 4 == 3 then Poll else drawn_command state
 
@@ -61,7 +61,7 @@ draws_of command = length (command_words command)
 abbrev pub state_before : ℕ → ℕ → ℕ → ℕ
 state_before start seats zero = start
 state_before start seats (suc i) =
-    let state = state_before start seats i in state_after (draws_of (made_command seats i state)) state
+    let state = state_before start seats i in state_after_draws (draws_of (made_command seats i state)) state
 
 -- the line of this number: the seats take turns
 abbrev pub made_line : ℕ → ℕ → ℕ → Line

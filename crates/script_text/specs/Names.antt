@@ -3,7 +3,7 @@ use Rattle.std.specs.Prelude.{ℕ, List, codes}
 use Rattle.script_text.specs.declared.name.Name.{Name}
 use Rattle.script_text.specs.declared.name.Name.TheVariants.{New, Array, Get, Set, Num, Nil, Copy, Same, Len, Poll, Collect}
 
--- the word
+-- the word that names a command
 abbrev pub name_text : Name → List ℕ
 name_text New = codes "new"
 name_text Array = codes "array"

@@ -11,11 +11,11 @@ use Rattle.script_text.specs.Numbers.{number_of}
 abbrev pub Range : Type 0
 Range = ℕ × ℕ
 
--- a register that is written, one that is read, and an index
+-- the numbers of a register that is written
 abbrev pub target_range : Range
 target_range = (1, last_register)
 
--- a register that is read
+-- the numbers of a register that is read
 abbrev pub register_range : Range
 register_range = (0, last_register)
 
@@ -23,7 +23,7 @@ register_range = (0, last_register)
 abbrev pub index_range : Range
 index_range = (0, last_index)
 
--- each command of a seat with its operands
+-- each command of a seat by its name, with the ranges of its operands
 abbrev pub commands : List (List ℕ × List Range)
 commands =
     (codes "new", target_range ∷ (1, most_fields) ∷ [])
@@ -39,7 +39,7 @@ commands =
     ∷ (codes "collect", [])
     ∷ []
 
--- each command of a script by its name, with these operands
+-- each command of a seat by its name, made with these operands
 abbrev pub commands_with : List ℕ → List (List ℕ × Command)
 commands_with ns =
     let at : ℕ → ℕ = λ k. slice_index ns k in
@@ -56,25 +56,25 @@ commands_with ns =
     ∷ (codes "collect", Collect)
     ∷ []
 
--- each command of the collector with its operands
+-- each command of the collector by its name, with the ranges of its operands
 abbrev pub turn_commands : List (List ℕ × List Range)
 turn_commands =
     (codes "turns", (0, most_turns) ∷ [])
     ∷ (codes "cycle", [])
     ∷ []
 
--- what is left after a number in the range
+-- the words after a number, where it is in the range
 abbrev pub after_number : Range → Option ℕ → List (List ℕ) → Result (List (List ℕ)) Cause
 after_number range None rest = Err BadNumber
 after_number range (Some n) rest =
     if nat_le range.0 n && nat_le n range.1 then Ok rest else Err OutOfRange
 
--- the words after an operand in the range, which is the first word
+-- the words after the first, where that is an operand in the range
 abbrev pub after_operand : Range → List (List ℕ) → Result (List (List ℕ)) Cause
 after_operand range [] = Err BadNumber
 after_operand range (word ∷ rest) = after_number range (number_of word) rest
 
--- what is wrong with a word, or else with the words after it
+-- the fault of a word, or else that of the words after it
 abbrev pub fault_or : (List (List ℕ) → Option Cause) → Result (List (List ℕ)) Cause → Option Cause
 fault_or fault (Ok rest) = fault rest
 fault_or fault (Err cause) = Some cause

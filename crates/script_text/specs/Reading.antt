@@ -7,7 +7,7 @@ use Rattle.script_text.specs.declared.script.Form.{Form}
 use Rattle.script_text.specs.declared.script.Script.{Script}
 use Rattle.script_text.specs.Grammar.{IsScript}
 
--- the text was not read by this fault; nothing is said where memory ran out
+-- this fault of the text kept it from being read; nothing is said where memory ran out
 abbrev pub FailsBy : Option LineFault → ScriptFault → Type 0
 FailsBy fault faults.Memory = Unit {0}
 FailsBy fault (faults.Line found) = fault ≡ Some found

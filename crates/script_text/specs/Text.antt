@@ -21,10 +21,10 @@ words_of line = slice_split (λ b. b == 32) line
 abbrev pub sentence : List (List ℕ) → List ℕ
 sentence words = join_with_byte 32 words
 
--- each word after a space
+-- the words, each after a space
 abbrev pub words_with_spaces : List (List ℕ) → List ℕ
 words_with_spaces words = flat_map (λ word. 32 ∷ word) words
 
--- each line with a line feed after it
+-- the lines, each with a line feed after it
 abbrev pub text_of : List (List ℕ) → List ℕ
 text_of lines = flat_map (λ line. line ++ 10 ∷ []) lines

@@ -9,7 +9,7 @@ use Rattle.script_text.specs.declared.script.Line.{Line}
 use Rattle.script_text.specs.declared.script.Line.TheVariants as lines
 use Rattle.script_text.specs.Text.{sentence}
 
--- the numbers of a heap line
+-- the three numbers of a heap line, as words
 abbrev pub heap_words : Heap → List (List ℕ)
 heap_words heap = decimal heap.groups ∷ decimal heap.spine ∷ decimal heap.seats ∷ []
 
@@ -42,10 +42,10 @@ abbrev pub line_words : Line → List (List ℕ)
 line_words (lines.Seat seat command) = decimal seat ∷ command_words command
 line_words (lines.Turns command) = codes "c" ∷ turn_words command
 
--- a line of a script
+-- the text of a line of a script, without a line feed
 abbrev pub line_text : Line → List ℕ
 line_text line = sentence (line_words line)
 
--- the lines of a script
+-- the lines of a script's text
 abbrev pub script_lines : Heap → List Line → List (List ℕ)
 script_lines heap lines = codes "schism 1" ∷ heap_line heap ∷ map line_text lines

@@ -3,9 +3,9 @@ ghost use Rattle.heap_model.specs.Command.{IsTarget, IsRegister, IsIndex, IsWith
 ghost use Rattle.heap_model.specs.Limits.{most_seats};
 ghost use Rattle.script_text.specs.declared.script.Form.TheVariants.{Play, Run};
 ghost use Rattle.script_text.specs.declared.script.Line.TheVariants as lines;
-ghost use Rattle.script_text.specs.Generator.{draw, next_state, state_after};
+ghost use Rattle.script_text.specs.Generator.{draw, next_state, state_after_draws};
 ghost use Rattle.script_text.specs.Grammar.{IsScripted};
-ghost use Rattle.script_text.specs.Made.{drawn_command, draws_of, index_of, made_command, made_script, most_made_lines, most_start, register_of, target_of};
+ghost use Rattle.script_text.specs.Made.{drawn_command, drawn_index, drawn_register, drawn_target, draws_of, made_command, made_script, most_made_lines, most_start};
 ghost use Rattle.script_text.specs.Writing.{IsOfForm};
 
 use crate::generator::Generator;
@@ -24,7 +24,7 @@ pub const MOST_MADE_LINES: u32 = 32_768;
 /// A register that is written.
 fn target(generator: &mut Generator) -> u8
     ensures state { generator.new ≡ next_state generator.old }
-    ensures drawn { result ≡ target_of (draw 1 generator.old) }
+    ensures drawn { result ≡ drawn_target (draw 1 generator.old) }
 {
     (1 + generator.draw() % u32::from(LAST_REGISTER)) as u8
 }
@@ -32,7 +32,7 @@ fn target(generator: &mut Generator) -> u8
 /// A register that is read.
 fn register(generator: &mut Generator) -> u8
     ensures state { generator.new ≡ next_state generator.old }
-    ensures drawn { result ≡ register_of (draw 1 generator.old) }
+    ensures drawn { result ≡ drawn_register (draw 1 generator.old) }
 {
     (generator.draw() % REGISTER_COUNT as u32) as u8
 }
@@ -40,7 +40,7 @@ fn register(generator: &mut Generator) -> u8
 /// The index of a field or a cell.
 fn index(generator: &mut Generator) -> u32
     ensures state { generator.new ≡ next_state generator.old }
-    ensures drawn { result ≡ index_of (draw 1 generator.old) }
+    ensures drawn { result ≡ drawn_index (draw 1 generator.old) }
 {
     generator.draw() % 8
 }
@@ -58,7 +58,7 @@ fn size(generator: &mut Generator, most: u16) -> u16
 /// The command that the next draw picks, with its operands by the draws after it.
 fn command(generator: &mut Generator) -> Command
     ensures drawn { result ≡ drawn_command generator.old }
-    ensures state { generator.new ≡ state_after (draws_of result) generator.old }
+    ensures state { generator.new ≡ state_after_draws (draws_of result) generator.old }
     ensures range { IsScripted result }
 {
     match generator.draw() % 8 {
@@ -109,7 +109,7 @@ fn command(generator: &mut Generator) -> Command
 fn line(generator: &mut Generator, seats: u8, number: u32) -> Line
     requires { 1 ≤ seats }
     ensures made { result ≡ lines.Seat (number % seats) (made_command seats number generator.old) }
-    ensures state { generator.new ≡ state_after (draws_of (made_command seats number generator.old)) generator.old }
+    ensures state { generator.new ≡ state_after_draws (draws_of (made_command seats number generator.old)) generator.old }
     ensures range { IsScripted (made_command seats number generator.old) }
 {
     let seats = u32::from(seats);

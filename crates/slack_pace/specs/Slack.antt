@@ -8,11 +8,11 @@ use Rattle.heap_model.specs.calls.CollectorCalls.{CollectorState, Turns}
 abbrev pub most_slack_turns : ℕ
 most_slack_turns = 4096
 
--- the room for entries with which that many turns are made
+-- the room for entries with which the most turns are made
 abbrev pub slack_room : ℕ
 slack_room = most_slack_turns + 2
 
--- sixteen turns, and eight more for each fragment claimed, up to the most
+-- sixteen turns, and eight more for each fragment claimed, up to the most at once
 abbrev pub steady_turns : ℕ → ℕ
 steady_turns claimed = min most_slack_turns (16 + 8 * claimed)
 

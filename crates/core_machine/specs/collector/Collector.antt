@@ -27,7 +27,7 @@ opening_collector = record { phase = 0; stage = stages.Looking; looked = 0; log 
 abbrev pub has_answered_of : ℕ → ℕ → Bool
 has_answered_of phase word = if word == phase then true else word == LEFT
 
--- every seat has answered: what the phase is for begins, and where there is nothing to do the next phase
+-- where every seat has answered: what the phase is for begins, or the next phase where it is for nothing
 abbrev pub first_work : ℕ → Stage
 first_work phase =
     if phase % cycle_phases == marking then stages.Passing 0 false
@@ -36,11 +36,11 @@ first_work phase =
     else if phase % cycle_phases == clearing then stages.Clearing 0 0
     else stages.Advancing
 
--- every seat was seen to have answered
+-- the collector once every seat was seen to have answered
 abbrev pub after_last_look : Heap → Collector → Collector
 after_last_look heap collector = record collector { looked = heap.seats; stage = first_work collector.phase }
 
--- one more seat has answered
+-- the collector once one more seat was seen to have answered
 abbrev pub after_counted_look : Heap → Collector → Collector
 after_counted_look heap collector =
     if nat_lt (collector.looked + 1) heap.seats then record collector { looked = collector.looked + 1 } else after_last_look heap collector
@@ -49,7 +49,7 @@ after_counted_look heap collector =
 abbrev pub after_look : Heap → Collector → ℕ → Collector
 after_look heap collector found = if has_answered_of collector.phase found then after_counted_look heap collector else collector
 
--- it waits where the seat hasn't answered
+-- what a look answers: it waits where the seat hasn't answered
 abbrev pub look_answer : Collector → ℕ → TurnAnswer
 look_answer collector found =
     if has_answered_of collector.phase found then Stepped else Waits collector.looked found collector.phase
@@ -59,7 +59,7 @@ abbrev pub look_turn : Heap → Collector → Turn
 look_turn heap collector =
     quiet_turn (Turning (turning.LookLoad collector.looked)) (after_look heap collector) (look_answer collector)
 
--- below the last two numbers of a word there is one left for the next phase
+-- the next phase begins, as long as a word has numbers left for phases
 abbrev pub advance_turn : Collector → Turn
 advance_turn collector = record {
   step = Turning (turning.AdvanceStore (collector.phase + 1));
@@ -69,7 +69,7 @@ advance_turn collector = record {
   may = collector.phase < 2 ^ 64 - 2;
 }
 
--- the cycle ends and the next phase begins: so many fragments were found taken as the marks were cleared
+-- the cycle ends and the next phase begins: so many fragments were taken as the marks were cleared
 abbrev pub end_turn : Collector → ℕ → Turn
 end_turn collector kept = record {
   step = Turning (turning.EndAdvance (collector.phase + 1));

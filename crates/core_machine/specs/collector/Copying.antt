@@ -21,11 +21,11 @@ left_half phase = phase / cycle_phases % 2
 abbrev pub next_half : ℕ → ℕ
 next_half phase = (phase / cycle_phases + 1) % 2
 
--- the next group's turn comes; behind the last one the phase is done
+-- copying goes on to the next group; behind the last one the phase is done
 abbrev pub after_visited : Heap → ℕ → Stage
 after_visited heap group = if nat_lt (group + 1) heap.groups then stages.Copying (copying.Visiting (group + 1)) else stages.Advancing
 
--- the next marked fragment is looked at; behind the last one the next group's turn comes
+-- the next marked fragment is looked at; behind the last one copying goes on to the next group
 abbrev pub after_seen : Heap → ℕ → ℕ → Option ℕ → Stage
 after_seen heap group marked None = after_visited heap group
 after_seen heap group marked (Some place) = stages.Copying (copying.Inspecting (record { group = group; marked = marked; place = place }))
@@ -51,10 +51,10 @@ after_located heap phase array from = if from.half == left_half phase then stage
 abbrev pub copy_at : SpineCopy → Stage
 copy_at copy = if nat_lt copy.index copy.array.words then stages.Copying (copying.Loading copy) else stages.Copying (copying.Swinging copy)
 
--- the copy has got its place
+-- where copying goes on once the copy has got its place
 abbrev pub after_claimed : ArrayAt → Spot → ℕ → Stage
 after_claimed array from found = copy_at (record { array = array; from = from; to = spot_in found; index = 0 })
 
--- a word was copied
+-- where copying goes on once a word was copied
 abbrev pub after_copied : SpineCopy → Stage
 after_copied copy = copy_at (record copy { index = copy.index + 1 })

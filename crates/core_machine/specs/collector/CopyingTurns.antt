@@ -22,7 +22,7 @@ use Rattle.core_machine.specs.collector.Copying.{next_half, after_visit, visit_o
 use Rattle.core_machine.specs.collector.Turn.{Collector, Turn, work_turn}
 use Rattle.core_machine.specs.table.Decode.{array_length_of, id_of}
 
--- the next spine's place is the first word of the other half
+-- the flip: the next spine begins at the first word of the other half
 abbrev pub flip_turn : Collector → Turn
 flip_turn collector = work_turn (steps.Copying (FlipStore (next_half collector.phase))) (λ word. record collector { stage = stages.Advancing })
 
@@ -56,7 +56,7 @@ after_copying heap phase (copying.Loading copy) found = stages.Copying (copying.
 after_copying heap phase (copying.Storing copy word) found = after_copied copy
 after_copying heap phase (copying.Swinging copy) found = visit_on heap copy.array.visit
 
--- what is told: that an array swings to its copy
+-- what a turn of copying tells: that an array swings to its copy
 abbrev pub copying_adds : Copying → List Entry
 copying_adds (copying.Swinging copy) = Swings copy.array.id ∷ []
 copying_adds _ = []

@@ -40,7 +40,7 @@ pub record FitsCopy (heap : Heap) (copy : SpineCopy) : Type 0 where
   pub to_within : FitsSpot copy.to
   pub index_within : copy.index ≤ copy.array.words
 
--- a word was loaded for a copy, which stands before its place there: it names a fragment of the heap
+-- a word was loaded that names a fragment of the heap, and the copy stands before the place where it is to be stored
 pub record FitsStoring (heap : Heap) (copy : SpineCopy) (word : ℕ) : Type 0 where
   pub copies : FitsCopy heap copy
   pub more : copy.index < copy.array.words

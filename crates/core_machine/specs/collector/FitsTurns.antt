@@ -116,7 +116,7 @@ pub record HasCleared (heap : Heap) (phase looked kept : ℕ) : Type 0 where
   pub for_clearing : phase % cycle_phases ≡ clearing
   pub kept_within : kept ≤ group_fragments * heap.groups
 
--- while it looks it stands before a seat of the heap; at every other stage it has looked
+-- what is true at each stage: while it looks it stands before a seat of the heap, and at every other it has looked at all
 abbrev pub FitsStage : Heap → ℕ → ℕ → Stage → Type 0
 FitsStage heap phase looked stages.Looking = looked < heap.seats
 FitsStage heap phase looked (stages.Passing group found) = IsPassing heap phase looked group

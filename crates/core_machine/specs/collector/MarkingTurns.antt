@@ -44,7 +44,7 @@ abbrev pub spread_turn : Collector → SpineScan → ℕ → Turn
 spread_turn collector s target =
     work_turn (Turning (turning.MarkShade target)) (λ word. record collector { stage = after_spread s })
 
--- the fragment is told to be scanned, and its group's turn comes again
+-- the fragment is blackened, and the pass looks at its group again
 abbrev pub blacken_turn : Collector → Scan → Turn
 blacken_turn collector scan =
     work_turn (Turning (turning.Blacken scan.fragment)) (λ word. record collector { stage = stages.Passing (scan.fragment / group_fragments) true })

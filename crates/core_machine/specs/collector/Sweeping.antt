@@ -5,11 +5,11 @@ use Rattle.core_machine.specs.declared.collector.stage.Stage.{Stage}
 use Rattle.core_machine.specs.declared.collector.stage.Stage.TheVariants as stages
 pub use Rattle.heap_words.specs.Control.{dead_bits_of, next_place_of, taken_count_of}
 
--- the next group's turn comes; behind the last one the phase is done
+-- the sweep goes on to the next group; behind the last one the phase is done
 abbrev pub after_swept : Heap → ℕ → Stage
 after_swept heap group = if nat_lt (group + 1) heap.groups then stages.Sweeping (group + 1) else stages.Advancing
 
--- the next dead fragment is looked at; behind the last one they are freed, where there are any; arrays among those looked at had so many spine words
+-- the next dead fragment is looked at; behind the last one all of the group's are freed, where there are any
 abbrev pub after_examined : Heap → ℕ → ℕ → ℕ → Option ℕ → Stage
 after_examined heap group dead words (Some place) = stages.Examining group dead place words
 after_examined heap group dead words None = if dead == 0 then after_swept heap group else stages.Freeing group dead words

@@ -17,7 +17,7 @@ sweep_turn heap collector group =
     work_turn (Turning (turning.GroupLoad group))
     (λ word. record collector { stage = after_examined heap group (dead_bits_of word) 0 (next_place_of (dead_bits_of word) 0) })
 
--- the first word of a dead fragment is loaded: where it is an array's meta its spine words are counted, and the next one's turn comes
+-- a dead fragment's first word is loaded: the spine words that it tells are counted, and the next one is looked at
 abbrev pub examine_turn : Heap → Collector → ℕ → ℕ → ℕ → ℕ → Turn
 examine_turn heap collector group dead place words =
     work_turn (Turning (turning.MetaLoad (group_fragments * group + place)))

@@ -18,11 +18,11 @@ pub record Collector : Type 0 where
   -- its entries, in their order
   pub log : List Entry
 
--- the next phase has begun
+-- the collector once the next phase has begun
 abbrev pub after_advance : Collector → Collector
 after_advance collector = record collector { phase = collector.phase + 1; stage = Looking; looked = 0 }
 
--- what one turn of the collector does: each turn is a row that says all of it
+-- one turn of the collector: each turn is a row that says all of it
 pub record Turn : Type 1 where
   -- the step that is due
   pub step : Step

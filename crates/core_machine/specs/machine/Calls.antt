@@ -37,8 +37,7 @@ abbrev pub IsPhaseNear : Heap → State → ℕ → Type 0
 IsPhaseNear heap state number =
     (at heap state.words Phase ≡ (seat_at state number).answered) ⊎ (at heap state.words Phase ≡ (seat_at state number).answered + 1)
 
--- the second state is the first after the call's steps; its entries, the reply last and no other, are the seat's and the history's, and
--- before the reply come those that are due by the seat's reserve and its last answer
+-- the second state is the first after the call's steps; what was told is the seat's own entries, the reply last and no other
 pub record PlaysCall (heap : Heap) (old new : State) (number : ℕ) (command : Command) (reply : Reply) : Type 0 where
   pub steps : ℕ
   pub can : Run heap old (call_events number command steps)
@@ -48,16 +47,17 @@ pub record PlaysCall (heap : Heap) (old new : State) (number : ℕ) (command : C
   pub shown : history heap old (call_events number command steps) ≡ before ++ Said number command reply ∷ []
   pub mine : (seat_at new number).mine ≡ (seat_at old number).mine ++ (before ++ Said number command reply ∷ [])
   pub beside : AllByRecursion (IsBeside number) before
+  -- before the reply come the entries that are due by the seat's reserve and its last answer
   pub comes : (command ≡ Poll → IsPhaseNear heap old number)
       → ComesBefore number (length (seat_at old number).reserve) (seat_at old number).answered command reply before
 
--- a call makes one object at most and does one set at most, and by no call but a leave the seat has left
+-- the call makes one object at most and does one set at most, and only a leave makes the seat leave
 pub record CountsCall (old new : Seat) (command : Command) : Type 0 where
   pub made_more : new.made ≤ old.made + 1
   pub sets_more : new.sets ≤ old.sets + 1
   pub present_stays : command ≢ Leave → new.left ≡ old.left
 
--- the seat told its leave, with its reserve as what it had of its own
+-- the seat has told that it gives back its reserve, where it has one, and that it leaves
 abbrev pub TellsLeave : State → State → ℕ → Type 0
 TellsLeave old new number =
     (seat_at new number).mine ≡ (seat_at old number).mine ++ leave_entries number (length (seat_at old number).reserve)
@@ -70,14 +70,14 @@ free_count heap words = sum_upto heap.groups (λ group. length (clear_in group (
 abbrev pub within_reach : Heap → State → ℕ → ℕ
 within_reach heap state number = length (seat_at state number).reserve + free_count heap state.words
 
--- registers, reserve and cursor are as before
+-- registers, reserve, cursor and the number of objects made are as before
 pub record KeepsOwn (old new : Seat) : Type 0 where
   pub registers_stay : new.registers ≡ old.registers
   pub reserve_stays : new.reserve ≡ old.reserve
   pub cursor_stays : new.cursor ≡ old.cursor
   pub made_stays : new.made ≡ old.made
 
--- the call was refused: the refusal shows what is needed and what is within reach, and nothing was changed
+-- the call was refused: it shows what is needed and what is within reach, and the words and what the seat keeps are as before
 pub record IsRefused (heap : Heap) (old new : State) (number : ℕ) (command : Command) (reply : Reply) : Type 0 where
   pub shows : reply ≡ Full (need_of command) (within_reach heap old number)
   pub own_stays : KeepsOwn (seat_at old number) (seat_at new number)
@@ -92,13 +92,13 @@ pub record AnswersNew (heap : Heap) (old new : State) (number : ℕ) (command : 
 abbrev pub LacksSpineWords : Heap → State → Command → Type 0
 LacksSpineWords heap state command = heap.spine < at heap state.words Budget + spine_need_of command
 
--- the call was refused its spine words: the refusal shows what is needed and what was granted, and nothing was changed
+-- the spine words were refused: it shows what is needed and what was granted, and the words and what the seat keeps are as before
 pub record IsSpineRefused (heap : Heap) (old new : State) (number : ℕ) (command : Command) (reply : Reply) : Type 0 where
   pub shows : reply ≡ SpineFull (spine_need_of command) (at heap old.words Budget % 2 ^ 32)
   pub own_stays : KeepsOwn (seat_at old number) (seat_at new number)
   pub table_stays : SameTable heap old.words new.words
 
--- an array is made exactly where both its spine words and its fragments are enough; where both are too few its spine words are refused
+-- an array is made exactly where spine words and fragments are both enough; where both are too few the spine words are refused
 pub record AnswersArray (heap : Heap) (old new : State) (number : ℕ) (command : Command) (reply : Reply) : Type 0 where
   pub spine_refused : LacksSpineWords heap old command → IsSpineRefused heap old new number command reply
   pub made : ¬ LacksSpineWords heap old command → need_of command ≤ within_reach heap old number → reply ≡ Made (next_object_id number (seat_at old number))
@@ -110,7 +110,7 @@ IsPlaceRefusal NoObject = Unit {0}
 IsPlaceRefusal NoField = Unit {0}
 IsPlaceRefusal _ = ⊥
 
--- nothing was changed, but that the seat has the call's entry, and with its reply has forgotten what it had looked at since the last one
+-- no word was changed, and of the seat only its command, its entries and what it had found, which it has forgotten
 pub record LeavesAll (old new : State) (number : ℕ) : Type 0 where
   pub words_stay : new.words ≡ old.words
   pub seat_stays : seat_at new number

@@ -24,14 +24,14 @@ looks_after heap words looks (Behind other) =
     compared other (at heap words addresses.Phase) (at heap words (addresses.Answer other)) (seen_phase (at heap words addresses.Phase) looks)
 looks_after heap words looks (Note reply) = forgotten looks
 
--- the phase that it has answered then
+-- the phase that the seat has answered last after the inner call
 abbrev pub answered_after : Heap → List ℕ → ℕ → Inner → ℕ
 answered_after heap words answered Look = answered
 answered_after heap words answered Answer = at heap words addresses.Phase
 answered_after heap words answered (Behind other) = answered
 answered_after heap words answered (Note reply) = answered
 
--- what the call tells: the answer to a phase that wasn't answered yet, and the reply that is noted
+-- what the inner call tells: the answer to a phase that wasn't answered yet, or the reply that is noted
 abbrev pub inner_entries : Heap → List ℕ → ℕ → ℕ → Inner → List Entry
 inner_entries heap words number answered Look = []
 inner_entries heap words number answered Answer =
@@ -39,7 +39,7 @@ inner_entries heap words number answered Answer =
 inner_entries heap words number answered (Behind other) = []
 inner_entries heap words number answered (Note reply) = Said number Collect (noted_reply reply) ∷ []
 
--- the seat after the call: it has answered, found and told that, and is as it was before else
+-- the seat after the inner call: with what it has answered, found and told, and else as it was
 abbrev pub seat_after_inner : Heap → List ℕ → ℕ → Seat → Inner → Seat
 seat_after_inner heap words number seat inner = record seat {
   command = Collect;
@@ -48,7 +48,7 @@ seat_after_inner heap words number seat inner = record seat {
   mine = seat.mine ++ inner_entries heap words number seat.answered inner;
 }
 
--- the second state is the first after the call's steps, which left the seat so, and the history has what it told
+-- the second state is the first after the inner call's steps, which left the seat so, and the history has what it told
 pub record PlaysInner (heap : Heap) (old new : State) (number : ℕ) (inner : Inner) : Type 0 where
   pub steps : ℕ
   pub can : Run heap old (inner_events number inner steps)

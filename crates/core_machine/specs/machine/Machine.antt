@@ -44,7 +44,7 @@ state_after_move heap state number move = record state {
   seats = slice_set state.seats number (seat_after move (found_by heap state move.step));
 }
 
--- where a seat stands that begins this call; a collect, which isn't served, begins nothing
+-- the seat where this call begins; a collect, which isn't served, begins nothing
 abbrev pub call_start : Heap → Seat → Command → Seat
 call_start heap seat (commands.New d fields) = gather_next heap seat
 call_start heap seat (commands.Array d cells) = record seat { place = Making Granting }
@@ -88,7 +88,7 @@ state_after_turn heap state turn = record state {
   collector = collector_after turn (found_by heap state turn.step);
 }
 
--- what happens: a seat is given a command or begins an inner call of a collect, or makes the step that is due, or the collector makes its turn
+-- a seat begins a command or an inner call of a collect, a seat makes its due step, or the collector makes its turn
 pub data Event : Type 0 where
   Begins : (number : ℕ) (command : Command) → Event
   BeginsInner : (number : ℕ) (inner : Inner) → Event

@@ -29,7 +29,7 @@ board_name = record { owner = 0; count = 0 }
 abbrev pub board_group : ℕ
 board_group = group_word (record { taken = 2047; born = 2047; marked = 0; scanned = 0 })
 
--- the word at each address: there is the board, a record whose fields were never set, and each number without a seat has left
+-- the word at each address: there is the board, whose fields were never set, and each number without a seat has left
 abbrev pub opening_word : Heap → Address → ℕ
 opening_word heap Phase = 0
 opening_word heap (Answer number) = if nat_lt number heap.seats then 0 else LEFT
@@ -61,7 +61,7 @@ with_board count Spot word = word
 with_board count (Control group) word = word
 with_board count (Spine half offset) word = word
 
--- a seat at the opening: register 0 holds the board, and each seat's cursor stands at a group of its own as far as there are as many
+-- a seat at the opening: register 0 holds the board, and the seats' cursors stand at different groups, as far as there are enough
 abbrev pub opening_seat : Heap → ℕ → Seat
 opening_seat heap number =
     record absent_seat { registers = Object 0 ids.Board ∷ replicate last_register Nil; cursor = number % heap.groups; left = false }

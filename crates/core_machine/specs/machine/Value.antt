@@ -50,7 +50,7 @@ abbrev pub due_of : Heap → State → ℕ → Option Step
 due_of heap state party =
     if party == length state.seats then Some (next_turn heap state.collector).step else due_step heap party (seat_at state party)
 
--- the event that this step is
+-- the event that the party's next step is
 abbrev pub event_of : State → ℕ → Event
 event_of state party = if party == length state.seats then Turns else Steps party
 
@@ -59,8 +59,7 @@ pub record SpendsRoom (old new : MachineValue) (party : ℕ) : Type 0 where
   pub own : spare_of old party + length (log_of old party) ≤ spare_of new party + length (log_of new party)
   pub others : (other : ℕ) → other ≢ party → spare_of new other ≡ spare_of old other
 
--- what is true of every machine: its table has the heap's words, of 64 bits each, which lead within the heap, there are the heap's
--- seats, and the data of each party fit together
+-- what is true of every machine: its table has 64-bit words that lead within the heap, and its parties' data fit together
 pub record IsMachine (heap : Heap) (state : State) : Type 0 where
   pub limits : IsHeap heap
   pub table : length state.words ≡ table_length heap

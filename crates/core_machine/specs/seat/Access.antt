@@ -17,11 +17,11 @@ use Rattle.core_machine.specs.table.Decode.{link_of, length_of, array_length_of,
 use Rattle.core_machine.specs.seat.Registers.{register_in, register_head}
 use Rattle.core_machine.specs.seat.Seat.{Seat, after_call}
 
--- the row in which a field stands: 0 is the object's first fragment, 1 its second
+-- the row in which a record's field stands: 0 is the object's first fragment, 1 its second
 abbrev pub row_of : ℕ → ℕ
 row_of field = (field + 1) / 3
 
--- the word of its fragment in which a field stands: 3 * row + part is the field's number plus 2
+-- the word of its fragment in which a record's field stands: 3 * row + part is the field's number plus 2
 abbrev pub part_of : ℕ → ℕ
 part_of field = (field + 1) % 3 + 1
 
@@ -34,7 +34,7 @@ has_barrier_of seat =
 abbrev pub at_access : Seat → Access → Seat
 at_access seat place = record seat { place = places.Access place }
 
--- the register has another value, and the call is over
+-- the command's register has another value, and the call is over
 abbrev pub with_register_filled : Seat → Register → Seat
 with_register_filled seat register = after_call (record seat { registers = slice_set seat.registers (target_of seat.command) register })
 
@@ -45,7 +45,7 @@ access_start seat (Object head id) =
 access_start seat Nil = record seat { place = places.Local }
 access_start seat (Number n) = record seat { place = places.Local }
 
--- what is done with the field: a get loads it, and so does a set with the barrier on; no other command goes to one
+-- what is done at the field: a get loads it, a set loads it where the barrier is on, and else swaps; no other command comes there
 abbrev pub field_place_of : Seat → Command → Access
 field_place_of seat (commands.New d fields) = Getting
 field_place_of seat (commands.Array d cells) = Getting
@@ -60,7 +60,7 @@ field_place_of seat commands.Poll = Getting
 field_place_of seat commands.Collect = Getting
 field_place_of seat commands.Leave = Getting
 
--- where the way stands at a fragment: at the field, where no link leads on
+-- where the seat stands on its way: at the field, where no link leads on, and else at a link
 abbrev pub way_place_of : Seat → Access
 way_place_of seat = if seat.links == 0 then field_place_of seat seat.command else Walking
 
@@ -77,7 +77,7 @@ after_walk seat found =
 abbrev pub field_reply_of : ℕ → ℕ → Option Reply
 field_reply_of field found = if nat_lt field (length_of found) then None else Some NoField
 
--- the reply at the meta, where the call ends there: the length, or that there is no such field; no other command comes to a meta
+-- the reply at the meta, where the call ends there: the length, or that there is no such field; no other command comes there
 abbrev pub meta_reply_of : Command → ℕ → Option Reply
 meta_reply_of (commands.New d fields) found = None
 meta_reply_of (commands.Array d cells) found = None
@@ -118,7 +118,7 @@ after_address seat found = at_access (record seat { address = spot_in found }) I
 abbrev pub at_payload : Seat → ℕ → Seat
 at_payload seat found = record seat { reached = payload_in found }
 
--- the spine word was found that names the cell's fragment
+-- the spine word was found that names the cell's fragment: the field is reached
 abbrev pub after_index : Seat → ℕ → Seat
 after_index seat found = at_access (at_payload seat found) (field_place_of (at_payload seat found) seat.command)
 

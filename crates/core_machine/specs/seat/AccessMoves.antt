@@ -50,7 +50,7 @@ abbrev pub index_move : Seat → Move
 index_move seat =
     plain_move (steps.Spine (WordLoad seat.address.half (seat.address.offset + field_of seat.command / 4))) (after_index seat) (λ found. [])
 
--- what a get answers that put this into its register
+-- the reply of a get that has put this into its register
 abbrev pub got_reply : Register → ℕ → Reply
 got_reply register found = Got (value_of register) (stamp_of found)
 
@@ -59,7 +59,7 @@ abbrev pub got_adds : ℕ → Seat → ℕ → Option ℕ → List Entry
 got_adds number seat found None = reply_entries number seat (got_reply (plain_of found) found)
 got_adds number seat found (Some head) = []
 
--- the history's entry of a get: where the field refers to an object, the id is the one that stands in that object's name
+-- the history's entry of a get: where the field refers to an object, with the id that stands in that object's name
 abbrev pub got_shows : Heap → ℕ → Seat → List ℕ → ℕ → Option ℕ → List Entry
 got_shows heap number seat words found None = got_adds number seat found None
 got_shows heap number seat words found (Some head) =
@@ -78,7 +78,7 @@ get_move heap number seat = record {
 abbrev pub loaded_head_of : Seat → ℕ
 loaded_head_of seat = unwrap_or (head_of seat.loaded) 0
 
--- the entry of a get whose object's name was found: the history has had it since the field was loaded
+-- a get loads the name of its object and tells its entry, which the history has had since the field was loaded
 abbrev pub name_move : ℕ → Seat → Move
 name_move number seat = record {
   step = steps.Access (NameLoad (loaded_head_of seat));

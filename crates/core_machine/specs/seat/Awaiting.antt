@@ -13,7 +13,7 @@ use Rattle.core_machine.specs.table.Decode.{id_of, stamp_of}
 use Rattle.core_machine.specs.seat.AccessMoves.{reply_entries, loaded_head_of}
 use Rattle.core_machine.specs.seat.Seat.{Seat}
 
--- at the place where a get awaits a name, its entry: with the id that stands in the name of the object that it loaded
+-- the entry of a get that awaits a name, with the id in the name of the object that it has loaded; at every other place none
 abbrev pub entries_awaited_at : Heap → List ℕ → ℕ → Seat → Place → List Entry
 entries_awaited_at heap words number seat (places.Access Naming) =
     reply_entries number seat (Got (Object (id_of (at heap words (Word (loaded_head_of seat) 1)))) (stamp_of seat.loaded))

@@ -35,7 +35,7 @@ IsServed Poll = Unit {0}
 IsServed Collect = ⊥
 IsServed Leave = Unit {0}
 
--- what a command names that names nothing
+-- the parts of a command that names nothing
 abbrev pub no_parts : Parts
 no_parts = record { target = 0; object = 0; source = 0; field = 0; fields = 0; cells = 0 }
 

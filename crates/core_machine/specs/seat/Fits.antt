@@ -18,7 +18,7 @@ pub use Rattle.core_machine.specs.seat.FitsHandshake.{IsLocal, AnswersThePhase, 
 pub use Rattle.core_machine.specs.seat.Collecting.{FitsCollecting}
 pub use Rattle.core_machine.specs.collector.FitsTurns.{FitsStage, CollectorFits}
 
--- what is in the hand at a place
+-- what is true of the hand and of the command at each place
 abbrev pub FitsPlace : Heap → Seat → Place → Type 0
 FitsPlace heap seat places.Idle = IsAtRest seat
 FitsPlace heap seat (places.Making place) = FitsMaking heap seat place
@@ -28,7 +28,7 @@ FitsPlace heap seat (places.Polling place) = IsAtRest seat
 FitsPlace heap seat (places.Collecting place) = IsAtRest seat × (seat.command ≡ commands.Collect) × FitsCollecting heap seat place
 FitsPlace heap seat (places.Leaving place) = IsAtRest seat × (seat.command ≡ commands.Leave) × FitsLeaving seat place
 
--- what was reached and loaded there
+-- what has been reached and loaded at each place
 abbrev pub FitsWay : Seat → Place → Type 0
 FitsWay seat (places.Access place) = FitsAccess seat place
 FitsWay seat places.Idle = IsNowhere seat
@@ -38,7 +38,7 @@ FitsWay seat (places.Polling place) = IsNowhere seat
 FitsWay seat (places.Collecting place) = IsNowhere seat
 FitsWay seat (places.Leaving place) = IsNowhere seat
 
--- which phase is about to be answered there
+-- which phase is about to be answered at each place
 abbrev pub FitsAnswer : Seat → Place → Type 0
 FitsAnswer seat (places.Polling place) = FitsPolling seat place
 FitsAnswer seat places.Idle = IsSilent seat
@@ -54,7 +54,7 @@ FitsRegister heap Nil = Unit {0}
 FitsRegister heap (Number n) = n < number_limit
 FitsRegister heap (Object head id) = head < group_fragments * heap.groups
 
--- a seat that has left has no call in flight and no reserve
+-- no call is in flight, and there is no reserve: so it is with a seat that has left
 pub record IsGone (seat : Seat) : Type 0 where
   pub idle : seat.place ≡ places.Idle
   pub no_reserve : seat.reserve ≡ []
@@ -67,13 +67,13 @@ pub record OwnFits (heap : Heap) (registers : List Register) (reserve : List ℕ
   pub small_reserve : length reserve ≤ most_reserve
   pub reserve_of_cursor : All (λ fragment. fragment / group_fragments ≡ cursor) reserve
 
--- the fragments of the object that a call makes, and the place of its spine
+-- the fragments of the hand and of the new object are the heap's, and its spine's place is a spot that a word may tell
 pub record HandFits (heap : Heap) (hand body : List ℕ) (spine : Spot) : Type 0 where
   pub hand_within : AreFragments heap hand
   pub body_within : AreFragments heap body
   pub spine_within : FitsSpot spine
 
--- what a call has reached and loaded
+-- what a call has reached is the heap's, what it has loaded refers into the heap if at all, and its spine's place is such a spot
 pub record WayFits (heap : Heap) (reached : ℕ) (address : Spot) (loaded : ℕ) : Type 0 where
   pub reached_within : reached < group_fragments * heap.groups
   pub address_within : FitsSpot address

@@ -48,7 +48,7 @@ NamesField (Get d r i) = Unit {0}
 NamesField (Set r i v) = Unit {0}
 NamesField _ = ⊥
 
--- the register that the command names holds an object, and a stamp is left for a set
+-- the command is in range, a stamp is left for a set, and the register that the command names holds an object
 pub record HoldsObject (registers : List Register) (made sets : ℕ) (command : Command) : Type 0 where
   pub in_range : IsCommand command
   pub numbered : HasNumberLeft made sets command
@@ -71,7 +71,7 @@ pub record IsAtHead (registers : List Register) (made sets : ℕ) (command : Com
 abbrev pub SeatIsAtHead : Seat → Type 0
 SeatIsAtHead seat = IsAtHead seat.registers seat.made seat.sets seat.command seat.reached seat.links seat.part seat.loaded
 
--- some links of the way are still to be walked
+-- some links of the way to a field have been walked, and some are left
 pub record IsOnWay (registers : List Register) (made sets : ℕ) (command : Command) (links part loaded : ℕ) : Type 0 where
   pub works : HoldsObject registers made sets command
   pub names : NamesField command
@@ -84,7 +84,7 @@ pub record IsOnWay (registers : List Register) (made sets : ℕ) (command : Comm
 abbrev pub SeatIsOnWay : Seat → Type 0
 SeatIsOnWay seat = IsOnWay seat.registers seat.made seat.sets seat.command seat.links seat.part seat.loaded
 
--- the way stands at an array's first fragment, and goes on by its spine
+-- the way of a call on a field has no links and has loaded nothing: it goes on by a spine
 pub record IsAtSentinel (registers : List Register) (made sets : ℕ) (command : Command) (links part loaded : ℕ) : Type 0 where
   pub works : HoldsObject registers made sets command
   pub names : NamesField command
@@ -92,7 +92,7 @@ pub record IsAtSentinel (registers : List Register) (made sets : ℕ) (command :
   pub part_within : part < 4
   pub none_loaded : loaded ≡ 0
 
--- the seat's way stands at an array's first fragment
+-- the seat's way goes on by a spine
 abbrev pub SeatIsAtSentinel : Seat → Type 0
 SeatIsAtSentinel seat = IsAtSentinel seat.registers seat.made seat.sets seat.command seat.links seat.part seat.loaded
 

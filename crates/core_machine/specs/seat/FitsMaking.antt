@@ -46,7 +46,7 @@ pub record MakesNext (command : Command) (made : ℕ) : Type 0 where
 abbrev pub SeatIsGranting : Seat → Type 0
 SeatIsGranting seat = IsAtRest seat × MakesNext seat.command seat.made × IsArrayCall seat.command
 
--- its spine words were found to be too many beside those in use
+-- an array's spine words were found to be too many beside those granted or asked for, and nothing was claimed
 pub record IsWithdrawing (heap : Heap) (command : Command) (made : ℕ) (hand body : List ℕ) (stored tried given used : ℕ) (spine : Spot) (listed : ℕ) : Type 0 where
   pub makes : MakesNext command made
   pub an_array : IsArrayCall command
@@ -58,7 +58,7 @@ abbrev pub SeatIsWithdrawing : Heap → Seat → Type 0
 SeatIsWithdrawing heap seat =
     IsWithdrawing heap seat.command seat.made seat.hand seat.body seat.stored seat.tried seat.given seat.used seat.spine seat.listed
 
--- nothing is stored or given back yet, too little is gathered, and some group wasn't claimed
+-- too little is gathered, some group wasn't claimed, and nothing is stored or given back yet
 pub record IsGathering (heap : Heap) (command : Command) (made : ℕ) (reserve hand body : List ℕ) (stored tried given used : ℕ) (spine : Spot) (listed : ℕ) : Type 0 where
   pub makes : MakesNext command made
   pub no_spine : HasNoSpine used spine listed
@@ -72,7 +72,7 @@ pub record IsGathering (heap : Heap) (command : Command) (made : ℕ) (reserve h
 abbrev pub SeatIsGathering : Heap → Seat → Type 0
 SeatIsGathering heap seat = IsGathering heap seat.command seat.made seat.reserve seat.hand seat.body seat.stored seat.tried seat.given seat.used seat.spine seat.listed
 
--- every group was claimed, and too little was gathered, with what was given back since
+-- every group was claimed, and what was gathered is too little, with what was given back since
 pub record IsRefusing (heap : Heap) (command : Command) (made : ℕ) (reserve hand body : List ℕ) (stored tried given used : ℕ) (spine : Spot) (listed : ℕ) : Type 0 where
   pub makes : MakesNext command made
   pub no_spine : HasNoSpine used spine listed

@@ -13,11 +13,11 @@ use Rattle.core_machine.specs.declared.seat.register.Register.TheVariants.{Nil}
 use Rattle.core_machine.specs.seat.Registers.{heads_of}
 use Rattle.core_machine.specs.seat.Seat.{Seat, call_over, after_call}
 
--- what is shaded before the phase is answered: where marking begins the registers' objects
+-- what a seat shades before it answers the phase: where marking begins the objects that its registers hold
 abbrev pub roots : Seat → List ℕ
 roots seat = if seat.asked % cycle_phases == marking then heads_of seat.registers else []
 
--- the next root is shaded, or the answer is stored
+-- the next root is shaded, or where none is left the answer is stored
 abbrev pub answer_place : Seat → Polling
 answer_place seat = if nat_lt seat.shaded (length (roots seat)) then Shading else Answering
 

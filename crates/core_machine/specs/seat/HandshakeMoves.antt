@@ -19,7 +19,7 @@ use Rattle.core_machine.specs.seat.Seat.{Seat}
 use Rattle.core_machine.specs.seat.Local.{local_reply_of, after_local}
 use Rattle.core_machine.specs.Move.{Move, plain_move}
 
--- a reply that needs no word but the command's registers, told at a load of the phase
+-- the reply of a command that looks at no word, told at a load of the phase
 abbrev pub local_move : ℕ → Seat → Move
 local_move number seat =
     plain_move steps.PollLoad (λ found. after_local seat) (λ found. Said number seat.command (local_reply_of seat.registers seat.command) ∷ [])

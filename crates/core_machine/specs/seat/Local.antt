@@ -9,7 +9,7 @@ use Rattle.core_machine.specs.declared.seat.register.Register.TheVariants as hel
 use Rattle.core_machine.specs.seat.Registers.{register_in, value_of, is_same_value}
 use Rattle.core_machine.specs.seat.Seat.{Seat, after_call}
 
--- yes or no
+-- the reply that says whether two values are the same
 abbrev pub answer_of : Bool → Reply
 answer_of same = if same then Yes else No
 
@@ -28,7 +28,7 @@ local_reply_of registers Poll = NoObject
 local_reply_of registers Collect = NoObject
 local_reply_of registers Leave = NoObject
 
--- the registers after it
+-- the registers after a command that looks at no word
 abbrev pub local_registers : List Register → Command → List Register
 local_registers registers (New d fields) = registers
 local_registers registers (Array d cells) = registers
@@ -43,6 +43,6 @@ local_registers registers Poll = registers
 local_registers registers Collect = registers
 local_registers registers Leave = registers
 
--- the reply was told
+-- the seat once that reply was told
 abbrev pub after_local : Seat → Seat
 after_local seat = after_call (record seat { registers = local_registers seat.registers seat.command })

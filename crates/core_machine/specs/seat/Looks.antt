@@ -19,7 +19,7 @@ no_looks = record { first = None; seen = 0; behind = None; waits = 0 }
 abbrev pub forgotten : Looks → Looks
 forgotten looks = record looks { first = None; behind = None }
 
--- the first phase that was found, with this one after it
+-- the first phase that was found since the last reply: this one, where none was found before
 abbrev pub first_of : Option ℕ → ℕ → Option ℕ
 first_of None found = Some found
 first_of (Some p) found = Some p
@@ -32,7 +32,7 @@ looked found looks = record looks { first = first_of looks.first found; seen = f
 abbrev pub seen_phase : ℕ → Looks → Looks
 seen_phase found looks = record looks { seen = found }
 
--- one more, where that has 64 bits
+-- the count and one more, as far as 64 bits count
 abbrev pub counted_once_more : ℕ → ℕ
 counted_once_more n = if nat_lt (n + 1) (2 ^ 64) then n + 1 else n
 
@@ -51,12 +51,12 @@ abbrev pub FirstUpTo : Option ℕ → ℕ → Type 0
 FirstUpTo None p = ⊥
 FirstUpTo (Some first) p = first ≤ p
 
--- what was found allows this reply: a cycle that began after a look and whose end was seen, or the seat that was found to be behind
+-- what was found allows this reply: a cycle that began after a look and was seen to end, or the seat that was found behind
 abbrev pub MayNote : Looks → CollectReply → Type 0
 MayNote looks (Cycle j) = FirstUpTo looks.first (cycle_phases * j) × (cycle_phases * (j + 1) ≤ looks.seen)
 MayNote looks (Waits other answered phase) = looks.behind ≡ Some (record { seat = other; answered = answered; phase = phase })
 
--- the seat of this number may make the inner call after what it found: it asks another seat of the heap, and notes what it has found
+-- the seat may make the inner call: it asks another seat of the heap, and notes only what it has found
 abbrev pub MayMake : Heap → ℕ → Looks → Inner → Type 0
 MayMake heap number looks Look = Unit {0}
 MayMake heap number looks Answer = Unit {0}

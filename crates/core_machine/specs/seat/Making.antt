@@ -36,7 +36,7 @@ abbrev pub settled_place : Command → Making
 settled_place (commands.Array d cells) = Placing
 settled_place _ = Storing
 
--- enough is gathered: the first fragments are the new object's, the rest is the reserve, of the group that was claimed last
+-- enough is gathered: the new object has the first fragments, and the rest is the reserve, of the group claimed last
 abbrev pub after_gather : Heap → Seat → Seat
 after_gather heap seat = record seat {
   reserve = drop (need seat) (fragments_gathered seat);
@@ -68,12 +68,12 @@ abbrev pub after_claim : Heap → Seat → ℕ → Seat
 after_claim heap seat found =
     gather_next heap (record seat { hand = seat.hand ++ clear_in (next_group_of heap seat) found; tried = seat.tried + 1 })
 
--- the spine words were asked for where so many were granted or asked for: beside those they are too many, or the gathering begins
+-- the spine words were asked for: beside those granted or asked for they are too many, or the gathering begins
 abbrev pub after_budget : Heap → Seat → ℕ → Seat
 after_budget heap seat found =
     if nat_lt heap.spine (found + spine_need seat) then record seat { used = found; place = places.Making Withdrawing } else gather_next heap seat
 
--- the group of the first fragment, and of the last
+-- the group of the first fragment
 abbrev pub first_group_of : List ℕ → ℕ
 first_group_of fragments = slice_index_or fragments 0 0 / group_fragments
 
@@ -101,7 +101,7 @@ after_give_back seat = record seat {
   place = places.Making (refusal_place (part_out (first_group_of seat.hand) seat.hand));
 }
 
--- the name and the id of the seat's next object
+-- the name of the seat's next object
 abbrev pub next_name : ℕ → Seat → Name
 next_name number seat = record { owner = number + 1; count = seat.made }
 
@@ -130,7 +130,7 @@ list_place listed words = if nat_lt listed words then Listing else Storing
 abbrev pub after_listing : Seat → Seat
 after_listing seat = record seat { listed = seat.listed + 1; place = places.Making (list_place (seat.listed + 1) (spine_need seat)) }
 
--- where the fragments stand when so many words are stored
+-- what comes once so many words of the new object are stored
 abbrev pub store_place : ℕ → List ℕ → Making
 store_place stored body = if stored == 4 * length body then Bearing else Storing
 

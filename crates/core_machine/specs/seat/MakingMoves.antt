@@ -24,11 +24,11 @@ use Rattle.core_machine.specs.Move.{Move, plain_move}
 abbrev pub grant_move : Heap → ℕ → Seat → Move
 grant_move heap number seat = plain_move (steps.Spine (BudgetAdd (spine_need seat))) (after_budget heap seat) (λ found. [])
 
--- what a refusal of spine words shows: what was needed, and what was found to be granted, as far as thirty-two bits tell
+-- what a refusal of spine words shows: what was needed, and what was found to be granted, in thirty-two bits
 abbrev pub spine_full_entry : ℕ → Seat → Entry
 spine_full_entry number seat = Said number seat.command (replies.SpineFull (spine_need seat) (seat.used % 2 ^ 32))
 
--- they were too many: they are taken back, and the refusal is told
+-- the spine words that were too many are taken back, and their refusal is told
 abbrev pub withdraw_move : ℕ → Seat → Move
 withdraw_move number seat =
     plain_move (steps.Spine (BudgetTakeBack (spine_need seat))) (λ found. after_call seat) (λ found. spine_full_entry number seat ∷ [])
@@ -99,7 +99,7 @@ bears_black_of seat =
 abbrev pub last_part : Seat → List ℕ
 last_part seat = run_of seat.hand
 
--- the hand has no other group than its last
+-- all of the hand's fragments are of one group
 abbrev pub is_last_birth : Seat → Bool
 is_last_birth seat = list_all (in_group (last_group_of seat.hand)) seat.hand
 

@@ -14,7 +14,7 @@ use Rattle.core_machine.specs.declared.place.Place.TheVariants.{Idle}
 use Rattle.core_machine.specs.declared.seat.register.Register.{Register}
 use Rattle.core_machine.specs.seat.Looks.{Looks, no_looks, forgotten}
 
--- where no spine stands that the seat knows of
+-- the place of a spine while the seat knows of none
 abbrev pub no_spot : Spot
 no_spot = record { half = 0; offset = 0 }
 
@@ -58,7 +58,7 @@ pub record Seat : Type 0 where
   pub part : ℕ
   -- where the spine stands of the array that its call is in, once that was loaded
   pub address : Spot
-  -- the field that the call has loaded: for a get, while the name of what it refers to is awaited, and for a set with the barrier on
+  -- the field that the call has loaded: for a get while it awaits a name, and for a set with the barrier on
   pub loaded : ℕ
   -- the phase that it is about to answer
   pub asked : ℕ
@@ -148,7 +148,7 @@ call_over seat = record seat {
   shaded = 0;
 }
 
--- so it is after a reply, which forgets what was found since the last one
+-- the call is over with its reply, and the seat forgets what it has found since the one before
 abbrev pub after_call : Seat → Seat
 after_call seat = record (call_over seat) { looks = forgotten seat.looks }
 

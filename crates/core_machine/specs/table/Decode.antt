@@ -70,7 +70,7 @@ spine_words_in word = option_map_or array_words (array_length_of word) 0
 abbrev pub link_of : ℕ → ℕ
 link_of word = unwrap_or (pointer_in 0 word) 0
 
--- the id in a name
+-- the id in a name of this owner and count
 abbrev pub id_of_owner : ℕ → ℕ → Id
 id_of_owner owner count = if owner == 0 then Board else Made (owner - 1) count
 
@@ -101,8 +101,7 @@ IsWithinHeap heap fragment = IfSome fragment (λ f. f < group_fragments * heap.g
 abbrev pub payload_in : ℕ → ℕ
 payload_in word = (cell_of word).value
 
--- the word that was found at the address leads within the heap: a fragment's word to one of its fragments or nowhere, and a spine word
--- names one
+-- the word found at the address leads within the heap: a fragment's word to a fragment or nowhere, a spine word to one
 abbrev pub FoundPointsWithin : Heap → Address → ℕ → Type 0
 FoundPointsWithin heap (Word fragment part) found = IsWithinHeap heap (pointer_in part found)
 FoundPointsWithin heap (Spine half offset) found = payload_in found < group_fragments * heap.groups

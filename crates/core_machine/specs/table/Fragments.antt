@@ -17,7 +17,7 @@ out_of_group group fragment = not (in_group group fragment)
 abbrev pub part_in : ℕ → List ℕ → List ℕ
 part_in group fragments = filter (in_group group) fragments
 
--- the others
+-- the fragments of the list that are in other groups
 abbrev pub part_out : ℕ → List ℕ → List ℕ
 part_out group fragments = filter (out_of_group group) fragments
 

@@ -10,8 +10,7 @@ use Rattle.core_machine.specs.declared.table.address.Address.TheVariants.{Phase,
 abbrev pub table_length : Heap → ℕ
 table_length heap = 19 + 65 * heap.groups + 4 * heap.spine
 
--- where a spine word stands behind the fragments: the words of half 0, then those of half 1; where its offset is too large, past the end of
--- the table, in no other's place
+-- a spine word's place behind the fragments, half 0 before half 1; too large an offset has a place of its own past the table's end
 abbrev pub spine_index : ℕ → ℕ → ℕ → ℕ
 spine_index spine half offset = if nat_lt offset (2 * spine) then 2 * spine * half + offset else 2 * offset + half
 
@@ -25,7 +24,7 @@ index_of heap (Control group) = 19 + group
 index_of heap (Word fragment part) = 19 + heap.groups + 4 * fragment + part
 index_of heap (Spine half offset) = 19 + 65 * heap.groups + spine_index heap.spine half offset
 
--- the address is one of the heap's; of a spine word the offset is left open, since past the end of the table 0 is read and nothing written
+-- the address is one of the heap's; a spine word's offset is left open, since past the table's end 0 is read and nothing written
 abbrev pub InTable : Heap → Address → Type 0
 InTable heap Phase = Unit {0}
 InTable heap (Answer seat) = seat < most_seats
@@ -45,7 +44,7 @@ pub record FitsSpot (spot : SpinePlace) : Type 0 where
   pub half_within : spot.half < 2
   pub offset_within : spot.offset < 2 ^ 31
 
--- where word k of a spine stands whose first one stands at this spot
+-- the address of word k of the spine that begins at this spot
 abbrev pub spine_place : SpinePlace → ℕ → Address
 spine_place spot k = Spine spot.half (spot.offset + k)
 

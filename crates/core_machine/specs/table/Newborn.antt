@@ -21,7 +21,7 @@ link_after fragments k =
 abbrev pub record_meta : ℕ → List ℕ → ℕ
 record_meta fields fragments = meta_word (record { array = false; length = fields; next = slice_index_or fragments 1 0 })
 
--- the words of its first fragment
+-- the words of a record's first fragment: its meta, its name, and two fields that were never set
 abbrev pub head_word_of : Name → ℕ → List ℕ → ℕ → ℕ
 head_word_of name fields fragments part =
     if part == 0 then record_meta fields fragments else if part == 1 then name_word name else 0
@@ -39,7 +39,7 @@ spine_word fragment = cell_word (fixed_cell fragment 0)
 abbrev pub array_meta : ℕ → ℕ
 array_meta cells = meta_word (record { array = true; length = cells; next = 0 })
 
--- the words of its first fragment: its meta, its name, the place of its spine, and a fixed word that tells nothing
+-- the words of an array's first fragment: its meta, its name, the place of its spine, and a fixed word that tells nothing
 abbrev pub sentinel_word_of : Name → ℕ → Spot → ℕ → ℕ
 sentinel_word_of name cells spine part =
     if part == 0 then array_meta cells else if part == 1 then name_word name else if part == 2 then spot_word spine else cell_word (fixed_cell 0 0)

@@ -50,7 +50,7 @@ spine_address (SpineStore half offset fragment) = addresses.Spine half offset
 spine_address (AddressLoad sentinel) = addresses.Word sentinel 2
 spine_address (WordLoad half offset) = addresses.Spine half offset
 
--- a seat tells what it has answered in its own word
+-- the word that an answer or a leave touches: the seat's own
 abbrev pub handshake_address : HandshakeStep → Address
 handshake_address (AnswerStore seat phase) = addresses.Answer seat
 handshake_address (LeaveStore seat) = addresses.Answer seat
@@ -113,7 +113,7 @@ spine_operation (SpineStore half offset fragment) = Store (spine_word fragment)
 spine_operation (AddressLoad sentinel) = Load
 spine_operation (WordLoad half offset) = Load
 
--- what a seat does with its own word
+-- what an answer or a leave does with its word
 abbrev pub handshake_operation : HandshakeStep → Operation
 handshake_operation (AnswerStore seat phase) = Store phase
 handshake_operation (LeaveStore seat) = Store LEFT

@@ -16,7 +16,7 @@ use Rattle.heap_model.specs.account.Sweep.{Sweeps}
 use Rattle.heap_model.specs.account.Refusals.{RefusesRightly}
 pub use Rattle.heap_model.specs.account.Refusals.{given_up, FindsSpace, ShowsSpace, RefusesSpine}
 
--- a seat takes what is there, and gives back what it has
+-- a seat takes some of what is free, and gives back some of what it has
 abbrev pub TakesAndGives : Heap → List Entry → Entry → Type 0
 TakesAndGives heap before (entries.Takes number count) = (1 ≤ count) × (fragments_gained before + count ≤ group_fragments * heap.groups + fragments_lost before)
 TakesAndGives heap before (entries.GivesBack number count) = (1 ≤ count) × (spent_of number before + count ≤ taken_of number before)
@@ -27,14 +27,14 @@ abbrev pub most_kept : Command → ℕ
 most_kept commands.Leave = 0
 most_kept _ = most_reserve
 
--- an object is made of what its maker has, and little is kept after a reply
+-- an object is made of what its maker has; after a reply a seat keeps a reserve at most, and after a leave nothing
 abbrev pub MakesOfOwn : List Entry → Entry → Type 0
 MakesOfOwn before (entries.Said number command reply) =
     (spent_of number before + made_by command reply ≤ taken_of number before)
     × (taken_of number before ≤ spent_of number before + made_by command reply + most_kept command)
 MakesOfOwn before _ = Unit {0}
 
--- the entry keeps the rules after those before it, in a play or in a run
+-- the entry keeps the rules of space and phases after those before it, in a play or in a run
 pub record KeepsSpace (heap : Heap) (play : Bool) (before : List Entry) (entry : Entry) : Type 0 where
   pub takes : TakesAndGives heap before entry
   pub makes : MakesOfOwn before entry
@@ -46,11 +46,11 @@ pub record KeepsSpace (heap : Heap) (play : Bool) (before : List Entry) (entry :
   pub ends : EndsCycle heap before entry
   pub shows : ShowsRightly heap play before entry
 
--- memory may be lacked for a legal entry alone, one that makes an object, begins a cycle, or swings an array
+-- memory may be lacking only for an entry that keeps the rules, and that makes an object, begins a cycle or swings an array
 abbrev pub MayLackMemory : Heap → Bool → List Entry → Entry → Type 0
 MayLackMemory heap play before entry = KeepsSpace heap play before entry × WantsMemory entry
 
--- each entry keeps the rules after those before it
+-- each entry keeps the rules of space and phases after those before it
 abbrev pub KeepsSpaceAfter : Heap → Bool → List Entry → List Entry → Type 0
 KeepsSpaceAfter heap play before [] = Unit {0}
 KeepsSpaceAfter heap play before (entry ∷ rest) = KeepsSpace heap play before entry × KeepsSpaceAfter heap play (before ++ entry ∷ []) rest

@@ -22,25 +22,32 @@ use Rattle.heap_model.specs.account.SeatBooks.{account_at, TellsSeat}
 -- what an account keeps
 pub record Books : Type 0 where
   pub heap : Heap
+  -- how many entries it has counted
   pub entries : ℕ
+  -- what they come to
   pub all : Effect
+  -- what is kept of each seat
   pub seats : List SeatAccount
+  -- what is kept of the last cycle that began
   pub cycle : Cycle
+  -- the arrays that have swung in this phase
   pub swung : List Id
+  -- the cycle that the last entry ended
   pub ended : Option ℕ
+  -- how many objects each seat made
   pub made : List ℕ
 
 -- the seat has left or answered the phase
 abbrev pub IsUpToDate : Books → ℕ → Type 0
 IsUpToDate books number = is_some (account_at books.seats number).left ≡ false → (account_at books.seats number).own.answers ≡ books.all.phases
 
--- the sums fit
+-- each sum that is kept of a cycle is below 2^100
 pub record CycleFits (cycle : Cycle) : Type 0 where
   pub frags : cycle.frags < 2 ^ 100
   pub words : cycle.words < 2 ^ 100
   pub brought : cycle.brought < 2 ^ 100
 
--- so few entries were counted that the sums fit
+-- the heap is within its limits, and so few entries were counted that the sums fit
 pub record AreBooks (heap : Heap) (entries : ℕ) (all : Effect) (seats : List SeatAccount) (cycle : Cycle) : Type 0 where
   pub heap_fits : IsHeap heap
   pub entries_fit : entries ≤ 2 ^ 32
@@ -48,7 +55,7 @@ pub record AreBooks (heap : Heap) (entries : ℕ) (all : Effect) (seats : List S
   pub seats_fit : (number : ℕ) → IsFew entries (account_at seats number).own
   pub cycle_fits : CycleFits cycle
 
--- what is kept of the last cycle is so in the history
+-- what is kept of the last cycle is what the history says of it
 pub record TellsCycle (heap : Heap) (cycle : Cycle) (history : List Entry) : Type 0 where
   pub reached : AreReached (graph_of heap (up_to_cycle history)) cycle.reached.items
   pub frags : cycle.frags ≡ fragments_of_all (graph_of heap (up_to_cycle history)) cycle.reached.items
@@ -57,7 +64,7 @@ pub record TellsCycle (heap : Heap) (cycle : Cycle) (history : List Entry) : Typ
   pub taken : cycle.taken_then ≡ total (λ e. e.taken) (up_to_cycle history)
   pub granted : cycle.words_then ≡ words_granted (up_to_cycle history)
 
--- the account tells the history
+-- what the account keeps is what the history says
 pub record Tells (books : Books) (history : List Entry) : Type 0 where
   pub entries : books.entries ≡ length history
   pub all : IsMeasured books.all (λ part. total part history)

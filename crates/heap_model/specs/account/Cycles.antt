@@ -26,12 +26,12 @@ brings number history = fragments_unborn number (up_to_reply number history) + t
 abbrev pub all_bring : Heap → List Entry → ℕ
 all_bring heap history = sum_by (λ number. brings number history) (range_with_len 0 heap.seats)
 
--- a cycle leaves at most what was reached when it began, what the seats brought, and what was taken since
+-- the most fragments that a cycle may leave: what was reached when it began, what the seats brought, and what was taken since
 abbrev pub bound : Heap → List Id → List Entry → ℕ
 bound heap reached history =
     fragments_of_all (graph_of heap (up_to_cycle history)) reached + all_bring heap (up_to_cycle history) + total (λ e. e.taken) (since_cycle history)
 
--- and the spine words of what was reached, and of the arrays that were made since
+-- the most spine words that it may leave: those of what was reached when it began, and of the arrays that were made since
 abbrev pub spine_bound : Heap → List Id → List Entry → ℕ
 spine_bound heap reached history = spine_words_of_all (graph_of heap (up_to_cycle history)) reached + words_granted (since_cycle history)
 
@@ -50,12 +50,12 @@ pub record IsWithinBounds (heap : Heap) (before : List Entry) (kept : ℕ) (begu
 abbrev pub LeavesWithinBounds : Heap → List Entry → ℕ → Type 0
 LeavesWithinBounds heap before kept = (begun : List Id) → IsReach (graph_of heap (up_to_cycle before)) begun → IsWithinBounds heap before kept begun
 
--- what was reached both when the cycle began and now was kept
+-- no fewer fragments were kept than what was reached both when the cycle began and now has
 abbrev pub KeepsReached : Heap → List Entry → ℕ → Type 0
 KeepsReached heap before kept =
     (both : List Id) → IsReachOfBoth (graph_of heap (up_to_cycle before)) (graph_of heap before) both → fragments_of_all (graph_of heap before) both ≤ kept
 
--- a cycle leaves little, and keeps what is reached
+-- a cycle leaves no more than its bounds, and keeps no less than what stays reached
 pub record LeavesLittle (heap : Heap) (before : List Entry) (kept : ℕ) : Type 0 where
   pub within : LeavesWithinBounds heap before kept
   pub reached : KeepsReached heap before kept

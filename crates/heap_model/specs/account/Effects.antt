@@ -5,11 +5,11 @@ use Rattle.heap_model.specs.declared.entry.Entry.TheVariants as entries
 use Rattle.heap_model.specs.declared.account.effect.Effect.{Effect}
 use Rattle.heap_model.specs.Needs.{made_by, words_by}
 
--- nothing
+-- what an entry comes to that changes no count
 abbrev pub no_effect : Effect
 no_effect = record { taken = 0; given = 0; born = 0; freed = 0; words = 0; returned = 0; phases = 0; answers = 0 }
 
--- what an entry does
+-- what an entry comes to: how much it adds to each count
 abbrev pub effect_of : Entry → Effect
 effect_of (entries.Said number command reply) = record no_effect { born = made_by command reply; words = words_by command reply }
 effect_of (entries.Takes number count) = record no_effect { taken = count }

@@ -32,13 +32,18 @@ IsSeatBelow seats entry = IfSome (seat_of entry) (λ number. number < seats)
 abbrev pub is_behind_now : Effect → List SeatAccount → ℕ → Bool
 is_behind_now all seats number = if is_some (account_at seats number).left then false else nat_lt (account_at seats number).own.answers all.phases
 
--- what is kept of a seat
+-- what is kept of a seat once the entry is counted
 pub record IsNotedSeat (heap : Heap) (all : Effect) (seats : List SeatAccount) (number : ℕ) (entry : Entry) (old new : SeatAccount) : Type 0 where
+  -- what its own entries come to
   pub own : new.own ≡ (if is_of number entry then plus old.own (effect_of entry) else old.own)
+  -- what they came to at its last reply
   pub own_then : new.own_then ≡ (if is_reply_to number entry then new.own else old.own_then)
+  -- what all entries came to then
   pub all_then : new.all_then ≡ (if is_reply_to number entry then plus all (effect_of entry) else old.all_then)
+  -- which seats were behind then
   pub behind_then : (other : ℕ) → other < heap.seats
       → slice_index_or new.behind_then other false ≡ (if is_reply_to number entry then is_behind_now all seats other else slice_index_or old.behind_then other false)
+  -- the phase in which it left
   pub left : new.left ≡ (if is_leave_of number entry then Some (last_phase old all.phases) else old.left)
 
 -- the cycle that the entry ends
@@ -46,7 +51,7 @@ abbrev pub ended_by : Entry → Option ℕ
 ended_by (entries.Ends cycle kept) = Some cycle
 ended_by _ = None
 
--- what is kept of all, but for what swung, the cycle and the objects
+-- what the account keeps once the entry is counted, but for what swung, the cycle and the objects made
 pub record IsCounted (old : Books) (entry : Entry) (new : Books) : Type 0 where
   pub heap : new.heap ≡ old.heap
   pub entries : new.entries ≡ old.entries + 1
@@ -54,7 +59,7 @@ pub record IsCounted (old : Books) (entry : Entry) (new : Books) : Type 0 where
   pub seats : (number : ℕ) → number < old.heap.seats → IsNotedSeat old.heap old.all old.seats number entry (account_at old.seats number) (account_at new.seats number)
   pub ended : new.ended ≡ ended_by entry
 
--- what is kept of all
+-- what the account keeps once an entry that was prepared for is counted
 pub record IsNoted (old : Books) (entry : Entry) (new : Books) : Type 0 where
   pub counted : IsCounted old entry new
   pub swung : new.swung ≡ (if begins_phase entry then [] else old.swung)

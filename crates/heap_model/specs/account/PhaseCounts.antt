@@ -9,11 +9,11 @@ use Rattle.heap_model.specs.declared.entry.Entry.TheVariants as entries
 use Rattle.heap_model.specs.account.Space.{total, total_of}
 use Rattle.heap_model.specs.account.Windows.{since_reply}
 
--- the phase: how many were begun, since the opening has phase 0
+-- the phase: how many phases were begun, since the opening has phase 0
 abbrev pub phase : List Entry → ℕ
 phase history = total (λ e. e.phases) history
 
--- the seat's last answer: how many it gave, since it answers every phase once
+-- the phase that the seat answered last: how many answers it gave, since it answers each phase once
 abbrev pub last_answer : ℕ → List Entry → ℕ
 last_answer number history = total_of number (λ e. e.answers) history
 
@@ -26,7 +26,7 @@ is_leave_of number _ = false
 abbrev pub has_left : ℕ → List Entry → Bool
 has_left number history = list_any (is_leave_of number) history
 
--- the seats that have not left have answered the phase
+-- each seat that has not left has answered the phase
 abbrev pub AllAnswered : Heap → List Entry → Type 0
 AllAnswered heap history = (number : ℕ) → number < heap.seats → has_left number history ≡ false → last_answer number history ≡ phase history
 

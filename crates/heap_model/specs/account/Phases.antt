@@ -24,24 +24,23 @@ abbrev pub BeginsPhase : Heap → List Entry → Entry → Type 0
 BeginsPhase heap before (entries.Advance p) = (p ≡ phase before + 1) × (p % cycle_phases ≢ rest) × AllAnswered heap before
 BeginsPhase heap before _ = Unit {0}
 
--- the seat is there, and this is its last answer, while this is the phase
+-- the seat has not left, `answer` is its last answer, and `p` is the phase
 pub record IsBehind (number answer p : ℕ) (history : List Entry) : Type 0 where
   pub present : has_left number history ≡ false
   pub answered : last_answer number history ≡ answer
   pub here : phase history ≡ p
 
--- so it was for the other seat at some place since the last reply of `s`, the place right after that reply among them
+-- the other seat was behind in this way at some time since this seat's last reply, right after that at the earliest
 abbrev pub WasBehind : ℕ → ℕ → ℕ → ℕ → List Entry → Type 0
 WasBehind number other answer p history =
     (later rest : List Entry) × (since_reply number history ≡ later ++ rest) × IsBehind other answer p (up_to_reply number history ++ later)
 
--- in a play a seat is behind when this is shown; in a run it was, by one phase, since the last reply of `s`
+-- in a play the other seat is behind now; in a run it was, by one phase, at some time since this seat's last reply
 abbrev pub SawBehind : Bool → List Entry → ℕ → ℕ → ℕ → ℕ → Type 0
 SawBehind true before number other answer p = IsBehind other answer p before
 SawBehind false before number other answer p = (p ≡ answer + 1) × WasBehind number other answer p before
 
--- a poll shows the phase, which the seat has answered; a collect shows a cycle that began since the seat's last reply and has
--- ended, or another seat that is behind
+-- a poll shows the phase that its seat has answered; a collect a cycle begun and ended since its last reply, or another seat behind
 abbrev pub ShowsPhases : Heap → Bool → List Entry → ℕ → Command → Reply → Type 0
 ShowsPhases heap play before number commands.Poll (replies.Phase p) = (p ≡ phase before) × (p ≡ last_answer number before)
 ShowsPhases heap play before number commands.Collect (replies.Cycle cycle) = HasEnded cycle before × BeganSince number cycle before
@@ -49,13 +48,13 @@ ShowsPhases heap play before number commands.Collect (replies.Waits other answer
     (other < heap.seats) × (other ≢ number) × (answer < p) × SawBehind play before number other answer p
 ShowsPhases heap play before number _ _ = Unit {0}
 
--- a turn shows the cycle that has just ended, or a seat that is behind
+-- the answer to a command of the collector shows the cycle that has just ended, a seat that is behind, or nothing
 abbrev pub TurnShows : Heap → List Entry → TurnReply → Type 0
 TurnShows heap before turns.Done = Unit {0}
 TurnShows heap before (turns.Cycle cycle) = JustEnded cycle before
 TurnShows heap before (turns.Waits other answer p) = (other < heap.seats) × (answer < p) × IsBehind other answer p before
 
--- what is shown of phases is right
+-- what the entry shows of phases is right
 abbrev pub ShowsRightly : Heap → Bool → List Entry → Entry → Type 0
 ShowsRightly heap play before (entries.Said number command reply) = ShowsPhases heap play before number command reply
 ShowsRightly heap play before (entries.Turned command reply) = TurnShows heap before reply

@@ -21,7 +21,7 @@ use Rattle.heap_model.specs.account.SeatBooks.{account_at}
 abbrev pub brought_by : SeatAccount → ℕ
 brought_by seat = seat.own.taken - (seat.own_then.given + seat.own_then.born)
 
--- what is kept of a cycle that begins here
+-- what the account keeps of a cycle that begins with this graph
 pub record IsBegun (books : Books) (g : Graph) (cycle : Cycle) : Type 0 where
   pub reached : AreReached g cycle.reached.items
   pub frags : cycle.frags ≡ fragments_of_all g cycle.reached.items
@@ -37,16 +37,16 @@ IsWithinBy books kept =
     × (books.all.words ≤ books.all.returned + books.cycle.words + (books.all.words - books.cycle.words_then))
     × (kept ≤ books.cycle.frags + books.cycle.brought + (books.all.taken - books.cycle.taken_then))
 
--- what the entry needs memory for is kept: an array that swings, a cycle that begins, where each object had its mark, and a mark
--- for an object that is made
+-- what the entry needs memory for is kept: an array that swings, a cycle that begins, a mark for an object that is made
 pub record IsPrepared (old : Books) (g : Graph) (entry : Entry) (new : Books) : Type 0 where
   pub rest : new ≡ record old { cycle = new.cycle; swung = new.swung; made = new.made }
   pub swung : (id : Id) → Contains new.swung id ↔ Contains old.swung id ⊎ (entry ≡ entries.Swings id)
+  -- what is kept of a cycle that begins, where each object of the graph had its mark
   pub begun : begins_cycle entry ≡ true → old.made ≡ made_counts g → IsBegun old g new.cycle
   pub same : begins_cycle entry ≡ false → new.cycle ≡ old.cycle
   pub made : new.made ≡ counts_after old.made entry
 
--- memory is wanted for an entry that makes an object, begins a cycle, or swings an array
+-- the entry needs memory: it makes an object, begins a cycle, or swings an array
 abbrev pub WantsMemory : Entry → Type 0
 WantsMemory (entries.Said number command reply) = makes (entries.Said number command reply) ≡ true
 WantsMemory (entries.Advance p) = p % cycle_phases ≡ barriers

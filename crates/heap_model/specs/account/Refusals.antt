@@ -11,12 +11,11 @@ use Rattle.heap_model.specs.account.Space.{total, total_but, fragments_gained, f
 use Rattle.heap_model.specs.Needs.{array_words, need_of, spine_need_of}
 use Rattle.heap_model.specs.account.Windows.{since_reply}
 
--- what the seat may have missed: what was freed, and what others gave back
+-- what was given up beside the seat: what was freed, and what others gave back
 abbrev pub given_up : ℕ → List Entry → ℕ
 given_up number history = total (λ e. e.freed) history + total_but number (λ e. e.given) history
 
--- in a play what is in no use is found, and the seat's own; in a run what was given up since the seat's last reply may be missed,
--- and what others took since may be counted
+-- in a play just what is free and the seat's own is found; in a run up to what was given up or others took since its last reply
 abbrev pub FindsSpace : Heap → Bool → List Entry → ℕ → ℕ → Type 0
 FindsSpace heap true before number found = found + fragments_gained before + spent_of number before ≡ group_fragments * heap.groups + fragments_lost before + taken_of number before
 FindsSpace heap false before number found =
@@ -28,26 +27,25 @@ abbrev pub ShowsSpace : Heap → Bool → List Entry → ℕ → Command → Rep
 ShowsSpace heap play before number command (replies.Full need found) = (need ≡ need_of command) × (found < need) × FindsSpace heap play before number found
 ShowsSpace heap play before number command _ = Unit {0}
 
--- a refusal shows what is needed and what was found, and that is too little
+-- an entry that refuses fragments shows what is needed and what was found, which is less
 abbrev pub RefusesRightly : Heap → Bool → List Entry → Entry → Type 0
 RefusesRightly heap play before (entries.Said number command reply) = ShowsSpace heap play before number command reply
 RefusesRightly heap play before _ = Unit {0}
 
--- in a play the spine words in use are found; in a run those of arrays that others made since the seat's last reply may be
--- missed, and those that were returned since may be counted, and what another seat asks for
+-- in a play the spine words in use are found; in a run up to what was returned or others made since its last reply, or ask for
 abbrev pub FindsSpine : Heap → Bool → List Entry → ℕ → ℕ → Type 0
 FindsSpine heap true before number shown = shown + words_returned before ≡ words_granted before
 FindsSpine heap false before number shown =
     (words_granted before ≤ shown + words_returned before + total_but number (λ e. e.words) (since_reply number before))
     × (shown + words_returned before ≤ words_granted before + words_returned (since_reply number before) + array_words most_cells * (heap.seats - 1))
 
--- an array is refused where its spine words are too many beside those in use
+-- an array is refused where its spine words are too many beside those that were found
 abbrev pub ShowsSpine : Heap → Bool → List Entry → ℕ → Command → Reply → Type 0
 ShowsSpine heap play before number command (replies.SpineFull need shown) =
     (need ≡ spine_need_of command) × (heap.spine < shown + need) × FindsSpine heap play before number shown
 ShowsSpine heap play before number command _ = Unit {0}
 
--- a refusal of spine words shows what is needed and what is used, and that is too much
+-- an entry that refuses spine words shows what is needed and what was found, together too many
 abbrev pub RefusesSpine : Heap → Bool → List Entry → Entry → Type 0
 RefusesSpine heap play before (entries.Said number command reply) = ShowsSpine heap play before number command reply
 RefusesSpine heap play before _ = Unit {0}

@@ -17,11 +17,11 @@ use Rattle.heap_model.specs.account.PhaseCounts.{has_left}
 abbrev pub no_seat : SeatAccount
 no_seat = record { own = no_effect; own_then = no_effect; all_then = no_effect; behind_then = []; left = None }
 
--- what is kept of a seat
+-- what is kept of the seat of this number
 abbrev pub account_at : List SeatAccount → ℕ → SeatAccount
 account_at seats number = slice_index_or seats number no_seat
 
--- the first phase in which the other was seen behind since a seat's last reply, and its last phase
+-- the first phase since the seat's last reply in which the other was behind: the phase then, if it was behind, or else the next
 abbrev pub first_behind : SeatAccount → ℕ → ℕ
 first_behind seat other = seat.all_then.phases + (if slice_index_or seat.behind_then other false then 0 else 1)
 
@@ -33,7 +33,7 @@ last_phase seat now = unwrap_or seat.left now
 abbrev pub IsFrom : ℕ → ℕ → ℕ → Type 0
 IsFrom first last p = (first ≤ p) × (p ≤ last)
 
--- what all and what others did since the seat's last reply is the difference of what is kept
+-- what all or others did since the seat's last reply is the difference of what is kept now and what was then
 pub record TellsSince (all : Effect) (number : ℕ) (seat : SeatAccount) (history : List Entry) : Type 0 where
   pub freed : total (λ e. e.freed) (since_reply number history) + seat.all_then.freed ≡ all.freed
   pub returned : total (λ e. e.returned) (since_reply number history) + seat.all_then.returned ≡ all.returned
@@ -41,7 +41,7 @@ pub record TellsSince (all : Effect) (number : ℕ) (seat : SeatAccount) (histor
   pub taken : total_but number (λ e. e.taken) (since_reply number history) + seat.own.taken + seat.all_then.taken ≡ all.taken + seat.own_then.taken
   pub words : total_but number (λ e. e.words) (since_reply number history) + seat.own.words + seat.all_then.words ≡ all.words + seat.own_then.words
 
--- what is kept of the seat is so in the history
+-- what is kept of the seat is what the history says of it
 pub record TellsSeat (heap : Heap) (all : Effect) (seats : List SeatAccount) (number : ℕ) (seat : SeatAccount) (history : List Entry) : Type 0 where
   pub own : IsMeasured seat.own (λ part. total_of number part history)
   pub own_then : IsMeasured seat.own_then (λ part. total_of number part (up_to_reply number history))
@@ -51,8 +51,10 @@ pub record TellsSeat (heap : Heap) (all : Effect) (seats : List SeatAccount) (nu
   pub solvent : seat.own_then.given + seat.own_then.born ≤ seat.own_then.taken
   pub richer : seat.own_then.taken ≤ seat.own.taken
   pub earlier : seat.all_then.phases ≤ all.phases
+  -- a seat that has not left is behind by one phase at most
   pub kept_up : is_some seat.left ≡ false → all.phases ≤ seat.own.answers + 1
   pub gone : last_phase seat all.phases ≤ all.phases
+  -- the phases that began since its last reply, but for those that the end of a cycle began
   pub began : (p : ℕ) → Contains (since_reply number history) (entries.Advance p) ↔ (seat.all_then.phases < p) × (p ≤ all.phases) × (p % cycle_phases ≢ rest)
   pub behind : (other answer : ℕ) → other < heap.seats → other ≢ number
       → WasBehind number other answer (answer + 1) history ↔ IsFrom (first_behind seat other) (last_phase (account_at seats other) all.phases) (answer + 1)

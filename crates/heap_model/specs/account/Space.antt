@@ -6,23 +6,23 @@ use Rattle.heap_model.specs.declared.account.effect.Effect.{Effect}
 pub use Rattle.heap_model.specs.Needs.{need_of, made_by, words_by, record_fragments}
 pub use Rattle.heap_model.specs.account.Effects.{effect_of, is_of}
 
--- a part of what all entries did
+-- one count, summed over all entries
 abbrev pub total : (Effect → ℕ) → List Entry → ℕ
 total part history = sum_by (λ e. part (effect_of e)) history
 
--- a part of what one seat's entries did
+-- one count, summed over a seat's own entries
 abbrev pub total_of : ℕ → (Effect → ℕ) → List Entry → ℕ
 total_of number part history = sum_by (λ e. if is_of number e then part (effect_of e) else 0) history
 
--- a part of what the others' entries did, the collector's among them
+-- one count, summed over all but a seat's entries, the collector's among them
 abbrev pub total_but : ℕ → (Effect → ℕ) → List Entry → ℕ
 total_but number part history = sum_by (λ e. if is_of number e then 0 else part (effect_of e)) history
 
--- the board's fragments, and what was taken
+-- the board's fragments, and all that were ever taken
 abbrev pub fragments_gained : List Entry → ℕ
 fragments_gained history = board_fragments + total (λ e. e.taken) history
 
--- what was given back or freed
+-- all fragments that were ever given back or freed
 abbrev pub fragments_lost : List Entry → ℕ
 fragments_lost history = total (λ e. e.given) history + total (λ e. e.freed) history
 
@@ -30,11 +30,11 @@ fragments_lost history = total (λ e. e.given) history + total (λ e. e.freed) h
 abbrev pub fragments_used : List Entry → ℕ
 fragments_used history = fragments_gained history - fragments_lost history
 
--- the spine words of the arrays that were made
+-- the spine words of all arrays that were ever made
 abbrev pub words_granted : List Entry → ℕ
 words_granted history = total (λ e. e.words) history
 
--- the spine words that were returned
+-- all spine words that were ever returned
 abbrev pub words_returned : List Entry → ℕ
 words_returned history = total (λ e. e.returned) history
 

@@ -2,7 +2,7 @@
 use Rattle.std.specs.Prelude.{◌≡◌, ℕ, ◌+◌, ◌*◌, ◌≤◌}
 use Rattle.heap_model.specs.declared.account.effect.Effect.{Effect}
 
--- the sums of the two
+-- what the two come to together
 abbrev pub plus : Effect → Effect → Effect
 plus a b = record {
   taken = a.taken + b.taken;
@@ -15,7 +15,7 @@ plus a b = record {
   answers = a.answers + b.answers;
 }
 
--- each part is what so many entries may come to, which have a count of 32 bits each
+-- each sum is small enough for so many entries, whose counts have 32 bits each
 pub record IsFew (entries : ℕ) (sums : Effect) : Type 0 where
   pub taken : sums.taken ≤ 4294967295 * entries
   pub given : sums.given ≤ 4294967295 * entries
@@ -26,7 +26,7 @@ pub record IsFew (entries : ℕ) (sums : Effect) : Type 0 where
   pub phases : sums.phases ≤ 4294967295 * entries
   pub answers : sums.answers ≤ 4294967295 * entries
 
--- each part is what the measure says of it
+-- each sum is what the measure says of its count
 pub record IsMeasured (sums : Effect) (measure : (Effect → ℕ) → ℕ) : Type 0 where
   pub taken : sums.taken ≡ measure (λ e. e.taken)
   pub given : sums.given ≡ measure (λ e. e.given)

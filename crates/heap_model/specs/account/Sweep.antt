@@ -21,8 +21,7 @@ IsArray g id = IsSomeAnd (node g id) (λ object. object.array ≡ true)
 abbrev pub HasSwung : Id → List Entry → Type 0
 HasSwung id history = Contains (after_last begins_phase history) (entries.Swings id)
 
--- fragments and spine words are given up in the phase of the sweep, as many as there are; an array swings in the phase before,
--- and once
+-- the sweep frees and returns some of what there is, and in the phase of copying each array swings at most once
 abbrev pub Sweeps : Heap → List Entry → Entry → Type 0
 Sweeps heap before (entries.Frees count) = (phase before % cycle_phases ≡ sweep) × (1 ≤ count) × (fragments_lost before + count ≤ fragments_gained before)
 Sweeps heap before (entries.Returns count) = (phase before % cycle_phases ≡ sweep) × (1 ≤ count) × (words_returned before + count ≤ words_granted before)

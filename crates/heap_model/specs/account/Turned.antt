@@ -21,27 +21,27 @@ abbrev pub AnswersRightly : Heap → List Entry → Entry → Type 0
 AnswersRightly heap before (entries.Turned command reply) = TurnShows heap before reply
 AnswersRightly heap before _ = Unit {0}
 
--- so does each of these entries, after those before it
+-- each of these entries that answers a command of the collector shows what is so after those before it
 abbrev pub AllAnswerRightly : Heap → List Entry → List Entry → Type 0
 AllAnswerRightly heap before [] = Unit {0}
 AllAnswerRightly heap before (entry ∷ rest) = AnswersRightly heap before entry × AllAnswerRightly heap (before ++ entry ∷ []) rest
 
--- answers to commands of the collector may be put between the entries of a play, each where it shows what is so, and all stays legal
+-- a legal play stays legal with answers to commands of the collector between its entries, where each shows what is so
 abbrev pub TurnedMayStand : Type 0
 TurnedMayStand = (heap : Heap) (history : List Entry) → IsLegal heap true (without_turned history) → AllAnswerRightly heap [] history
     → IsLegal heap true history
 
--- they change no count of fragments or spine words
+-- the answers to commands of the collector change no count of fragments or spine words
 pub record CountsStay (history : List Entry) : Type 0 where
   pub gained_stay : fragments_gained (without_turned history) ≡ fragments_gained history
   pub lost_stay : fragments_lost (without_turned history) ≡ fragments_lost history
   pub granted_stay : words_granted (without_turned history) ≡ words_granted history
   pub returned_stay : words_returned (without_turned history) ≡ words_returned history
 
--- so it is in each history
+-- in every history those answers change no count
 abbrev pub TurnedCountNothing : Type 0
 TurnedCountNothing = (history : List Entry) → CountsStay history
 
--- and a seat that is behind without them is behind with them
+-- a seat that is behind without those answers is behind with them
 abbrev pub TurnedHoldNobody : Type 0
 TurnedHoldNobody = (number answer p : ℕ) (history : List Entry) → IsBehind number answer p (without_turned history) → IsBehind number answer p history

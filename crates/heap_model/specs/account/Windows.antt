@@ -5,12 +5,12 @@ use Rattle.heap_model.specs.PhasePlan.{cycle_phases, barriers}
 use Rattle.heap_model.specs.declared.entry.Entry.{Entry}
 use Rattle.heap_model.specs.declared.entry.Entry.TheVariants as entries
 
--- the entries up to the last one that passes the test, which is the last of them
+-- the entries up to the last one that passes the test, with that one; none where no entry passes
 abbrev pub up_to_last : (Entry → Bool) → List Entry → List Entry
 up_to_last test [] = []
 up_to_last test (entry ∷ history) = if list_any test (entry ∷ history) then entry ∷ up_to_last test history else []
 
--- the entries after the last one that passes the test
+-- the entries after the last one that passes the test; all where no entry passes
 abbrev pub after_last : (Entry → Bool) → List Entry → List Entry
 after_last test [] = []
 after_last test (entry ∷ history) = if list_any test (entry ∷ history) then after_last test history else entry ∷ history

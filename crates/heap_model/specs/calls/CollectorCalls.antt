@@ -7,17 +7,20 @@ use Rattle.heap_model.specs.PhasePlan.{cycle_phases, rest, copying, sweep, clear
 use Rattle.heap_model.specs.declared.calls.collector_calls.Turn.{Turn}
 use Rattle.heap_model.specs.declared.calls.collector_calls.Turn.TheVariants as turns
 
--- the collector's entries in their order, for how many more there is room, the phase, the number of its turns as far
--- as it is counted, and what the last of them answered
+-- what contracts see of the collector
 pub record CollectorState : Type 0 where
+  -- its entries, in their order
   pub log : List Entry
+  -- for how many more entries it has room
   pub spare : ℕ
+  -- the phase
   pub phase : ℕ
+  -- how many turns it has made, as far as 64 bits count them
   pub turns : ℕ
+  -- what its last turn answered
   pub last_turn : Option Turn
 
--- the entry is one that a step adds which ends no cycle, and leads from a phase to a phase: fragments and spine words are given up in
--- the sweep alone, arrays swing while copying, and no step but the end of a cycle comes to rest
+-- a turn that ends no cycle may tell this entry in the first phase, and leads to the second
 abbrev pub StepsTo : ℕ → Entry → ℕ → Type 0
 StepsTo phase (entries.Advance next) later = (next ≡ phase + 1) × (next % cycle_phases ≢ rest) × (later ≡ next)
 StepsTo phase (entries.Frees count) later = (phase % cycle_phases ≡ sweep) × (1 ≤ count) × (later ≡ phase)
@@ -25,7 +28,7 @@ StepsTo phase (entries.Returns count) later = (phase % cycle_phases ≡ sweep) �
 StepsTo phase (entries.Swings id) later = (phase % cycle_phases ≡ copying) × (later ≡ phase)
 StepsTo phase _ later = ⊥
 
--- no entry was added
+-- no entry was added, and the phase is the same
 abbrev pub AddsNone : CollectorState → CollectorState → Type 0
 AddsNone old new = (new.log ≡ old.log) × (new.phase ≡ old.phase)
 
@@ -37,7 +40,7 @@ ComesTo old new (turns.Waits seat answered phase) =
 ComesTo old new (turns.Ended cycle kept) =
     (new.log ≡ old.log ++ entries.Ends cycle kept ∷ []) × (old.phase ≡ cycle_phases * cycle + clearing) × (new.phase ≡ cycle_phases * cycle + cycle_phases)
 
--- one turn was made, and is the last one
+-- one turn was made, and this is its answer
 pub record Turns (old new : CollectorState) (turn : Turn) : Type 0 where
   pub comes_to : ComesTo old new turn
   pub spare : old.spare + length old.log ≤ new.spare + length new.log

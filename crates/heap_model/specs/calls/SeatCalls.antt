@@ -39,7 +39,7 @@ gives_of number counts = map (GivesBack number) counts
 abbrev pub IsGroupCount : ℕ → Type 0
 IsGroupCount count = IsWithin 1 group_fragments count
 
--- beside what a seat had of its own these claims are enough for an object; before the last of them it was too little, and little is left over
+-- with what a seat had these claims are enough for an object, before the last they weren't, and at most a reserve is left over
 pub record GathersEnough (unborn need : ℕ) (counts : List ℕ) : Type 0 where
   pub of_groups : All IsGroupCount counts
   pub needed : (earlier : List ℕ) (last : ℕ) → counts ≡ earlier ++ last ∷ [] → unborn + sum earlier < need
@@ -64,21 +64,20 @@ abbrev pub ArrayBefore : ℕ → ℕ → ℕ → Reply → List Entry → Type 0
 ArrayBefore number unborn need (replies.SpineFull shown used) before = before ≡ []
 ArrayBefore number unborn need reply before = ClaimsBefore number unborn need reply before
 
--- the phase that a seat answered last is told; the next one is answered first
+-- a poll tells the phase that the seat has answered last, or answers the next one and tells that
 abbrev pub AnswersBefore : ℕ → ℕ → Reply → List Entry → Type 0
 AnswersBefore number last (replies.Phase p) before = ((p ≡ last) × (before ≡ [])) ⊎ ((p ≡ last + 1) × (before ≡ Answers number p ∷ []))
 AnswersBefore number last _ before = ⊥
 
--- what a seat gives back that leaves with so many fragments of its own
+-- what a seat with so many fragments of its own gives back as it leaves
 abbrev pub last_gives : ℕ → ℕ → List Entry
 last_gives number unborn = if unborn == 0 then [] else GivesBack number unborn ∷ []
 
--- what a seat tells that leaves with so many fragments of its own: it gives them back, if there are any, and is done
+-- what a seat with so many fragments of its own tells as it leaves: it gives them back, if it has any, and is done
 abbrev pub leave_entries : ℕ → ℕ → List Entry
 leave_entries number unborn = last_gives number unborn ++ Said number commands.Leave replies.Done ∷ []
 
--- the entries that come right before the seat's reply to the command, where it had so many fragments of its own and has answered this phase last;
--- a collect is no single call
+-- the entries right before the reply to a command, by the seat's own fragments and its last answer; a collect is no single call
 abbrev pub ComesBefore : ℕ → ℕ → ℕ → Command → Reply → List Entry → Type 0
 ComesBefore number unborn last (commands.New d fields) reply before = ClaimsBefore number unborn (record_fragments fields) reply before
 ComesBefore number unborn last (commands.Array d cells) reply before = ArrayBefore number unborn (array_fragments cells) reply before

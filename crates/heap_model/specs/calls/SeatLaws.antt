@@ -36,7 +36,7 @@ EachCallIsShort =
     (number unborn last : ℕ) (command : Command) (reply : Reply) (before : List Entry) → ComesBefore number unborn last command reply before
     → length before + 1 ≤ 2 * need_of command + 2
 
--- so much room is left after a call: for no more entries than those is it spent
+-- a call spends room for at most two entries for each fragment that its command needs, and two more
 abbrev pub EachCallLeavesRoom : Type 0
 EachCallLeavesRoom = (old new : SeatState) (command : Command) (reply : Reply) → Adds old new command reply → old.spare ≤ new.spare + 2 * need_of command + 2
 
@@ -44,27 +44,27 @@ EachCallLeavesRoom = (old new : SeatState) (command : Command) (reply : Reply) �
 abbrev pub BoardStays : Type 0
 BoardStays = (seat : SeatState) → IsSeat seat → (own_graph_seat seat).left ≡ false → held_value seat 0 ≡ Object Board
 
--- a call changes what the seat's own entries tell by its reply alone
+-- a call changes the graph of the seat's own entries by its reply alone
 abbrev pub EachCallGrows : Type 0
 EachCallGrows = (old new : SeatState) (command : Command) (reply : Reply) → Adds old new command reply → own_graph new ≡ after_reply (own_graph old) old.number command reply
 
--- no call but a leave leaves, and a call makes one object at most and does one set at most
+-- only a leave makes the seat leave, and the call makes one object at most and does one set at most
 pub record CountsUp (old new : SeatState) (command : Command) : Type 0 where
   pub present_stays : command ≢ Leave → (own_graph_seat new).left ≡ (own_graph_seat old).left
   pub made_more : length (own_graph_seat new).objects ≤ length (own_graph_seat old).objects + 1
   pub sets_more : (own_graph_seat new).sets ≤ (own_graph_seat old).sets + 1
 
--- each call counts up so
+-- each call counts up by no more than that
 abbrev pub EachCallCounts : Type 0
 EachCallCounts = (old new : SeatState) (command : Command) (reply : Reply) → Adds old new command reply → CountsUp old new command
 
--- the seat has left where it had, and made no object and did no set
+-- the seat has left where it had, and has made no object and done no set since
 pub record CountsAsBefore (old new : GraphSeat) : Type 0 where
   pub leaves_same : new.left ≡ old.left
   pub made_same : length new.objects ≡ length old.objects
   pub sets_same : new.sets ≡ old.sets
 
--- a call leaves all other seats so
+-- a call leaves the counts of all other seats as they were
 abbrev pub EachCallSparesOthers : Type 0
 EachCallSparesOthers = (old new : SeatState) (command : Command) (reply : Reply) (other : ℕ) → Adds old new command reply → other ≢ old.number
     → CountsAsBefore (graph_seat (own_graph old) other) (graph_seat (own_graph new) other)

@@ -26,7 +26,7 @@ array_reply (Ok id) = replies.Made id
 array_reply (Err (spaces.Full need found)) = replies.Full need found
 array_reply (Err (spaces.SpineFull need used)) = replies.SpineFull need used
 
--- the reply of a place that wasn't reached
+-- the reply where no object or no field was reached
 abbrev pub refusal_reply : PlaceRefusal → Reply
 refusal_reply places.NoObject = replies.NoObject
 refusal_reply places.NoField = replies.NoField

@@ -15,8 +15,7 @@ pub record SeatState : Type 0 where
   pub mine : List Entry
   pub spare : ℕ
 
--- the graph that grows by the seat's own entries alone: it has the seat's registers, the board and the objects that
--- the seat made, but not what others set
+-- the graph that the seat's own entries make: its registers, the board and its objects, without what others set
 abbrev pub own_graph : SeatState → Graph
 own_graph seat = graph_after (opening seat.heap) seat.mine
 

@@ -12,11 +12,11 @@ use Rattle.heap_model.specs.graph.Graph.{Node, GraphSeat, Graph, fresh}
 abbrev pub with_graph_seat : Graph → ℕ → GraphSeat → Graph
 with_graph_seat g number p = record g { seats = slice_set g.seats number p }
 
--- the register d of the seat holds the value
+-- the graph in which register d of the seat holds the value
 abbrev pub with_register : Graph → ℕ → ℕ → Value → Graph
 with_register g number d value = with_graph_seat g number (record (graph_seat g number) { registers = slice_set (graph_seat g number).registers d value })
 
--- the seat made one more object, and its register d holds it
+-- the graph with one more object of the seat, which its register d holds
 abbrev pub add : Graph → ℕ → ℕ → Node → Graph
 add g number d object =
     let made = graph_seat g number in
@@ -42,15 +42,15 @@ write g (Object (Made other count)) i cell = with_graph_seat g other (with_objec
 abbrev pub set_stamp : ℕ → ℕ → ℕ
 set_stamp number n = (number + 1) * stamp_limit + n
 
--- the seat did one more set
+-- the graph in which the seat did one more set
 abbrev pub count_set : Graph → ℕ → Graph
 count_set g number = with_graph_seat g number (record (graph_seat g number) { sets = (graph_seat g number).sets + 1 })
 
--- the seat did one more set: the cell i of what its register r refers to holds the value of its register v
+-- the graph after one more set of the seat: cell i of what its register r refers to holds the value of its register v
 abbrev pub set_cell : Graph → ℕ → ℕ → ℕ → ℕ → Graph
 set_cell g number r i v =
     write (count_set g number) (register_value g number r) i (record { value = register_value g number v; stamp = set_stamp number ((graph_seat g number).sets + 1) })
 
--- the seat's registers are empty, and it has left
+-- the graph in which the seat's registers are empty, and it has left
 abbrev pub leave : Graph → ℕ → Graph
 leave g number = with_graph_seat g number (record (graph_seat g number) { registers = replicate register_count Nil; left = true })

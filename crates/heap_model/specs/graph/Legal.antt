@@ -9,7 +9,7 @@ use Rattle.heap_model.specs.graph.Graph.{Graph, opening}
 use Rattle.heap_model.specs.graph.Growth.{after_entry}
 pub use Rattle.heap_model.specs.graph.Replies.{Says, Gets, Sets, Compares, Polls, Collects, length_reply}
 
--- the seat is below the seats, and hasn't left
+-- the seat is one of the heap's, and hasn't left
 abbrev pub IsPresent : Graph → ℕ → Type 0
 IsPresent g number = (graph_seat g number).left ≡ false
 
@@ -26,6 +26,6 @@ abbrev pub AcceptsAll : Graph → List Entry → Type 0
 AcceptsAll g [] = Unit {0}
 AcceptsAll g (entry ∷ history) = Accepts g entry × AcceptsAll (after_entry g entry) history
 
--- each reply is the one that a heap gives which never collects
+-- each reply is that of a heap that never collects
 abbrev pub IsObjectLegal : Heap → List Entry → Type 0
 IsObjectLegal heap history = AcceptsAll (opening heap) history

@@ -26,11 +26,11 @@ mark_of m (Made number count) = slice_get (marks_of m number) count
 abbrev pub HasMark : Marking → Id → Type 0
 HasMark m id = mark_of m id ≡ Some true
 
--- whether there is and it is
+-- whether there is an object of this id, and it is marked
 abbrev pub is_marked : Marking → Id → Bool
 is_marked m id = unwrap_or (mark_of m id) false
 
--- the marks, that of this id among them
+-- the marks with that of this id set
 abbrev pub with_mark : Marking → Id → Marking
 with_mark m Board = record m { board = true }
 with_mark m (Made number count) = record m { seats = slice_set m.seats number (slice_set (marks_of m number) count true) }
@@ -47,7 +47,7 @@ all_marks m = 1 + sum_by length m.seats
 abbrev pub mark_counts : Marking → List ℕ
 mark_counts m = map length m.seats
 
--- so many marks of each seat, and the board's, of which none is set
+-- marks of which none is set: the board's, and so many of each seat
 abbrev pub no_marks : List ℕ → Marking
 no_marks counts = record { board = false; seats = map (λ n. replicate n false) counts }
 
@@ -55,7 +55,7 @@ no_marks counts = record { board = false; seats = map (λ n. replicate n false) 
 abbrev pub HasMarks : Graph → Marking → Type 0
 HasMarks g m = mark_counts m ≡ made_counts g
 
--- where the value refers to an object, that one is marked
+-- where the value refers to an object that has a mark, this is set
 abbrev pub IsFound : Marking → Value → Type 0
 IsFound m Nil = Unit {0}
 IsFound m (Number n) = Unit {0}

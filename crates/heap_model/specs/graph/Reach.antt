@@ -48,7 +48,7 @@ pub record AreReached (g : Graph) (ids : List Id) : Type 0 where
   pub once : AllPairs (λ id later. id ≢ later) ids
   pub reached : (id : Id) → Contains ids id ↔ Reaches g id
 
--- the list has exactly the reached ones of the ids, each once where the ids are there once
+-- the second list has exactly the reached ids of the first, each once where the first has each once
 pub record AreReachedAmong (g : Graph) (ids both : List Id) : Type 0 where
   pub once : AllPairs (λ id later. id ≢ later) ids → AllPairs (λ id later. id ≢ later) both
   pub reached : (id : Id) → Contains both id ↔ Contains ids id × Reaches g id

@@ -10,7 +10,7 @@ use Rattle.heap_model.specs.declared.graph.cell.Cell.{Cell}
 use Rattle.heap_model.specs.graph.Objects.{graph_seat, register_value, target_node, cell_at}
 use Rattle.heap_model.specs.graph.Graph.{Node, Graph}
 
--- an object is made under the seat's next count, or there is too little space
+-- an object is made, under the seat's next count, or there is too little space
 abbrev pub Makes : Graph → ℕ → Reply → Type 0
 Makes g number (replies.Made id) = id ≡ Made number (length (graph_seat g number).objects)
 Makes g number (replies.Full need found) = Unit {0}

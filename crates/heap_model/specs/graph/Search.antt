@@ -23,8 +23,7 @@ pub record HasPlaces (m : Marking) (found places capacity : ℕ) : Type 0 where
   pub room : places ≤ capacity
   pub left : unmarked m + found ≤ places
 
--- the ids that were found, so many as counted, are the marked ones; the next one to look at is among them, or all were looked at;
--- and there is a place for each to come
+-- the ids that were found are the marked ones, as many as `place` were looked at, and there is a place for each to come
 pub record HasFound (m : Marking) (ids : List Id) (place count places capacity : ℕ) : Type 0 where
   pub found : AreMarked m ids
   pub next : place ≤ length ids
@@ -47,8 +46,7 @@ FoundFromSeat m seat = All (IsFound m) seat.registers
 abbrev pub FoundFromObject : Marking → Node → Type 0
 FoundFromObject m object = All (λ cell. IsFound m cell.value) object.cells
 
--- marked are reached objects alone, among them all that a register refers to, and all that a marked object refers to
--- unless that one waits
+-- only reached objects are marked, among them what registers refer to, and what a marked object refers to unless that one waits
 pub record IsSearch (g : Graph) (walk : Search) : Type 0 where
   pub objects : HasMarks g walk.marks
   pub reached : (id : Id) → HasMark walk.marks id → Reaches g id

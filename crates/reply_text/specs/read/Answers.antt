@@ -8,7 +8,7 @@ use Rattle.script_text.specs.Numbers.{number_below}
 use Rattle.reply_text.specs.read.Tokens.{◌>>=◌, by_first, first_by, after_word, number_at, word_id, word_stamp}
 use Rattle.reply_text.specs.read.Parts.{value_at, lack_at, wait_at}
 
--- a reply to `new`
+-- a reply to `new`, by its first word
 abbrev pub making_at : List ℕ → List (List ℕ) → Option (Reply × List (List ℕ))
 making_at word rest =
     if bytes_eq word (codes "full") then (do
@@ -18,7 +18,7 @@ making_at word rest =
       id ← word_id word
       Some (replies.Made id, rest))
 
--- a reply to `array`
+-- a reply to `array`, by its first word
 abbrev pub arraying_at : List ℕ → List (List ℕ) → Option (Reply × List (List ℕ))
 arraying_at word rest =
     if bytes_eq word (codes "spine") then (do
@@ -26,7 +26,7 @@ arraying_at word rest =
       Some (replies.SpineFull lack.0.0 lack.0.1, lack.1))
     else making_at word rest
 
--- what isn't there, after `no`
+-- the reply that no such object or field is there, after `no`
 abbrev pub nowhere_at : List (List ℕ) → Option (Reply × List (List ℕ))
 nowhere_at [] = None
 nowhere_at (word ∷ rest) =
@@ -34,7 +34,7 @@ nowhere_at (word ∷ rest) =
     else if bytes_eq word (codes "field") then Some (replies.NoField, rest)
     else None
 
--- a reply to `get`
+-- a reply to `get`, by its first word
 abbrev pub getting_at : List ℕ → List (List ℕ) → Option (Reply × List (List ℕ))
 getting_at word rest =
     if bytes_eq word (codes "no") then nowhere_at rest
@@ -44,7 +44,7 @@ getting_at word rest =
       stamp ← first_by word_stamp stamped
       Some (replies.Got value.0 stamp.0, stamp.1))
 
--- a reply to `set`
+-- a reply to `set`, by its first word
 abbrev pub setting_at : List ℕ → List (List ℕ) → Option (Reply × List (List ℕ))
 setting_at word rest =
     if bytes_eq word (codes "no") then nowhere_at rest
@@ -53,18 +53,18 @@ setting_at word rest =
       Some (replies.Was stamp.0, stamp.1))
     else None
 
--- a reply to a command that can't fail
+-- a reply to a command that can't be refused, by its first word
 abbrev pub done_at : List ℕ → List (List ℕ) → Option (Reply × List (List ℕ))
 done_at word rest = if bytes_eq word (codes "ok") then Some (replies.Done, rest) else None
 
--- a reply to `same`
+-- a reply to `same`, by its first word
 abbrev pub comparing_at : List ℕ → List (List ℕ) → Option (Reply × List (List ℕ))
 comparing_at word rest =
     if bytes_eq word (codes "yes") then Some (replies.Yes, rest)
     else if bytes_eq word (codes "no") then Some (replies.No, rest)
     else None
 
--- a reply to `len`
+-- a reply to `len`, by its first word
 abbrev pub measuring_at : List ℕ → List (List ℕ) → Option (Reply × List (List ℕ))
 measuring_at word rest =
     if bytes_eq word (codes "no") then (do
@@ -74,13 +74,13 @@ measuring_at word rest =
       n ← number_below (2 ^ 16) word
       Some (replies.Length n, rest))
 
--- a reply to `poll`
+-- a reply to `poll`, by its first word
 abbrev pub polling_at : List ℕ → List (List ℕ) → Option (Reply × List (List ℕ))
 polling_at word rest = do
   p ← number_below (2 ^ 64) word
   Some (replies.Phase p, rest)
 
--- a reply to `collect`
+-- a reply to `collect`, by its first word
 abbrev pub collecting_at : List ℕ → List (List ℕ) → Option (Reply × List (List ℕ))
 collecting_at word rest =
     if bytes_eq word (codes "cycle") then (do

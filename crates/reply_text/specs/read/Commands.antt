@@ -7,15 +7,15 @@ use Rattle.script_text.specs.Numbers.{number_of}
 use Rattle.script_text.specs.Operands.{Range, commands, commands_with}
 use Rattle.reply_text.specs.read.Tokens.{◌>>=◌, first_by}
 
--- a number in the range
+-- the number, where it is in the range
 abbrev pub within : Range → ℕ → Option ℕ
 within range n = if nat_le range.0 n && nat_le n range.1 then Some n else None
 
--- an operand in the range
+-- the operand that a word is, where it is in the range
 abbrev pub operand_of : Range → List ℕ → Option ℕ
 operand_of range word = number_of word >>= within range
 
--- the operands, one for each range
+-- the operands at the front of the words, one for each range
 abbrev pub operands_at : List Range → List (List ℕ) → Option (List ℕ × List (List ℕ))
 operands_at [] words = Some ([], words)
 operands_at (range ∷ ranges) words = do
@@ -23,7 +23,7 @@ operands_at (range ∷ ranges) words = do
   more ← operands_at ranges first.1
   Some (first.0 ∷ more.0, more.1)
 
--- the command of a script that begins with this word
+-- the command of a seat in a script that begins with this word
 abbrev pub scripted_at : List ℕ → List (List ℕ) → Option (Command × List (List ℕ))
 scripted_at name rest = do
   ranges ← lookup (bytes_eq name) commands
@@ -31,6 +31,6 @@ scripted_at name rest = do
   command ← lookup (bytes_eq name) (commands_with numbers.0)
   Some (command, numbers.1)
 
--- the command of a history that begins with this word
+-- the command of a seat in a history that begins with this word
 abbrev pub command_at : List ℕ → List (List ℕ) → Option (Command × List (List ℕ))
 command_at word rest = if bytes_eq word (codes "leave") then Some (Leave, rest) else scripted_at word rest

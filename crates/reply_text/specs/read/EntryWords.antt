@@ -35,7 +35,7 @@ seat_entry seat (word ∷ rest) =
       Some (entries.Answers seat phase.0, phase.1))
     else said_at seat word rest
 
--- the collector's command `turns` and its reply
+-- the collector's command `turns` and its reply, after that word
 abbrev pub turns_at : List (List ℕ) → Option (Entry × List (List ℕ))
 turns_at rest = do
   n ← number_at 1000001 rest
@@ -43,14 +43,14 @@ turns_at rest = do
   reply ← turning_at told
   Some (entries.Turned (commands.Turns n.0) reply.0, reply.1)
 
--- its command `cycle` and its reply
+-- the collector's command `cycle` and its reply, after that word
 abbrev pub cycle_at : List (List ℕ) → Option (Entry × List (List ℕ))
 cycle_at rest = do
   told ← after_word (codes "=") rest
   reply ← cycling_at told
   Some (entries.Turned commands.Cycle reply.0, reply.1)
 
--- a command of the collector and its reply, of which a run has none
+-- a command of the collector and its reply, by its first word; a run has none
 abbrev pub turned_at : Form → List ℕ → List (List ℕ) → Option (Entry × List (List ℕ))
 turned_at Play word rest =
     if bytes_eq word (codes "turns") then turns_at rest
@@ -66,7 +66,7 @@ ends_at rest = do
   kept ← number_at (2 ^ 64) named
   Some (entries.Ends cycle.0 kept.0, kept.1)
 
--- what the collector did, after its word `c`
+-- an entry of the collector, after its word `c`
 abbrev pub collector_entry : Form → List (List ℕ) → Option (Entry × List (List ℕ))
 collector_entry form [] = None
 collector_entry form (word ∷ rest) =

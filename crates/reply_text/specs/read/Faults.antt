@@ -15,7 +15,7 @@ use Rattle.reply_text.specs.read.LineWords.{line_of}
 use Rattle.reply_text.specs.read.Tokens.{◌>>=◌}
 use Rattle.reply_text.specs.read.Stages.{first_stage, after_line}
 
--- a line with what is wrong with it
+-- the fault of this line, by its cause
 abbrev pub fault_at : ℕ → Cause → Option LineFault
 fault_at number cause = Some (record { line = number; cause = cause })
 
@@ -30,7 +30,7 @@ abbrev pub history_line_fault : ℕ → Option Stage → (Stage → Option LineF
 history_line_fault number None rest = fault_at number BadEntry
 history_line_fault number (Some stage) rest = if number == too_many then fault_at number HistoryLines else rest stage
 
--- the first fault of the lines, of which the first has this number
+-- the first fault of these lines, the first of which has this number
 abbrev pub history_lines_fault : Form → ℕ → Stage → ℕ → List (List ℕ) → Option LineFault
 history_lines_fault form seats stage number [] = end_fault stage number
 history_lines_fault form seats stage number (line ∷ more) =

@@ -37,7 +37,7 @@ line_at form seats (word ∷ rest) =
       entry ← entry_at form seats word rest
       Some (lines.Entry entry.0, entry.1))
 
--- what stands alone
+-- what was read, where no words are left behind it
 abbrev pub alone : {A : Type 0} → A × List (List ℕ) → Option A
 alone (x, []) = Some x
 alone (x, word ∷ rest) = None

@@ -5,7 +5,7 @@ use Rattle.heap_model.specs.declared.id.Value.{Value}
 use Rattle.heap_model.specs.declared.id.Value.TheVariants as values
 use Rattle.reply_text.specs.read.Tokens.{◌>>=◌, first_by, after_word, number_at, word_id}
 
--- a value
+-- a value, by its first word
 abbrev pub value_at : List ℕ → List (List ℕ) → Option (Value × List (List ℕ))
 value_at word rest =
     if bytes_eq word (codes "nil") then Some (values.Nil, rest)
@@ -17,7 +17,7 @@ value_at word rest =
       Some (values.Object id.0, id.1))
     else None
 
--- what is needed, and what was there instead, after the kind of space
+-- what is needed, and what was there instead, after the word for what is lacking
 abbrev pub lack_at : List ℕ → List (List ℕ) → Option ((ℕ × ℕ) × List (List ℕ))
 lack_at shown words = do
   named ← after_word (codes "need") words
@@ -26,7 +26,7 @@ lack_at shown words = do
   number ← number_at (2 ^ 32) counted
   Some ((need.0, number.0), number.1)
 
--- the seat that is waited for, and what it answered, after `waits`
+-- the seat that is waited for, what it answered and the phase, after `waits`
 abbrev pub wait_at : List (List ℕ) → Option ((ℕ × ℕ × ℕ) × List (List ℕ))
 wait_at words = do
   seat ← number_at most_seats words

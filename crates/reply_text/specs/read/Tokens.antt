@@ -6,32 +6,32 @@ use Rattle.heap_model.specs.declared.id.Id.{Id}
 use Rattle.heap_model.specs.declared.id.Id.TheVariants.{Board, Made}
 use Rattle.script_text.specs.Numbers.{number_below}
 
--- one step after the other, if there is each
+-- what the second step gives after the first, where both give something
 infixl 10 ◌>>=◌
 abbrev pub ◌>>=◌ : {A B : Type 0} → Option A → (A → Option B) → Option B
 None >>= f = None
 (Some x) >>= f = f x
 
--- the first word, as this reads it
+-- what this reads the first word as, with the words after it
 abbrev pub first_by : {A : Type 0} → (List ℕ → Option A) → List (List ℕ) → Option (A × List (List ℕ))
 first_by read [] = None
 first_by read (word ∷ rest) = option_map (λ x. (x, rest)) (read word)
 
--- what the first word and those after it tell
+-- what this makes of the first word and those after it
 abbrev pub by_first : {A : Type 0} → (List ℕ → List (List ℕ) → Option A) → List (List ℕ) → Option A
 by_first read [] = None
 by_first read (word ∷ rest) = read word rest
 
--- what follows this word
+-- the words after this one, where it stands first
 abbrev pub after_word : List ℕ → List (List ℕ) → Option (List (List ℕ))
 after_word text [] = None
 after_word text (word ∷ rest) = if bytes_eq word text then Some rest else None
 
--- a number below the limit
+-- the first word as a number below the limit, with the words after it
 abbrev pub number_at : ℕ → List (List ℕ) → Option (ℕ × List (List ℕ))
 number_at limit words = first_by (number_below limit) words
 
--- the only two parts
+-- the two parts, where there are just two
 abbrev pub pair_of : List (List ℕ) → Option (List ℕ × List ℕ)
 pair_of (first ∷ second ∷ []) = Some (first, second)
 pair_of _ = None
@@ -40,7 +40,7 @@ pair_of _ = None
 abbrev pub word_parts : ℕ → List ℕ → Option (List ℕ × List ℕ)
 word_parts mark word = pair_of (slice_split (λ b. b == mark) word)
 
--- an id of a seat, by its two parts
+-- the id of an object that a seat made, by its two parts
 abbrev pub made_of : List ℕ × List ℕ → Option Id
 made_of parts = do
   seat ← number_below most_seats parts.0
@@ -51,11 +51,11 @@ made_of parts = do
 abbrev pub word_id : List ℕ → Option Id
 word_id word = if bytes_eq word (codes "board") then Some Board else (word_parts 46 word >>= made_of)
 
--- a count of sets, which begins at 1
+-- the stamp of a seat's set of this count, which begins at 1
 abbrev pub set_of : ℕ → ℕ → Option ℕ
 set_of seat count = if count == 0 then None else Some ((seat + 1) * stamp_limit + count)
 
--- a stamp of a set, by its two parts
+-- the stamp of a set, by its two parts
 abbrev pub stamp_from : List ℕ × List ℕ → Option ℕ
 stamp_from parts = do
   seat ← number_below most_seats parts.0

@@ -19,7 +19,7 @@ abbrev pub work_line : BriefCounts → List ℕ
 work_line counts =
     sentence (codes "made" ∷ decimal counts.made ∷ codes "cycles" ∷ decimal counts.cycles ∷ codes "freed" ∷ decimal counts.freed ∷ codes "swung" ∷ decimal counts.swung ∷ [])
 
--- the space line of a play
+-- the space line, where there is a mark
 abbrev pub mark_lines : Option SpaceMark → List (List ℕ)
 mark_lines None = []
 mark_lines (Some mark) = history_line (space_line mark) ∷ []

@@ -7,7 +7,7 @@ use Rattle.heap_model.specs.declared.entry.Entry.{Entry}
 use Rattle.heap_model.specs.declared.entry.Entry.TheVariants as entries
 use Rattle.reply_text.specs.declared.write.counts.BriefCounts.{BriefCounts}
 
--- a command was answered, and it is no leave
+-- a command of a seat was answered, and it is no leave
 abbrev pub is_command : Entry → Bool
 is_command (entries.Said seat Leave reply) = false
 is_command (entries.Said seat command reply) = true
@@ -26,7 +26,7 @@ abbrev pub is_made : Entry → Bool
 is_made (entries.Said seat command (replies.Made id)) = true
 is_made entry = false
 
--- such a command was refused
+-- a command of a seat that is no leave was refused
 abbrev pub is_refused : Entry → Bool
 is_refused (entries.Said seat command reply) = is_command (entries.Said seat command reply) && is_refusal reply
 is_refused entry = false
@@ -36,7 +36,7 @@ abbrev pub is_end : Entry → Bool
 is_end (entries.Ends cycle kept) = true
 is_end entry = false
 
--- the fragments that were freed
+-- how many fragments the entry frees
 abbrev pub freed_by : Entry → ℕ
 freed_by (entries.Frees count) = count
 freed_by entry = 0
@@ -46,7 +46,7 @@ abbrev pub is_swing : Entry → Bool
 is_swing (entries.Swings id) = true
 is_swing entry = false
 
--- the counts and the sum over a whole history
+-- what a brief counts, over a whole history
 abbrev pub counts_of : List Entry → BriefCounts
 counts_of history = record {
   commands = count_by is_command history;

@@ -14,30 +14,30 @@ use Rattle.heap_model.specs.declared.entry.Entry.TheVariants as entries
 use Rattle.script_text.specs.Text.{sentence}
 use Rattle.script_text.specs.Words.{command_words, turn_words}
 
--- an id: the board, or the seat that made the object and its count
+-- the word of an id: the board's, or the seat that made the object and its count
 abbrev pub id_word : Id → List ℕ
 id_word Board = codes "board"
 id_word (Made seat count) = decimal seat ++ codes "." ++ decimal count
 
--- a stamp: none, or the seat that set the cell and the count of that set
+-- the word of a stamp: none, or the seat that set the cell and the count of that set
 abbrev pub stamp_word : ℕ → List ℕ
 stamp_word stamp = if stamp == 0 then codes "-" else decimal (stamp / stamp_limit - 1) ++ codes ":" ++ decimal (stamp % stamp_limit)
 
--- a value
+-- the words of a value
 abbrev pub value_words : Value → List (List ℕ)
 value_words values.Nil = codes "nil" ∷ []
 value_words (values.Number n) = codes "number" ∷ decimal n ∷ []
 value_words (values.Object id) = codes "object" ∷ id_word id ∷ []
 
--- the seat that is waited for, and what it answered
+-- the words of a wait: the seat that is waited for, what it answered, and the phase
 abbrev pub waits_words : ℕ → ℕ → ℕ → List (List ℕ)
 waits_words seat answered phase = codes "waits" ∷ decimal seat ∷ codes "answered" ∷ decimal answered ∷ codes "phase" ∷ decimal phase ∷ []
 
--- what is needed, and what was there instead
+-- the words of a refusal of space: what is needed, and what was there instead
 abbrev pub lack_words : List ℕ → ℕ → List ℕ → ℕ → List (List ℕ)
 lack_words kind need shown number = kind ∷ codes "need" ∷ decimal need ∷ shown ∷ decimal number ∷ []
 
--- a reply
+-- the words of a reply
 abbrev pub reply_words : Reply → List (List ℕ)
 reply_words (replies.Made id) = id_word id ∷ []
 reply_words (replies.Got value stamp) = value_words value ++ codes "at" ∷ stamp_word stamp ∷ []
@@ -54,13 +54,13 @@ reply_words replies.NoField = codes "no" ∷ codes "field" ∷ []
 reply_words (replies.Full need found) = lack_words (codes "full") need (codes "found") found
 reply_words (replies.SpineFull need used) = lack_words (codes "spine") need (codes "used") used
 
--- a reply to a command of the collector
+-- the words of a reply to a command of the collector
 abbrev pub turn_reply_words : TurnReply → List (List ℕ)
 turn_reply_words turns.Done = codes "done" ∷ []
 turn_reply_words (turns.Cycle j) = codes "cycle" ∷ decimal j ∷ []
 turn_reply_words (turns.Waits seat answered phase) = waits_words seat answered phase
 
--- an entry
+-- the words of an entry
 abbrev pub entry_words : Entry → List (List ℕ)
 entry_words (entries.Said seat command reply) = decimal seat ∷ command_words command ++ codes "=" ∷ reply_words reply
 entry_words (entries.Takes seat count) = decimal seat ∷ codes "takes" ∷ decimal count ∷ []

@@ -8,14 +8,14 @@ use Rattle.reply_text.specs.write.Entries.{entry_words}
 use Rattle.reply_text.specs.Written.{IsWritten}
 use Rattle.reply_text.specs.Values.{IsSpace}
 
--- the words of a line
+-- the words of a line of a history
 abbrev pub history_words : HistoryLine → List (List ℕ)
 history_words (lines.Entry entry) = entry_words entry
 history_words (lines.Space used total spine budget) =
     codes "space" ∷ codes "used" ∷ decimal used ∷ codes "of" ∷ decimal total ∷ codes "spine" ∷ decimal spine ∷ codes "of" ∷ decimal budget ∷ []
 history_words (lines.End used) = codes "end" ∷ codes "used" ∷ decimal used ∷ []
 
--- a line, without a line feed
+-- the text of a line of a history, without a line feed
 abbrev pub history_line : HistoryLine → List ℕ
 history_line line = sentence (history_words line)
 
