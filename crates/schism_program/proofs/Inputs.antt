@@ -8,7 +8,7 @@ use Rattle.io_edge.specs.Left.{GivesAll, LosesNext, LosesUpTo}
 use Rattle.schism_program.specs.declared.work.Work.{Work}
 use Rattle.schism_program.specs.declared.work.Work.TheVariants.{Play, Run, Check, Make}
 use Rattle.schism_program.specs.Outcome.{IsReadUpTo}
-use Rattle.schism_program.specs.Works.{most_bytes, Reads}
+use Rattle.schism_program.specs.Works.{most_bytes, HasInput}
 
 -- all that was left is no more than its length
 pub all_up_to : (old new : Option (List ℕ)) (bytes : List ℕ) (most : ℕ) → GivesAll old new bytes → length bytes ≤ most → LosesUpTo old new (most + 1)
@@ -25,7 +25,7 @@ fault_up_to ReadFault old new most long failed wanting = let lost = failed refl 
 fault_up_to Memory old new most long failed wanting = let lost = wanting refl in (lost.0, omega (arith, lost.1), lost.2)
 
 -- a work with an input reads so much of it
-pub work_up_to : (work : Work) (left left' : Option (List ℕ)) → Reads work → LosesUpTo left left' (most_bytes work + 1) → IsReadUpTo work left left'
+pub work_up_to : (work : Work) (left left' : Option (List ℕ)) → HasInput work → LosesUpTo left left' (most_bytes work + 1) → IsReadUpTo work left left'
 work_up_to (Play steady brief) left left' reads lost = lost
 work_up_to (Run locked patience) left left' reads lost = lost
 work_up_to Check left left' reads lost = lost

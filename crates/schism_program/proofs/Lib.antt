@@ -4,4 +4,5 @@ pub mod GivenSettings
 pub mod RangeNumbers
 pub mod SeatScripts
 pub mod RunHistories
+pub mod Forms
 pub mod Inputs

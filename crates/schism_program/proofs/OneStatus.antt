@@ -1,6 +1,6 @@
 -- Words and input call for one status alone.
-use Rattle.std.proofs.Common.{◌≡◌, ◌≢◌, ℕ, Bool, get_or, List, [], ◌∷◌, Option, Some, decimal, refl, sym, ap, subst, ◌∙◌, arith}
-use Rattle.std.specs.Prelude.{codes, unwrap_or}
+use Rattle.std.proofs.Common.{◌≡◌, ◌≢◌, ℕ, Bool, List, [], ◌∷◌, Option, Some, decimal, refl, sym, ap, subst, ◌∙◌, arith}
+use Rattle.std.specs.Prelude.{unwrap_or}
 use Rattle.script_text.specs.declared.cause.Cause.{Cause}
 use Rattle.script_text.specs.declared.cause.LineFault.{LineFault}
 use Rattle.script_text.specs.declared.script.Form.TheVariants as forms
@@ -17,9 +17,10 @@ use Rattle.schism_program.specs.declared.setting.Settings.{Settings}
 use Rattle.schism_program.specs.declared.work.Work.TheVariants.{Play, Run, Check, Make}
 use Rattle.schism_program.specs.Due.{IsDue, IsDueTo, IsInput}
 use Rattle.schism_program.specs.Outcome.{IsRead}
-use Rattle.schism_program.specs.Settings.{no_settings, Gives}
+use Rattle.schism_program.specs.Settings.{no_settings, GiveSettings}
 use Rattle.schism_program.specs.Works.{form_word, usual_patience, AskFor, Completes, FailsAt, IsIllegalAt, IsRunSettings, MakesText, MayBeMade, Suits}
 use Rattle.schism_program.proofs.FirstLines.{same_first}
+use Rattle.schism_program.proofs.Forms.{check_make, first_same, play_check, play_make, play_run, rest_same, run_check, run_make}
 use Rattle.schism_program.proofs.GivenSettings.{same_settings}
 use Rattle.schism_program.proofs.RangeNumbers.{same_number}
 
@@ -103,32 +104,6 @@ same_input (Run locked patience) left left' input input' all its = let gives : G
 same_input Check left left' input input' all its = let gives : GivesAll (Some input') left' input = subst (λ (l : Option (List ℕ)). GivesAll l left' input) its all in gives.0
 same_input (Make start seats lines) left left' input input' all its = all.0 ∙ sym its
 
--- no two forms begin with the same word
-play_run : codes "play" ≢ codes "run"
-play_run same = let first : 112 ≡ 114 = ap (λ (w : List ℕ). get_or w 0 0) same in omega (arith, first)
-
-play_check : codes "play" ≢ codes "check"
-play_check same = let first : 112 ≡ 99 = ap (λ (w : List ℕ). get_or w 0 0) same in omega (arith, first)
-
-play_make : codes "play" ≢ codes "make"
-play_make same = let first : 112 ≡ 109 = ap (λ (w : List ℕ). get_or w 0 0) same in omega (arith, first)
-
-run_check : codes "run" ≢ codes "check"
-run_check same = let first : 114 ≡ 99 = ap (λ (w : List ℕ). get_or w 0 0) same in omega (arith, first)
-
-run_make : codes "run" ≢ codes "make"
-run_make same = let first : 114 ≡ 109 = ap (λ (w : List ℕ). get_or w 0 0) same in omega (arith, first)
-
-check_make : codes "check" ≢ codes "make"
-check_make same = let first : 99 ≡ 109 = ap (λ (w : List ℕ). get_or w 0 0) same in omega (arith, first)
-
--- words that begin alike begin with the same one, and go on alike
-first_same : {one other : List ℕ} {rest more : List (List ℕ)} → one ∷ rest ≡ other ∷ more → one ≡ other
-first_same same = cc
-
-rest_same : {one other : List ℕ} {rest more : List (List ℕ)} → one ∷ rest ≡ other ∷ more → rest ≡ more
-rest_same same = cc
-
 -- numbers that are spelled alike are the same, and so are the scripts that are made of them
 same_made : (start seats lines start' seats' lines' : ℕ) → MayBeMade start seats lines → MayBeMade start' seats' lines' → decimal start ≡ decimal start' → decimal seats ≡ decimal seats' → decimal lines ≡ decimal lines'
     → Make start seats lines ≡ Make start' seats' lines'
@@ -150,10 +125,10 @@ pub asked_once : (words : List (List ℕ)) (one other : Work) → AskFor words o
 asked_once words one other asked asked' = by one other asked.completes asked'.completes (sym asked.begins ∙ asked'.begins) where
   by : (one other : Work) → Completes asked.rest one → Completes asked'.rest other → form_word one ∷ asked.rest ≡ form_word other ∷ asked'.rest → one ≡ other
   by (Play steady brief) (Play steady' brief') gives gives' same =
-      let settings = same_settings no_settings _ _ asked.rest gives (subst (λ rest. Gives no_settings rest (record no_settings { steady = steady'; brief = brief' })) (sym (rest_same same)) gives') in
+      let settings = same_settings no_settings _ _ asked.rest gives (subst (λ rest. GiveSettings no_settings rest (record no_settings { steady = steady'; brief = brief' })) (sym (rest_same same)) gives') in
       ap (λ (s : Settings). Play s.steady s.brief) settings
   by (Run locked patience) (Run locked' patience') (settings, gives, is) (others, gives', is') same =
-      same_run locked locked' patience patience' settings others (same_settings no_settings settings others asked.rest gives (subst (λ rest. Gives no_settings rest others) (sym (rest_same same)) gives')) is is'
+      same_run locked locked' patience patience' settings others (same_settings no_settings settings others asked.rest gives (subst (λ rest. GiveSettings no_settings rest others) (sym (rest_same same)) gives')) is is'
   by Check Check none none' same = refl
   by (Make start seats lines) (Make start' seats' lines') made made' same =
       let words : decimal start ∷ decimal seats ∷ decimal lines ∷ [] ≡ decimal start' ∷ decimal seats' ∷ decimal lines' ∷ [] = sym made.1 ∙ rest_same same ∙ made'.1 in

@@ -1,5 +1,5 @@
 -- The scripts of the seats are those of a run.
-use Rattle.std.proofs.Common.{◌≡◌, ◌≢◌, ℕ, ◌+◌, ◌<◌, ◌≤◌, ◌==◌, Bool, true, false, if◌then◌else◌, List, [], ◌∷◌, ◌++◌, length, map, Vec, Global, sym, ap, ◌∙◌, subst, refl, arith}
+use Rattle.std.proofs.Common.{◌≡◌, ◌≢◌, ℕ, ◌+◌, ◌<◌, ◌≤◌, ◌==◌, Bool, true, false, if◌then◌else◌, List, [], ◌∷◌, ◌++◌, length, map, Vec, Global, sym, ap, ◌∙◌, subst, arith}
 use Rattle.std.specs.Prelude.{All, slice_index_or}
 use Rattle.std.specs.List.{AllByRecursion, range_with_len}
 use Rattle.std.proofs.lemmas.List.{length-map}
@@ -23,7 +23,7 @@ abbrev pub scripts_by_seat : Script → List (List Command)
 scripts_by_seat script = map (λ number. commands_of number script.lines) (range_with_len 0 script.heap.seats)
 
 -- the commands in a list of them
-abbrev items : Vec Command Global → List Command
+abbrev pub items : Vec Command Global → List Command
 items script = script.items
 
 -- a command that a script may have is one of a seat's script
@@ -78,10 +78,10 @@ pub seat_scripts : (scripts : List (Vec Command Global)) (script : Script) → I
 seat_scripts scripts script of_form same k d below =
     let commands = λ (number : ℕ). commands_of number script.lines in
     let found : commands k ≡ (slice_index_or scripts k d).items
-    = sym (get_or-map-range_with_len commands 0 script.heap.seats k k d.items (omega (arith, below, seated scripts script same)) refl) ∙ ap (λ l. slice_index_or l k d.items) (sym same) ∙ get_or-map items scripts k d in
+    = sym (get_or-map-range_with_len commands 0 script.heap.seats k k d.items (omega (arith, below, seated scripts script same)) (omega arith)) ∙ ap (λ l. slice_index_or l k d.items) (sym same) ∙ get_or-map items scripts k d in
     subst IsScript found (seat_script k script of_form)
 
 -- and it is what the seat of its number is handed
 pub handed_script : (scripts : List (Vec Command Global)) (script : Script) (number : ℕ) → number < script.heap.seats → map items scripts ≡ scripts_by_seat script → slice_index_or (map items scripts) number [] ≡ commands_of number script.lines
 handed_script scripts script number within same =
-    ap (λ l. slice_index_or l number []) same ∙ get_or-map-range_with_len (λ n. commands_of n script.lines) 0 script.heap.seats number number [] within refl
+    ap (λ l. slice_index_or l number []) same ∙ get_or-map-range_with_len (λ n. commands_of n script.lines) 0 script.heap.seats number number [] within (omega arith)

@@ -7,7 +7,7 @@ use Rattle.schism_program.specs.declared.status.Status.{Status}
 use Rattle.schism_program.specs.declared.status.Status.TheVariants as statuses
 use Rattle.schism_program.specs.declared.work.Work.{Work}
 use Rattle.schism_program.specs.declared.work.Work.TheVariants.{Make}
-use Rattle.schism_program.specs.Works.{most_bytes, AskFor, FailsAt, IsIllegalAt, MakesText, Reads}
+use Rattle.schism_program.specs.Works.{most_bytes, AskFor, FailsAt, IsIllegalAt, MakesText, HasInput}
 
 -- all that was left was read, where the work has an input; where it has none, nothing was
 abbrev pub IsRead : Work → Option (List ℕ) → Option (List ℕ) → List ℕ → Type 0
@@ -55,7 +55,7 @@ pub record IsNotLegal (words : List (List ℕ)) (left left' : Option (List ℕ))
 pub record ReadsTooMuch (words : List (List ℕ)) (left left' : Option (List ℕ)) : Type 0 where
   pub work : Work
   pub asked : AskFor words work
-  pub reads : Reads work
+  pub reads : HasInput work
   pub lost : LosesNext left left' (most_bytes work + 1)
 
 -- the work has an input, of which at most one byte more than the limit was read; or it has none, and nothing was

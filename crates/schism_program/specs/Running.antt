@@ -41,15 +41,16 @@ abbrev pub IsLegalRun : Bool → Heap → List Entry → Type 0
 IsLegalRun true heap entries = IsLegal heap false entries
 IsLegalRun false heap entries = (other : List Entry) × KeepsLogs entries other × IsLegal heap false other
 
--- the history is that of a run of the script: each seat's commands are those of its lines in their order, each once, and then its leave; the last cycle, which began
--- after every leave, left nothing in use
+-- the history is that of a run of the script: each seat answers its own lines and leaves, and at the end nothing is in use
 pub record IsRunOf (locked : Bool) (script : Script) (history : History) : Type 0 where
   pub form : history.form ≡ forms.Run
   pub heap : history.heap ≡ script.heap
   pub unmarked : history.mark ≡ None
   pub legal : IsLegalHistory history
   pub whole : IsLegalRun locked history.heap history.entries
+  -- the lines of a seat are answered in their order, each once, and behind them it leaves
   pub commands : (number : ℕ) → number < script.heap.seats → commands_told number history.entries ≡ commands_of number script.lines ++ Leave ∷ []
+  -- the last cycle began behind every leave
   pub last_cycle : EndsEmpty script.heap history.entries
   pub none_used : history.end_used ≡ 0
   pub all_returned : words_returned history.entries ≡ words_granted history.entries

@@ -41,12 +41,12 @@ with_setting settings Locked = record settings { locked = true }
 with_setting settings (Patience n) = record settings { patience = Some n }
 
 -- beside those from before these were given, each kind for the first time and in its range, and then all are those
-abbrev pub Adds : Settings → List Setting → Settings → Type 0
-Adds before [] all = all ≡ before
-Adds before (setting ∷ more) all = IsSetting setting × (has before setting ≡ false) × Adds (with_setting before setting) more all
+abbrev pub AddSettings : Settings → List Setting → Settings → Type 0
+AddSettings before [] all = all ≡ before
+AddSettings before (setting ∷ more) all = IsSetting setting × (has before setting ≡ false) × AddSettings (with_setting before setting) more all
 
 -- beside those from before the words give settings, in any order, and then all are those
-pub record Gives (before : Settings) (words : List (List ℕ)) (all : Settings) : Type 0 where
+pub record GiveSettings (before : Settings) (words : List (List ℕ)) (all : Settings) : Type 0 where
   pub given : List Setting
   pub spelled : words ≡ flat_map setting_words given
-  pub adds : Adds before given all
+  pub adds : AddSettings before given all

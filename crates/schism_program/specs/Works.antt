@@ -11,7 +11,7 @@ use Rattle.schism_program.specs.declared.work.Work.TheVariants.{Play, Run, Check
 use Rattle.script_text.specs.declared.script.Form.TheVariants as forms
 use Rattle.schism_program.specs.Running.{Runs}
 use Rattle.schism_program.specs.Serving.{FailsAsScript, IsScriptText, Plays, IsMadeText}
-use Rattle.schism_program.specs.Settings.{no_settings, most_patience, Gives}
+use Rattle.schism_program.specs.Settings.{no_settings, most_patience, GiveSettings}
 use Rattle.schism_program.specs.Verdict.{FindsIllegal, FindsLegal, IsLegalText}
 
 -- the word with which a form begins
@@ -43,8 +43,8 @@ pub record IsRunSettings (locked : Bool) (patience : ℕ) (settings : Settings) 
 
 -- the words behind the form's word say the rest of the work
 abbrev pub Completes : List (List ℕ) → Work → Type 0
-Completes rest (Play steady brief) = Gives no_settings rest (record no_settings { steady = steady; brief = brief })
-Completes rest (Run locked patience) = (settings : Settings) × Gives no_settings rest settings × IsRunSettings locked patience settings
+Completes rest (Play steady brief) = GiveSettings no_settings rest (record no_settings { steady = steady; brief = brief })
+Completes rest (Run locked patience) = (settings : Settings) × GiveSettings no_settings rest settings × IsRunSettings locked patience settings
 Completes rest Check = rest ≡ []
 Completes rest (Make start seats lines) = MayBeMade start seats lines × (rest ≡ decimal start ∷ decimal seats ∷ decimal lines ∷ [])
 
@@ -59,9 +59,9 @@ abbrev pub IsForm : List (List ℕ) → Type 0
 IsForm words = (work : Work) × AskFor words work
 
 -- the work has an input
-abbrev pub Reads : Work → Type 0
-Reads (Make start seats lines) = ⊥
-Reads work = Unit {0}
+abbrev pub HasInput : Work → Type 0
+HasInput (Make start seats lines) = ⊥
+HasInput work = Unit {0}
 
 -- the most bytes of a script
 abbrev pub most_script : ℕ

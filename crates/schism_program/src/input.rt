@@ -2,7 +2,7 @@ ghost use Rattle.std.specs.Prelude.{◌≡◌, ◌+◌, ◌≤◌, IfOk, IsErrOf
 ghost use Rattle.io_edge.specs.Left.{LosesNext};
 ghost use Rattle.io_edge.specs.ReadAll.{CountsReadFault};
 ghost use Rattle.schism_program.specs.Outcome.{IsRead, IsReadUpTo};
-ghost use Rattle.schism_program.specs.Works.{most_bytes, Reads};
+ghost use Rattle.schism_program.specs.Works.{most_bytes, HasInput};
 
 use crate::work::Work;
 use io_edge::{ReadAllFault, Source, read_all};
@@ -18,9 +18,9 @@ pub fn read_input<S: Source>(
         IsRead work (S.left source.old) (S.left source.new) input.items) }
     ensures within { IfOk result (λ input. vec_len input ≤ most_bytes work) }
     ensures too_long { IsErrOf result ReadAllFault.TooLong →
-        Reads work × LosesNext (S.left source.old) (S.left source.new) (most_bytes work + 1) }
+        HasInput work × LosesNext (S.left source.old) (S.left source.new) (most_bytes work + 1) }
     ensures most { IsReadUpTo work (S.left source.old) (S.left source.new) }
-    ensures untouched { ¬ Reads work → source.new ≡ source.old }
+    ensures untouched { ¬ HasInput work → source.new ≡ source.old }
     ensures count { CountsReadFault result (S.faults source.old) (S.faults source.new) }
 {
     let Some(most) = work.most_bytes() else {

@@ -78,15 +78,7 @@ pub fn run_text<G: Gate, R: Threads + Wait + Sync>(
     let script = script_of(alloc, input, Form::Run)?;
     let scripts = scripts_of(alloc, &script)?;
     let machine = Machine::make(alloc, script.heap)?;
-    let ran = run_locked(
-        rt,
-        alloc,
-        machine,
-        scripts.as_slice(),
-        pace,
-        patience,
-        gate,
-    )?;
+    let ran = run_locked(rt, alloc, machine, scripts.as_slice(), pace, patience, gate)?;
     let history = history_of(script.heap, ran);
     let text = render_history(alloc, &history)?;
     Ok(text)

@@ -1,7 +1,7 @@
 ghost use Rattle.std.specs.Prelude.{◌≡◌, ◌≢◌, ◌∷◌, [], ◌++◌, ℕ, List, map, IfSome, IfNone};
 ghost use Rattle.schism_program.specs.declared.setting.Setting.{Setting as ASetting};
 ghost use Rattle.schism_program.specs.declared.setting.Settings.{Settings as AreGiven};
-ghost use Rattle.schism_program.specs.Settings.{has, with_setting, setting_words, no_settings, Gives, IsSetting};
+ghost use Rattle.schism_program.specs.Settings.{has, with_setting, setting_words, no_settings, GiveSettings, IsSetting};
 
 use crate::range::number_in;
 
@@ -78,8 +78,8 @@ impl Settings {
 
     /// The settings that the words are, where each is given once.
     pub fn of(words: &[&str]) -> Option<Settings>
-        ensures some { IfSome result (Gives no_settings (map (λ w. w.now) words.now)) }
-        ensures none { IfNone result ((all : AreGiven) → ¬ Gives no_settings (map (λ w. w.now) words.now) all) }
+        ensures some { IfSome result (GiveSettings no_settings (map (λ w. w.now) words.now)) }
+        ensures none { IfNone result ((all : AreGiven) → ¬ GiveSettings no_settings (map (λ w. w.now) words.now) all) }
     {
         more_settings(Settings::none(), words)
     }
@@ -141,8 +141,8 @@ fn first_setting<'a, 'b>(words: &'a [&'b str]) -> Option<(Setting, &'a [&'b str]
 
 /// The settings with those that the words are, where each is given for the first time.
 fn more_settings(settings: Settings, words: &[&str]) -> Option<Settings>
-    ensures some { IfSome result (Gives settings (map (λ w. w.now) words.now)) }
-    ensures none { IfNone result ((all : AreGiven) → ¬ Gives settings (map (λ w. w.now) words.now) all) }
+    ensures some { IfSome result (GiveSettings settings (map (λ w. w.now) words.now)) }
+    ensures none { IfNone result ((all : AreGiven) → ¬ GiveSettings settings (map (λ w. w.now) words.now) all) }
 {
     if words.is_empty() {
         return Some(settings);

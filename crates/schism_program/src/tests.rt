@@ -382,7 +382,14 @@ fn says_which_side_failed_in_a_check(rt: HostRuntime) -> Result<(), Fail> {
         (57, 1, Status::WriteFault, "legal 15"),
         (57, 2, Status::Done, "legal 15\n"),
     ] {
-        let (end, told) = ended(&rt, rt.alloc(), &["check"], text, &[source_fail], &[sink_fail])?;
+        let (end, told) = ended(
+            &rt,
+            rt.alloc(),
+            &["check"],
+            text,
+            &[source_fail],
+            &[sink_fail],
+        )?;
         assert_eq!(rt; end, status, "read {source_fail}, write {sink_fail}");
         assert_eq!(rt; told.as_slice(), front.as_bytes());
     }

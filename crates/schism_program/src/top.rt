@@ -3,7 +3,7 @@ ghost use Rattle.script_text.specs.declared.cause.Cause.{Cause};
 ghost use Rattle.io_edge.specs.Faults.{Rose};
 ghost use Rattle.schism_program.specs.Due.{IsDue};
 ghost use Rattle.schism_program.specs.Outcome.{IsNotLegal, IsRefusedAt, IsWriting, ReadsNoMore, ReadsTooMuch, WritesAll, WritesFront};
-ghost use Rattle.schism_program.specs.Works.{AskFor, IsForm, Reads};
+ghost use Rattle.schism_program.specs.Works.{AskFor, IsForm, HasInput};
 ghost use Rattle.schism_program.specs.declared.work.Work.{Work as AWork};
 
 use crate::fault::WorkFault;
@@ -33,7 +33,7 @@ pub fn schism<S: Source, K: Sink, G: Gate, R: Threads + Wait + Sync>(
 ) -> Status
     ensures usage { (result ≡ Status.Usage) ↔ (¬ IsForm (map (λ w. w.now) words.now)) }
     ensures unread { result ≡ Status.Usage → source.new ≡ source.old }
-    ensures untouched { (work : AWork) → AskFor (map (λ w. w.now) words.now) work → ¬ Reads work →
+    ensures untouched { (work : AWork) → AskFor (map (λ w. w.now) words.now) work → ¬ HasInput work →
         source.new ≡ source.old }
     ensures done { result ≡ Status.Done → WritesAll (map (λ w. w.now) words.now)
         (S.left source.old) (S.left source.new) (K.taken sink.old) (K.taken sink.new) }

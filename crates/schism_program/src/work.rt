@@ -1,5 +1,5 @@
 ghost use Rattle.std.specs.Prelude.{◌≡◌, ℕ, Bool as ABool, codes, map, IfNone, IfSome};
-ghost use Rattle.schism_program.specs.Works.{most_bytes, form_word, AskFor, Completes, IsForm, IsWork, Reads};
+ghost use Rattle.schism_program.specs.Works.{most_bytes, form_word, AskFor, Completes, IsForm, IsWork, HasInput};
 ghost use Rattle.schism_program.specs.declared.work.Work.TheVariants as works;
 
 use crate::range::number_in;
@@ -120,8 +120,8 @@ impl Work {
 
     /// The most bytes of an input, where the work has one.
     pub fn most_bytes(self) -> Option<usize>
-        ensures some { IfSome result (λ most. Reads self × (most ≡ most_bytes self)) }
-        ensures none { IfNone result (¬ Reads self) }
+        ensures some { IfSome result (λ most. HasInput self × (most ≡ most_bytes self)) }
+        ensures none { IfNone result (¬ HasInput self) }
     {
         match self {
             Work::Play { .. } | Work::Run { .. } => Some(MOST_SCRIPT),

@@ -107,7 +107,10 @@ fn history_of(alloc: Global, pieces: &str) -> Result<String, AllocError> {
 }
 
 // A verdict is what is written of a legal history, or what is said of another, of which nothing is written.
-fn judges(rt: &(impl Abort + AllocGlobal + Threads + Wait + Sync), cases: &[&str]) -> Result<(), AllocError> {
+fn judges(
+    rt: &(impl Abort + AllocGlobal + Threads + Wait + Sync),
+    cases: &[&str],
+) -> Result<(), AllocError> {
     let alloc = rt.alloc();
     for case in cases {
         let (pieces, verdict) = case.split_once(" => ").expect(rt, "a case has a verdict");

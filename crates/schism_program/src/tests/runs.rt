@@ -41,13 +41,16 @@ fn ran<G: Gate>(
 // found the field as it opened, and the other one replaced what that had set.
 #[test]
 fn shares_a_field(rt: HostRuntime) -> Result<(), Fail> {
-    let script = "schism 1; heap 1 0 2; 0 num 1 5; 0 set 0 3 1; 0 get 2 0 3; 1 num 1 6; 1 set 0 3 1; 1 get 2 0 3";
+    let script =
+        "schism 1; heap 1 0 2; 0 num 1 5; 0 set 0 3 1; 0 get 2 0 3; 1 num 1 6; 1 set 0 3 1; 1 get 2 0 3";
     for line in RUNS {
         let gate = TwoAtOnce::new();
         let history = ran(&rt, rt.alloc(), line, script, &gate)?;
         assert!(rt; gate.met(), "{line}");
-        let first = has_line(&history, b"0 set 0 3 1 = was -") && has_line(&history, b"1 set 0 3 1 = was 0:1");
-        let second = has_line(&history, b"1 set 0 3 1 = was -") && has_line(&history, b"0 set 0 3 1 = was 1:1");
+        let first = has_line(&history, b"0 set 0 3 1 = was -")
+            && has_line(&history, b"1 set 0 3 1 = was 0:1");
+        let second = has_line(&history, b"1 set 0 3 1 = was -")
+            && has_line(&history, b"0 set 0 3 1 = was 1:1");
         assert!(rt; first || second, "{line}");
     }
     Ok(())
@@ -59,7 +62,11 @@ fn collects_alone(rt: HostRuntime) -> Result<(), Fail> {
     let script = "schism 1; heap 1 0 1; 0 new 1 2; 0 nil 1; 0 collect";
     for line in RUNS {
         let history = ran(&rt, rt.alloc(), line, script, &OpenGate)?;
-        assert!(rt; has_line(&history, b"0 collect = cycle 0") || has_line(&history, b"0 collect = cycle 1"), "{line}");
+        assert!(rt;
+            has_line(&history, b"0 collect = cycle 0")
+                || has_line(&history, b"0 collect = cycle 1"),
+            "{line}"
+        );
     }
     Ok(())
 }
@@ -68,10 +75,17 @@ fn collects_alone(rt: HostRuntime) -> Result<(), Fail> {
 #[test]
 fn waits_for_a_seat_that_never_polls(rt: HostRuntime) -> Result<(), Fail> {
     let script = "schism 1; heap 1 0 2; 0 collect; 0 poll; 1 nil 1";
-    for line in ["run --patience 3", "run --patience 7 --locked", "run --locked"] {
+    for line in [
+        "run --patience 3",
+        "run --patience 7 --locked",
+        "run --locked",
+    ] {
         let gate = OneAfterTheOther::new();
         let history = ran(&rt, rt.alloc(), line, script, &gate)?;
-        assert!(rt; has_line(&history, b"0 collect = waits 1 answered 0 phase 1"), "{line}");
+        assert!(rt;
+            has_line(&history, b"0 collect = waits 1 answered 0 phase 1"),
+            "{line}"
+        );
     }
     Ok(())
 }
