@@ -10,7 +10,9 @@ mod recorder;
 mod running;
 mod working;
 
+pub use note::claimed;
 pub use ran::LockedRan;
+pub use recorder::{Called, Recorder};
 pub use running::run_locked;
 
 #[cfg(test)]

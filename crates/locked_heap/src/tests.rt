@@ -1,6 +1,6 @@
 ghost use Rattle.std.specs.Prelude.{All, IfOk};
 ghost use Rattle.heap_model.specs.Heap.{IsHeap};
-ghost use Rattle.locked_heap.specs.Given.{IsScript};
+ghost use Rattle.locked_heap.specs.Given.{IsSeatScript};
 
 use crate::{LockedRan, run_locked};
 use core_machine::Machine;
@@ -28,7 +28,7 @@ fn ran<G: Gate, R: Threads + Wait + Sync>(
     gate: &G,
 ) -> Result<LockedRan, Fail>
     requires limits { IsHeap heap }
-    requires scripts { All (λ script. IsScript script.items) scripts.now }
+    requires scripts { All (λ script. IsSeatScript script.items) scripts.now }
 {
     if scripts.len() != usize::from(heap.seats) || patience == 0 {
         return Err("a script for each seat, and some patience")?;
@@ -42,7 +42,7 @@ fn ran<G: Gate, R: Threads + Wait + Sync>(
 
 /// What a seat does that shares a field of the board.
 fn sharing(alloc: Global, n: u32) -> Result<Vec<Command>, Fail>
-    ensures { IfOk result (λ script. IsScript script.items) }
+    ensures { IfOk result (λ script. IsSeatScript script.items) }
 {
     let commands = [
         Command::Num { d: 1, n },

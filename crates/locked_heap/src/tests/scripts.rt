@@ -1,5 +1,5 @@
 ghost use Rattle.std.specs.Prelude.{IfOk};
-ghost use Rattle.locked_heap.specs.Given.{IsScript};
+ghost use Rattle.locked_heap.specs.Given.{IsSeatScript};
 
 use heap_model::Command;
 use std::alloc::Global;
@@ -7,7 +7,7 @@ use std::test::Fail;
 
 /// The commands as a script.
 pub fn script(alloc: Global, commands: &[Command]) -> Result<Vec<Command>, Fail>
-    ensures { IfOk result (λ script. IsScript script.items) }
+    ensures { IfOk result (λ script. IsSeatScript script.items) }
 {
     let mut script = Vec::new(alloc);
     if commands.len() >= 1 << 26 {

@@ -1,4 +1,4 @@
-use Rattle.std.proofs.Common.{◌≡◌, List, length}
+use Rattle.std.proofs.Common.{◌≡◌, length}
 use Rattle.std.specs.Prelude.{All}
 use Rattle.locked_heap.specs.Given.{IsOfScript}
 use Rattle.locked_heap.proofs.tests.scripts.script.Given as goal
