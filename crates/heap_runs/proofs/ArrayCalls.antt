@@ -14,7 +14,8 @@ use Rattle.core_machine.specs.machine.Calls as machine
 use Rattle.core_machine.specs.machine.Machine.{State, seat_at}
 use Rattle.core_machine.specs.seat.Making.{next_object_id}
 use Rattle.core_machine.specs.table.Layout.{at}
-use Rattle.heap_runs.specs.MachineHeap.{MachineHeapValue, play_state_of}
+use Rattle.locked_heap.specs.Recorded.{Recorded}
+use Rattle.heap_runs.specs.MachineHeap.{play_state_of}
 use Rattle.heap_runs.specs.PlayHeap.{PlayState, IsEnough, LacksWords, RefusesWords, RefusesFragments, AnswersArrayOnce, seat_state_of}
 
 -- the three ways in which it ends
@@ -42,10 +43,10 @@ answers_one_way state number command reply (inr (inr full)) = record {
   no_fragments = (λ refuses. (full.0, full.1), λ both. full.2);
 }
 
-module _ (old : MachineHeapValue) (new : State) (number : ℕ) (command : Command) (reply : Reply) (answer : AnswersArray old.machine.heap old.machine.state new number command reply) (limits : IsHeap old.machine.heap)
-    (used : (at old.machine.heap old.machine.state.words Budget + words_returned old.entries ≡ words_granted old.entries) × (at old.machine.heap old.machine.state.words Budget ≤ old.machine.heap.spine))
-    (had : spent_of number old.entries + length (seat_at old.machine.state number).reserve ≡ taken_of number old.entries)
-    (free : free_count old.machine.heap old.machine.state.words + fragments_gained old.entries ≡ 16 * old.machine.heap.groups + fragments_lost old.entries)
+module _ (old : Recorded) (new : State) (number : ℕ) (command : Command) (reply : Reply) (answer : AnswersArray old.machine.heap old.machine.state new number command reply) (limits : IsHeap old.machine.heap)
+    (used : (at old.machine.heap old.machine.state.words Budget + words_returned old.history ≡ words_granted old.history) × (at old.machine.heap old.machine.state.words Budget ≤ old.machine.heap.spine))
+    (had : spent_of number old.history + length (seat_at old.machine.state number).reserve ≡ taken_of number old.history)
+    (free : free_count old.machine.heap old.machine.state.words + fragments_gained old.history ≡ 16 * old.machine.heap.groups + fragments_lost old.history)
     (next : next_object_id number (seat_at old.machine.state number) ≡ next_id (seat_state_of (play_state_of old) number)) where
   abbrev here : PlayState
   here = play_state_of old
@@ -70,7 +71,7 @@ module _ (old : MachineHeapValue) (new : State) (number : ℕ) (command : Comman
       ]
 
   ends_one_way : EndsOneWay here number command reply
-  ends_one_way = elim (leb_tells (words_granted old.entries + spine_need_of command) (old.machine.heap.spine + words_returned old.entries)) [
+  ends_one_way = elim (leb_tells (words_granted old.history + spine_need_of command) (old.machine.heap.spine + words_returned old.history)) [
     | inl fits ↦ (let f = fits.1 in ends_beside (λ lacks. omega (arith, lacks, f)))
     | inr over ↦ (let o = over.1 in inl (o, words_refused (answer.spine_refused (omega (arith, o, used.0)))))
   ]

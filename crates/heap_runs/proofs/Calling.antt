@@ -1,12 +1,10 @@
 -- A machine between calls after one call more.
-use Rattle.std.proofs.Common.{◌≡◌, ◌≢◌, ℕ, ◌+◌, ◌*◌, ◌<◌, ◌≤◌, false, List, [], ◌∷◌, ◌++◌, length, inl, inr, refl, sym, ap, subst, ◌∙◌, arith}
-use Rattle.std.proofs.lemmas.Bool.Decides.{eqb_tells, leb_tells}
+use Rattle.std.proofs.Common.{◌≡◌, ◌≢◌, ℕ, ◌+◌, ◌*◌, ◌<◌, false, [], ◌∷◌, ◌++◌, length, inl, inr, refl, sym, ap, subst, ◌∙◌, arith}
+use Rattle.std.proofs.lemmas.Bool.Decides.{leb_tells}
 use Rattle.std.proofs.lemmas.List.{append_cancel_left}
 use Rattle.heap_model.proofs.account_lemmas.Snoc.{same_last}
-use Rattle.heap_model.specs.declared.heap.Heap.{Heap}
 use Rattle.heap_model.specs.declared.command.Command.{Command}
 use Rattle.heap_model.specs.declared.command.Command.TheVariants as commands
-use Rattle.heap_model.specs.declared.entry.Entry.{Entry}
 use Rattle.heap_model.specs.declared.entry.Entry.TheVariants.{Said}
 use Rattle.heap_model.specs.declared.reply.Reply.{Reply}
 use Rattle.heap_model.specs.declared.reply.Reply.TheVariants.{Made, Done}
@@ -14,17 +12,15 @@ use Rattle.heap_model.specs.declared.id.Id.TheVariants as heap_ids
 use Rattle.heap_model.specs.account.Space.{need_of, fragments_gained, fragments_lost, taken_of, spent_of}
 use Rattle.heap_model.specs.calls.SeatCalls.{ComesBefore, HasNumber, last_gives, leave_entries}
 use Rattle.heap_model.specs.calls.SeatReplies.{next_id}
-use Rattle.core_machine.specs.declared.place.Place.TheVariants.{Idle}
-use Rattle.core_machine.specs.machine.Calls.{call_events, PlaysCall, AnswersNew, TellsLeave, free_count, within_reach}
-use Rattle.core_machine.specs.machine.Machine.{State, seat_at, Begins, Can, Event, Run, state_after_all, history}
+use Rattle.core_machine.specs.machine.Calls.{PlaysCall, AnswersNew, TellsLeave, free_count, within_reach}
+use Rattle.core_machine.specs.machine.Machine.{seat_at, Begins, Can}
 use Rattle.core_machine.specs.seat.Commands.{IsServed}
 use Rattle.core_machine.specs.seat.Making.{next_object_id}
 use Rattle.core_machine.specs.seat.Seat.{Seat}
-use Rattle.core_rule.specs.Laws.{OneCallAtATime, StandsFor, FreeIsUnused, WordsAreUsed}
-use Rattle.core_rule.proofs.parties.MoreEvents.{Run-append, OneCall-append, after_all-append, history-append}
-use Rattle.core_rule.proofs.parties.OneSeat.{after_call, call_alone}
+use Rattle.core_rule.specs.Laws.{StandsFor, FreeIsUnused, WordsAreUsed}
 use Rattle.core_rule.proofs.parties.Standing.{words_used, own_reserve, answered_last, gone_is, made_is, phase_near, number_left}
-use Rattle.heap_runs.specs.MachineHeap.{MachineHeapValue, play_state_of, WholeCalls, IsBetweenCalls, CallsOnce}
+use Rattle.locked_heap.specs.Recorded.{Recorded, MakesCall}
+use Rattle.heap_runs.specs.MachineHeap.{play_state_of, IsBetweenCalls}
 use Rattle.heap_runs.specs.PlayHeap.{MayCall, AnswersOnce, IsEnough, seat_state_of}
 use Rattle.heap_runs.proofs.ArrayCalls.{answers_array}
 
@@ -34,8 +30,8 @@ served_once commands.Collect once = absurd (once refl)
 served_once _ once = tt
 
 -- a command that may be called may be begun
-pub may_begin : (whole : MachineHeapValue) (number : ℕ) (command : Command) → command ≢ commands.Collect → StandsFor whole.machine.heap whole.machine.state [] whole.entries
-    → IsBetweenCalls whole.machine.heap whole.machine.state whole.entries → MayCall (play_state_of whole) number command → Can whole.machine.heap whole.machine.state (Begins number command)
+pub may_begin : (whole : Recorded) (number : ℕ) (command : Command) → command ≢ commands.Collect → StandsFor whole.machine.heap whole.machine.state [] whole.history
+    → IsBetweenCalls whole.machine.heap whole.machine.state whole.history → MayCall (play_state_of whole) number command → Can whole.machine.heap whole.machine.state (Begins number command)
 may_begin whole number command once s between may =
     let heap = whole.machine.heap in
     let state = whole.machine.state in
@@ -44,68 +40,36 @@ may_begin whole number command once s between may =
       within,
       record {
         idle = idle;
-        present = sym (gone_is heap state whole.entries s number may.within idle) ∙ may.present;
+        present = sym (gone_is heap state whole.history s number may.within idle) ∙ may.present;
         served = served_once command once;
         in_range = may.in_range;
-        numbered = number_left heap state whole.entries s number may.within idle command (number_again command may.numbered);
+        numbered = number_left heap state whole.history s number may.within idle command (number_again command may.numbered);
       },
     )
   where
     number_again : (command : Command) → HasNumber (seat_state_of (play_state_of whole) number) command
-        → HasNumber (record { heap = whole.machine.heap; number = number; mine = whole.entries; spare = 0 }) command
+        → HasNumber (record { heap = whole.machine.heap; number = number; mine = whole.history; spare = 0 }) command
     number_again (commands.New d fields) has = has
     number_again (commands.Array d cells) has = has
     number_again (commands.Set r i v) has = has
     number_again _ has = tt
 
--- whole calls are so with more of them
-pub whole_with : (heap : Heap) (old new : State) (told added : List Entry) (more : List Event) → WholeCalls heap old told → Run heap old more → OneCallAtATime heap old more → new ≡ state_after_all heap old more
-    → history heap old more ≡ added → WholeCalls heap new (told ++ added)
-whole_with heap old new told added more calls can alone ends shown =
-    record {
-      limits = calls.limits;
-      opening = calls.opening;
-      opens = calls.opens;
-      events = calls.events ++ more;
-      run = Run-append heap calls.opening calls.events more calls.run (subst (λ (s : State). Run heap s more) calls.ends can);
-      whole = OneCall-append heap calls.opening calls.events more calls.whole (subst (λ (s : State). OneCallAtATime heap s more) calls.ends alone);
-      ends = ends ∙ ap (λ (s : State). state_after_all heap s more) calls.ends ∙ sym (after_all-append heap calls.opening calls.events more);
-      shown = ap (λ (l : List Entry). l ++ added) calls.shown
-          ∙ ap (λ (l : List Entry). history heap calls.opening calls.events ++ l) (sym shown ∙ ap (λ (s : State). history heap s more) calls.ends)
-          ∙ sym (history-append heap calls.opening calls.events more);
-    }
-
-module _ (heap : Heap) (old new : State) (told : List Entry) (number : ℕ) (command : Command) (reply : Reply) (call : PlaysCall heap old new number command reply) where
-  -- so is a machine between calls
-  pub between_more : IsBetweenCalls heap old told → IsBetweenCalls heap new (told ++ (call.before ++ Said number command reply ∷ []))
-  between_more between =
-      let others = after_call heap old new number command reply call in
-      record {
-        calls = whole_with heap old new told (call.before ++ Said number command reply ∷ []) (call_events number command call.steps) between.calls call.can
-            (call_alone heap number call.steps command old (λ other below apart. between.all_idle other below)) call.ends call.shown;
-        all_idle = λ other below. elim (eqb_tells other number) as (λ _. (seat_at new other).place ≡ Idle) [
-          | inl same ↦ subst (λ (n : ℕ). (seat_at new n).place ≡ Idle) (sym same.1) call.idle
-          | inr apart ↦ ap (λ (t : Seat). t.place) (others.others other apart.1) ∙ between.all_idle other (omega (arith, below, others.seats))
-        ];
-      }
-
 -- the machine's call is one of a heap that is played on
-pub answers_call : FreeIsUnused → WordsAreUsed → (old new : MachineHeapValue) (number : ℕ) (command : Command) (reply : Reply) → StandsFor old.machine.heap old.machine.state [] old.entries
-    → IsBetweenCalls old.machine.heap old.machine.state old.entries → MayCall (play_state_of old) number command → CallsOnce old new number command reply
-    → old.spare + length old.entries ≤ new.spare + length new.entries → new.turns ≡ old.turns → new.last_turn ≡ old.last_turn
+pub answers_call : FreeIsUnused → WordsAreUsed → (old new : Recorded) (number : ℕ) (command : Command) (reply : Reply) → StandsFor old.machine.heap old.machine.state [] old.history
+    → IsBetweenCalls old.machine.heap old.machine.state old.history → MayCall (play_state_of old) number command → MakesCall old new number command reply
     → AnswersOnce (play_state_of old) (play_state_of new) number command reply
-answers_call unused words old new number command reply s between may calls spare turns last =
+answers_call unused words old new number command reply s between may calls =
     let heap = old.machine.heap in
     let state = old.machine.state in
     let within : number < length state.seats = rw s.stands.rule.machine.seated may.within in
     let idle = between.all_idle number within in
     let seat : Seat = seat_at state number in
-    let present : seat.left ≡ false = sym (gone_is heap state old.entries s number may.within idle) ∙ may.present in
-    let had = own_reserve heap state old.entries s number may.within idle in
-    let last_is = answered_last heap state old.entries s number may.within idle in
-    let free : free_count heap state.words + fragments_gained old.entries ≡ 16 * heap.groups + fragments_lost old.entries
+    let present : seat.left ≡ false = sym (gone_is heap state old.history s number may.within idle) ∙ may.present in
+    let had = own_reserve heap state old.history s number may.within idle in
+    let last_is = answered_last heap state old.history s number may.within idle in
+    let free : free_count heap state.words + fragments_gained old.history ≡ 16 * heap.groups + fragments_lost old.history
     = subst (λ es. free_count heap state.words + fragments_gained es ≡ 16 * heap.groups + fragments_lost es) s.grown (unused heap state s.book s.stands.rule) in
-    let next : next_object_id number seat ≡ next_id (seat_state_of (play_state_of old) number) = ap (heap_ids.Made number) (made_is heap state old.entries s number may.within idle) in
+    let next : next_object_id number seat ≡ next_id (seat_state_of (play_state_of old) number) = ap (heap_ids.Made number) (made_is heap state old.history s number may.within idle) in
     record {
       adds = record {
         heap = calls.same_heap;
@@ -114,19 +78,19 @@ answers_call unused words old new number command reply s between may calls spare
         had = had;
         before = calls.call.before;
         comes = subst (λ (p : ℕ). ComesBefore number (length seat.reserve) p command reply calls.call.before) last_is
-            (calls.call.comes (λ poll. phase_near heap state old.entries s number may.within idle present));
+            (calls.call.comes (λ poll. phase_near heap state old.history s number may.within idle present));
         entries = calls.noted;
-        spare = spare;
+        spare = calls.spare;
       };
-      turns_stay = turns;
-      last_stays = last;
+      turns_stay = calls.turns_stay;
+      last_stays = calls.last_stays;
       left = λ leaves. leave_is_done leaves calls.call (calls.leave leaves);
       made = λ record_. (
         λ made. enough_where_made (calls.answer record_) made had free,
         λ enough. (calls.answer record_).made (omega (arith, enough, had, free))
             ∙ ap Made next,
       );
-      array = λ array. answers_array old new.machine.state number command reply (calls.array array) between.calls.limits (words_used heap state old.entries s words between.all_idle) had free next;
+      array = λ array. answers_array old new.machine.state number command reply (calls.array array) between.limits (words_used heap state old.history s words between.all_idle) had free next;
     }
   where
     leave_is_done : command ≡ commands.Leave → (call : PlaysCall old.machine.heap old.machine.state new.machine.state number command reply) → TellsLeave old.machine.state new.machine.state number → reply ≡ Done
@@ -136,8 +100,8 @@ answers_call unused words old new number command reply s between may calls spare
         cc (same_last call.before (last_gives number (length (seat_at old.machine.state number).reserve)) (Said number command reply) (Said number commands.Leave Done) said)
 
     enough_where_made : AnswersNew old.machine.heap old.machine.state new.machine.state number command reply → reply ≡ Made (next_id (seat_state_of (play_state_of old) number))
-        → spent_of number old.entries + length (seat_at old.machine.state number).reserve ≡ taken_of number old.entries
-        → free_count old.machine.heap old.machine.state.words + fragments_gained old.entries ≡ 16 * old.machine.heap.groups + fragments_lost old.entries
+        → spent_of number old.history + length (seat_at old.machine.state number).reserve ≡ taken_of number old.history
+        → free_count old.machine.heap old.machine.state.words + fragments_gained old.history ≡ 16 * old.machine.heap.groups + fragments_lost old.history
         → IsEnough (play_state_of old) number command
     enough_where_made answer made had free = elim (leb_tells (need_of command) (within_reach old.machine.heap old.machine.state number)) [
       | inl enough ↦ (let e = enough.1 in omega (arith, e, had, free))

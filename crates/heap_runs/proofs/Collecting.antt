@@ -24,8 +24,9 @@ use Rattle.core_machine.specs.machine.Machine.{State, seat_at, Turns}
 use Rattle.core_machine.specs.machine.Machine as machines
 use Rattle.core_machine.specs.seat.Seat.{Seat}
 use Rattle.core_machine.specs.table.Layout.{at}
-use Rattle.heap_runs.specs.Collecting.{MakesInner, IsPresent, GoesOn, EndsFor}
-use Rattle.heap_runs.specs.MachineHeap.{MachineHeapValue, play_state_of, MovesOn, MovesAll, CollectsMachine, TurnsMachine}
+use Rattle.locked_heap.specs.Recorded.{MakesInner, Recorded, MakesTurn}
+use Rattle.heap_runs.specs.Collecting.{IsStillThere, CollectGoesOn, EndsFor}
+use Rattle.heap_runs.specs.MachineHeap.{play_state_of, MovesOn, MovesAll, CollectsMachine}
 use Rattle.heap_runs.specs.PlayHeap.{TellsInCollect, TakesTurn, collector_state_of}
 use Rattle.heap_runs.proofs.TurnFacts.{added_is, none_is, wait_shows}
 use Rattle.core_rule.proofs.parties.Collectors.{all_collectors}
@@ -44,10 +45,10 @@ moves_then (suc n) m heap number old now new first next made more =
 pub one_move : (heap : Heap) (number : ℕ) (old new : State) (told : List Entry) → MovesOn heap number old new told → MovesAll 1 heap number old new told
 one_move heap number old new told on = (old, [], told, (refl, refl), on, refl)
 
-abbrev pub machine_none : (whole : MachineHeapValue) (number : ℕ) → CollectsMachine whole whole number
-machine_none whole number = record { same_heap = refl; moves = 0; told = []; makes = (refl, refl); noted = sym (append-nil whole.entries) }
+abbrev pub machine_none : (whole : Recorded) (number : ℕ) → CollectsMachine whole whole number
+machine_none whole number = record { same_heap = refl; moves = 0; told = []; makes = (refl, refl); noted = sym (append-nil whole.history) }
 
-abbrev pub machine_then : (old now new : MachineHeapValue) (number : ℕ) → CollectsMachine old now number → CollectsMachine now new number → CollectsMachine old new number
+abbrev pub machine_then : (old now new : Recorded) (number : ℕ) → CollectsMachine old now number → CollectsMachine now new number → CollectsMachine old new number
 machine_then old now new number first next =
     let here : MovesAll next.moves old.machine.heap number now.machine.state new.machine.state next.told = subst (λ (h : Heap). MovesAll next.moves h number now.machine.state new.machine.state next.told) first.same_heap next.makes in
     let both = moves_then next.moves first.moves old.machine.heap number old.machine.state now.machine.state new.machine.state first.told next.told first.makes here in
@@ -56,15 +57,15 @@ machine_then old now new number first next =
       moves = both.0;
       told = first.told ++ next.told;
       makes = both.1;
-      noted = next.noted ∙ ap (λ (l : List Entry). l ++ next.told) first.noted ∙ append_assoc old.entries first.told next.told;
+      noted = next.noted ∙ ap (λ (l : List Entry). l ++ next.told) first.noted ∙ append_assoc old.history first.told next.told;
     }
 
-abbrev pub machine_inner : (old new : MachineHeapValue) (number : ℕ) (inner : Inner) → MakesInner old new number inner → CollectsMachine old new number
+abbrev pub machine_inner : (old new : Recorded) (number : ℕ) (inner : Inner) → MakesInner old new number inner → CollectsMachine old new number
 machine_inner old new number inner makes =
     let told : List Entry = inner_entries old.machine.heap old.machine.state.words number (seat_at old.machine.state number).answered inner in
     record { same_heap = makes.same_heap; moves = 1; told = told; makes = one_move old.machine.heap number old.machine.state new.machine.state told (inl (inner, makes.plays, refl)); noted = makes.noted }
 
-abbrev pub machine_turn : (old new : MachineHeapValue) (number : ℕ) (turn : Turn) → TurnsMachine old new turn → CollectsMachine old new number
+abbrev pub machine_turn : (old new : Recorded) (number : ℕ) (turn : Turn) → MakesTurn old new turn → CollectsMachine old new number
 machine_turn old new number turn turned =
     let told : List Entry = machines.entries old.machine.heap old.machine.state Turns in
     record { same_heap = turned.same_heap; moves = 1; told = told; makes = one_move old.machine.heap number old.machine.state new.machine.state told (inr (turned.can, turned.after, refl)); noted = turned.noted }
@@ -77,11 +78,11 @@ quiet_more number (entry ∷ front) behind quiet more = (quiet.0, quiet_more num
 pub phase_onward : (before added after : List Entry) → after ≡ before ++ added → phase before ≤ phase after
 phase_onward before added after is = omega (arith, ap phase is, sum_by-append (λ e. (effect_of e).phases) before added)
 
-pub goes_none : (whole : MachineHeapValue) (number : ℕ) → IsPresent whole number → GoesOn whole whole number
+pub goes_none : (whole : Recorded) (number : ℕ) → IsStillThere whole number → CollectGoesOn whole whole number
 goes_none whole number present =
     record { machine = machine_none whole number; quiet = tt; turns = 0; counted = omega arith; spare = omega arith; present = present; first_stays = refl; onward = omega arith }
 
-unfoldable pub goes_then : (old now new : MachineHeapValue) (number : ℕ) → GoesOn old now number → GoesOn now new number → GoesOn old new number
+unfoldable pub goes_then : (old now new : Recorded) (number : ℕ) → CollectGoesOn old now number → CollectGoesOn now new number → CollectGoesOn old new number
 goes_then old now new number first next = record {
   machine = machine_then old now new number first.machine next.machine;
   quiet = quiet_more number first.machine.told next.machine.told first.quiet next.quiet;
@@ -100,7 +101,7 @@ steps_quiet number now later (entries.Returns count) steps = refl
 steps_quiet number now later (entries.Swings id) steps = refl
 steps_quiet number now later _ steps = absurd steps
 
-module _ (old new : MachineHeapValue) (number : ℕ) (turn : Turn) (takes : TakesTurn (play_state_of old) (play_state_of new) turn) where
+module _ (old new : Recorded) (number : ℕ) (turn : Turn) (takes : TakesTurn (play_state_of old) (play_state_of new) turn) where
   quiet_by : (turn : Turn) → ComesTo (collector_state_of (play_state_of old)) (collector_state_of (play_state_of new)) turn → AllByRecursion (TellsInCollect number) takes.added
   quiet_by turns.Stepped (inl none) = rw (none_is (play_state_of old) (play_state_of new) turn takes none.0) tt
   quiet_by turns.Stepped (inr steps) =
@@ -109,31 +110,31 @@ module _ (old new : MachineHeapValue) (number : ℕ) (turn : Turn) (takes : Take
   quiet_by (turns.Ended cycle kept) comes = rw (added_is (play_state_of old) (play_state_of new) turn takes (entries.Ends cycle kept ∷ []) comes.0) (tt, tt)
 
   -- by a turn
-  pub goes_turn : TurnsMachine old new turn → IsPresent old number → GoesOn old new number
+  pub goes_turn : MakesTurn old new turn → IsStillThere old number → CollectGoesOn old new number
   goes_turn turned present =
       let told : List Entry = machines.entries old.machine.heap old.machine.state Turns in
       let seats : new.machine.state.seats ≡ old.machine.state.seats = ap (λ (s : State). s.seats) turned.after in
       let same : seat_at new.machine.state number ≡ seat_at old.machine.state number = ap (λ (s : State). seat_at s number) turned.after in
       record {
         machine = machine_turn old new number turn turned;
-        quiet = subst (AllByRecursion (TellsInCollect number)) (append_cancel_left old.entries takes.added told (sym takes.entries ∙ turned.noted)) (quiet_by turn takes.turned.comes_to);
+        quiet = subst (AllByRecursion (TellsInCollect number)) (append_cancel_left old.history takes.added told (sym takes.entries ∙ turned.noted)) (quiet_by turn takes.turned.comes_to);
         turns = 1;
         counted = omega (arith, takes.turned.counted);
         spare = grown;
         present = record { within = omega (arith, present.within, ap (length {A = Seat}) seats); there = ap (λ (s : Seat). s.left) same ∙ present.there };
         first_stays = ap (λ (s : Seat). s.looks.first) same;
-        onward = phase_onward old.entries told new.entries turned.noted;
+        onward = phase_onward old.history told new.history turned.noted;
       }
     where
-      grown : old.spare + length old.entries ≤ new.spare + length new.entries
+      grown : old.spare + length old.history ≤ new.spare + length new.history
       grown =
-          let longer = ap (length {A = Entry}) takes.entries ∙ length-append old.entries takes.added in
-          let filtered = ap (length {A = Entry}) (ap (filter is_collectors) takes.entries ∙ filter-append is_collectors old.entries takes.added ∙ ap (λ es. filter is_collectors old.entries ++ es) (all_collectors takes.added takes.own))
-          ∙ length-append (filter is_collectors old.entries) takes.added in
+          let longer = ap (length {A = Entry}) takes.entries ∙ length-append old.history takes.added in
+          let filtered = ap (length {A = Entry}) (ap (filter is_collectors) takes.entries ∙ filter-append is_collectors old.history takes.added ∙ ap (λ es. filter is_collectors old.history ++ es) (all_collectors takes.added takes.own))
+          ∙ length-append (filter is_collectors old.history) takes.added in
           omega (arith, takes.turned.spare, longer, filtered)
 
 -- by an answer of the seat
-pub goes_answer : (old new : MachineHeapValue) (number : ℕ) → MakesInner old new number inners.Answer → IsPresent old number → GoesOn old new number
+pub goes_answer : (old new : Recorded) (number : ℕ) → MakesInner old new number inners.Answer → IsStillThere old number → CollectGoesOn old new number
 goes_answer old new number makes present =
     let told : List Entry = inner_entries old.machine.heap old.machine.state.words number (seat_at old.machine.state number).answered inners.Answer in
     let others = after_inner old.machine.heap old.machine.state new.machine.state number inners.Answer makes.plays in
@@ -145,7 +146,7 @@ goes_answer old new number makes present =
       spare = makes.spare;
       present = record { within = omega (arith, present.within, others.seats); there = ap (λ (s : Seat). s.left) makes.plays.seat ∙ present.there };
       first_stays = ap (λ (s : Seat). s.looks.first) makes.plays.seat;
-      onward = phase_onward old.entries told new.entries makes.noted;
+      onward = phase_onward old.history told new.history makes.noted;
     }
   where
     answer_quiet : (p answered : ℕ) → AllByRecursion (TellsInCollect number) (if p == answered then [] else entries.Answers number p ∷ [])
@@ -155,8 +156,8 @@ goes_answer old new number makes present =
     ]
 
 -- a last turn that waits for another seat
-pub ends_waiting : (old now new : MachineHeapValue) (number other answer p : ℕ) → GoesOn old now number → TakesTurn (play_state_of now) (play_state_of new) (turns.Waits other answer p)
-    → TurnsMachine now new (turns.Waits other answer p) → other ≢ number → EndsFor old new number (replies.Waits other answer p)
+pub ends_waiting : (old now new : Recorded) (number other answer p : ℕ) → CollectGoesOn old now number → TakesTurn (play_state_of now) (play_state_of new) (turns.Waits other answer p)
+    → MakesTurn now new (turns.Waits other answer p) → other ≢ number → EndsFor old new number (replies.Waits other answer p)
 unfolding goes_then goes_turn
 ends_waiting old now new number other answer p goes takes turned apart =
     let shows = wait_shows (play_state_of now) (play_state_of new) other answer p takes in
@@ -169,8 +170,8 @@ ends_waiting old now new number other answer p goes takes turned apart =
     }
 
 -- a last turn that ends a cycle
-pub ends_cycle : (old now new : MachineHeapValue) (number cycle kept : ℕ) → GoesOn old now number → TakesTurn (play_state_of now) (play_state_of new) (turns.Ended cycle kept)
-    → TurnsMachine now new (turns.Ended cycle kept) → EndsFor old new number (replies.Cycle cycle)
+pub ends_cycle : (old now new : Recorded) (number cycle kept : ℕ) → CollectGoesOn old now number → TakesTurn (play_state_of now) (play_state_of new) (turns.Ended cycle kept)
+    → MakesTurn now new (turns.Ended cycle kept) → EndsFor old new number (replies.Cycle cycle)
 unfolding goes_then goes_turn
 ends_cycle old now new number cycle kept goes takes turned =
     let comes = takes.turned.comes_to in
@@ -182,5 +183,5 @@ ends_cycle old now new number cycle kept goes takes turned =
       earlier = λ other is. ended_earlier other is comes.1;
     }
   where
-    ended_earlier : (other : ℕ) → replies.Cycle cycle ≡ replies.Cycle other → phase now.entries ≡ cycle_phases * cycle + clearing → phase old.entries ≤ cycle_phases * other + clearing
+    ended_earlier : (other : ℕ) → replies.Cycle cycle ≡ replies.Cycle other → phase now.history ≡ cycle_phases * cycle + clearing → phase old.history ≤ cycle_phases * other + clearing
     ended_earlier other is at_end = (let same : cycle ≡ other = cc is in omega (arith, same, at_end, goes.onward))

@@ -13,10 +13,10 @@ use Rattle.heap_model.specs.declared.reply.TurnReply.{TurnReply}
 use Rattle.heap_model.specs.declared.reply.TurnReply.TheVariants as replies
 use Rattle.heap_model.specs.account.Phases.{TurnShows}
 use Rattle.heap_model.specs.account.Turned.{is_of_heap, without_turned, AnswersRightly, AllAnswerRightly, TurnedHoldNobody}
-use Rattle.heap_runs.specs.Play.{tells_step, tells_turn, AreTurns, EndsCycle, IsLastCycle}
+use Rattle.heap_runs.specs.Play.{tells_step, tells_turn, AreTurns, ReachesCycleEnd, IsLastCycle}
 use Rattle.heap_runs.specs.PlayHeap.{PlayState}
 use Rattle.heap_runs.specs.Playing.{NotesCall, NotesTurns, NotesLastCycle, Follows}
-use Rattle.heap_runs.specs.Turning.{AddsTurns, GoesOnward, IsStep, ServesCommand}
+use Rattle.heap_runs.specs.Turning.{AddsTurns, IsNoWait, IsStep, ServesCommand}
 use Rattle.heap_runs.proofs.Told.{tells_call, noted_is}
 use Rattle.heap_runs.proofs.TurnFacts.{turns_add, came_add, ends_added, told_more}
 
@@ -62,8 +62,8 @@ follows_call heap old new before after number command notes follows =
 
 -- what the turns of a command added
 pub serves_adds : (old new : PlayState) (command : TurnCommand) (reply : TurnReply) → ServesCommand old new command reply → AddsTurns old new
-serves_adds old new (commands.Turns n) replies.Done serves = turns_add GoesOnward n old new serves.taken
-serves_adds old new (commands.Turns n) (replies.Waits number answer p) serves = came_add GoesOnward old new _ _ serves.0
+serves_adds old new (commands.Turns n) replies.Done serves = turns_add IsNoWait n old new serves.taken
+serves_adds old new (commands.Turns n) (replies.Waits number answer p) serves = came_add IsNoWait old new _ _ serves.0
 serves_adds old new (commands.Turns n) (replies.Cycle cycle) serves = absurd serves
 serves_adds old new commands.Cycle replies.Done serves = absurd serves
 serves_adds old new commands.Cycle (replies.Waits number answer p) serves = came_add IsStep old new _ _ serves
@@ -138,13 +138,13 @@ steps_told (entries.Returns count ∷ told) own = (refl, steps_told told own.1)
 steps_told (entries.Swings id ∷ told) own = (refl, steps_told told own.1)
 steps_told (_ ∷ told) own = cc own.0
 
-end_told : (began : Bool) (turned : List Entry) → EndsCycle began turned → AreTurns turned
+end_told : (began : Bool) (turned : List Entry) → ReachesCycleEnd began turned → AreTurns turned
 end_told began turned ends = rw ends.ends (told_more ends.steps (entries.Ends ends.cycle ends.kept ∷ []) (steps_told ends.steps ends.own) (refl, tt))
 
 cycle_told : (turned : List Entry) → IsLastCycle turned → AreTurns turned
 cycle_told turned cycle = rw cycle.both (told_more cycle.under_way cycle.whole (first cycle.first) (end_told true cycle.whole cycle.last))
   where
-    first : (cycle.under_way ≡ []) ⊎ EndsCycle false cycle.under_way → AreTurns cycle.under_way
+    first : (cycle.under_way ≡ []) ⊎ ReachesCycleEnd false cycle.under_way → AreTurns cycle.under_way
     first (inl none) = rw none tt
     first (inr ends) = end_told false cycle.under_way ends
 

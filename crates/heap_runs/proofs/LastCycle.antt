@@ -17,9 +17,9 @@ use Rattle.heap_model.specs.account.Windows.{begins_cycle}
 use Rattle.heap_model.specs.calls.CollectorCalls.{StepsTo}
 use Rattle.heap_model.proofs.account_lemmas.Windows.{any-more}
 use Rattle.core_rule.proofs.parties.LeftStill.{left_still}
-use Rattle.heap_runs.specs.Play.{tells_step, EndsCycle}
+use Rattle.heap_runs.specs.Play.{tells_step, ReachesCycleEnd}
 use Rattle.heap_runs.specs.PlayHeap.{PlayState, TakesTurn}
-use Rattle.heap_runs.specs.Playing.{AllGone, NotesCycle, NotesLastCycle}
+use Rattle.heap_runs.specs.Playing.{AllHaveLeft, NotesCycle, NotesLastCycle}
 use Rattle.heap_runs.specs.Turning.{IsStep, TakesTurns, HasComeTo, ServesCycle}
 use Rattle.heap_runs.proofs.TurnFacts.{added_is, none_is, came_add}
 
@@ -105,7 +105,7 @@ pub record ComesToEnd (old new : PlayState) : Type 0 where
   pub same_heap : new.heap ≡ old.heap
   pub turned : List Entry
   pub told : new.entries ≡ old.entries ++ turned
-  pub ended : EndsCycle (phase old.entries % cycle_phases == rest) turned
+  pub ended : ReachesCycleEnd (phase old.entries % cycle_phases == rest) turned
   pub at_rest : phase new.entries % cycle_phases ≡ rest
 
 pub comes_to_end : (old new : PlayState) (cycle kept : ℕ) (reply : TurnReply) → HasComeTo IsStep old new (turns.Ended cycle kept) reply → ComesToEnd old new
@@ -127,7 +127,7 @@ comes_to_end old new cycle kept reply came =
     begun first now some (inr there) last = there.1
 
 -- once every seat has left no turn waits, so the cycle ends
-pub unhindered : (old new : PlayState) (reply : TurnReply) → AllGone old → ServesCycle old new reply → ComesToEnd old new
+pub unhindered : (old new : PlayState) (reply : TurnReply) → AllHaveLeft old → ServesCycle old new reply → ComesToEnd old new
 unhindered old new replies.Done gone serves = absurd serves
 unhindered old new (replies.Cycle cycle) gone serves = comes_to_end old new cycle serves.0 (replies.Cycle cycle) serves.1
 unhindered old new (replies.Waits number answer p) gone serves =
@@ -136,7 +136,7 @@ unhindered old new (replies.Waits number answer p) gone serves =
     absurd cc (left, serves.shows.2.present)
 
 -- so it stays after turns
-pub gone_still : (old new : PlayState) (added : List Entry) → new.heap ≡ old.heap → new.entries ≡ old.entries ++ added → AllGone old → AllGone new
+pub gone_still : (old new : PlayState) (added : List Entry) → new.heap ≡ old.heap → new.entries ≡ old.entries ++ added → AllHaveLeft old → AllHaveLeft new
 gone_still old new added same told gone number under = ap (has_left number) told ∙ left_still number old.entries added (gone number (subst (λ (h : Heap). number < h.seats) same under))
 
 -- where no cycle is under way, the next one is the last
@@ -146,7 +146,7 @@ last_at_rest old new before after at_rest notes = record {
   turned = notes.turned;
   told = notes.told;
   noted = notes.noted;
-  cycle = record { under_way = []; whole = notes.turned; first = inl refl; last = subst (λ b. EndsCycle b notes.turned) (eq-eqb _ rest at_rest) notes.ended; both = refl };
+  cycle = record { under_way = []; whole = notes.turned; first = inl refl; last = subst (λ b. ReachesCycleEnd b notes.turned) (eq-eqb _ rest at_rest) notes.ended; both = refl };
 }
 
 -- where one is, it ends first
@@ -160,8 +160,8 @@ last_behind old now new before between after past first then_ = record {
   cycle = record {
     under_way = first.turned;
     whole = then_.turned;
-    first = inr (subst (λ b. EndsCycle b first.turned) (ne_eqb _ rest past) first.ended);
-    last = subst (λ b. EndsCycle b then_.turned) (eq-eqb _ rest first.at_rest) then_.ended;
+    first = inr (subst (λ b. ReachesCycleEnd b first.turned) (ne_eqb _ rest past) first.ended);
+    last = subst (λ b. ReachesCycleEnd b then_.turned) (eq-eqb _ rest first.at_rest) then_.ended;
     both = refl;
   };
 }

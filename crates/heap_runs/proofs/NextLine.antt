@@ -61,12 +61,12 @@ module _ (script : Script) (items : List Line) (i : ℕ) (d line : Line) (all : 
   line_of_form = subst (IsLine Play script.heap.seats) line_is (All-get_or (IsLine Play script.heap.seats) script.lines i d here (All-from_recursion (IsLine Play script.heap.seats) script.lines form.lines))
 
 -- what a line of a seat asks for
-pub record IsNext (script : Script) (state : PlayState) (number : ℕ) (command : Command) : Type 0 where
+pub record IsNextCall (script : Script) (state : PlayState) (number : ℕ) (command : Command) : Type 0 where
   pub may : MayCall state number command
   pub stays : command ≢ commands.Leave
 
 pub next_call : (script : Script) (items : List Line) (i : ℕ) (d : Line) (number : ℕ) (command : Command) (state : PlayState) (history : List Entry) → items ≡ script.lines → IsOfForm Play script
-    → i < length items → get_or items i d ≡ lines.Seat number command → HasAnsweredLines script.heap state history (take i items) → IsNext script state number command
+    → i < length items → get_or items i d ≡ lines.Seat number command → HasAnsweredLines script.heap state history (take i items) → IsNextCall script state number command
 next_call script items i d number command state history all form below is has =
     let line = line_of_form script items i d (lines.Seat number command) all form below is in
     let short : length (take i items) ≤ 65536 = omega (arith, length-take-le i items (omega (arith, below)), form.short, below, ap (length {A = Line}) all) in

@@ -23,23 +23,24 @@ use Rattle.core_rule.specs.Laws.{StandsFor}
 use Rattle.core_rule.specs.Looks.{WasSeen}
 use Rattle.core_rule.proofs.parties.OneSeat.{after_inner}
 use Rattle.core_rule.proofs.parties.Standing.{word_is, answer_word_is}
-use Rattle.heap_runs.specs.Collecting.{MayGoOn, MakesInner, IsPresent, ComesTo, EndsFor, EndsWholeFor, seen_by}
-use Rattle.heap_runs.specs.MachineHeap.{MachineHeapValue, IsBetweenCalls, CollectsMachine, play_state_of}
+use Rattle.locked_heap.specs.Recorded.{MakesInner, Recorded}
+use Rattle.heap_runs.specs.Collecting.{MayGoOn, IsStillThere, LastTurnIs, EndsFor, EndsWholeFor, seen_by}
+use Rattle.heap_runs.specs.MachineHeap.{IsBetweenCalls, CollectsMachine, play_state_of}
 use Rattle.heap_runs.specs.PlayHeap.{AnswersCollect, TellsTurn}
 use Rattle.heap_runs.proofs.Collecting.{goes_then, machine_then, machine_inner}
 
 -- a seat is there after an inner call
-pub present_still : (old new : MachineHeapValue) (number : ℕ) (inner : Inner) → MakesInner old new number inner → IsPresent old number → IsPresent new number
+pub present_still : (old new : Recorded) (number : ℕ) (inner : Inner) → MakesInner old new number inner → IsStillThere old number → IsStillThere new number
 present_still old new number inner makes present =
     let others = after_inner old.machine.heap old.machine.state new.machine.state number inner makes.plays in
     record { within = omega (arith, present.within, others.seats); there = ap (λ (s : Seat). s.left) makes.plays.seat ∙ present.there }
 
 -- it may look, and see what its turns came to
-pub may_look : (whole : MachineHeapValue) (number : ℕ) → IsPresent whole number → IsBetweenCalls whole.machine.heap whole.machine.state whole.entries → MayGoOn whole number inners.Look
+pub may_look : (whole : Recorded) (number : ℕ) → IsStillThere whole number → IsBetweenCalls whole.machine.heap whole.machine.state whole.history → MayGoOn whole number inners.Look
 may_look whole number present between =
     record { can = (present.within, record { idle = between.all_idle number present.within; present = present.there; makes = tt }); now = tt }
 
-pub may_see : (whole : MachineHeapValue) (number : ℕ) (reply : CollectReply) → IsPresent whole number → IsBetweenCalls whole.machine.heap whole.machine.state whole.entries → ComesTo whole number reply
+pub may_see : (whole : Recorded) (number : ℕ) (reply : CollectReply) → IsStillThere whole number → IsBetweenCalls whole.machine.heap whole.machine.state whole.history → LastTurnIs whole number reply
     → MayGoOn whole number (seen_by reply)
 may_see whole number (replies.Cycle cycle) present between comes = may_look whole number present between
 may_see whole number (replies.Waits other answer p) present between comes =
@@ -50,16 +51,16 @@ first_now : (history : List Entry) (number found : ℕ) (first : Option ℕ) →
 first_now history number found None seen is = omega (arith, is)
 first_now history number found (Some p) seen is = seen.begun
 
-pub first_looked : (old new : MachineHeapValue) (number : ℕ) → StandsFor old.machine.heap old.machine.state [] old.entries → IsBetweenCalls old.machine.heap old.machine.state old.entries → IsPresent old number
-    → MakesInner old new number inners.Look → FirstUpTo (seat_at new.machine.state number).looks.first (phase new.entries)
+pub first_looked : (old new : Recorded) (number : ℕ) → StandsFor old.machine.heap old.machine.state [] old.history → IsBetweenCalls old.machine.heap old.machine.state old.history → IsStillThere old number
+    → MakesInner old new number inners.Look → FirstUpTo (seat_at new.machine.state number).looks.first (phase new.history)
 first_looked old new number s between present makes =
     let idle = between.all_idle number present.within in
     let below : number < old.machine.heap.seats = omega (arith, present.within, s.stands.rule.machine.seated) in
     let found = (s.stands.looks number below).found (λ naming. cc (sym idle ∙ naming)) in
     let seen = subst (λ (h : List Entry). IfSome (seat_at old.machine.state number).looks.first (WasSeen h number)) s.grown found.first in
-    let upto = first_now old.entries number (at old.machine.heap old.machine.state.words Phase) (seat_at old.machine.state number).looks.first seen (word_is old.machine.heap old.machine.state old.entries s) in
-    let same : new.entries ≡ old.entries = makes.noted ∙ append-nil old.entries in
-    subst (λ (h : List Entry). FirstUpTo (seat_at new.machine.state number).looks.first (phase h)) (sym same) (subst (λ (l : Looks). FirstUpTo l.first (phase old.entries)) (sym (ap (λ (t : Seat). t.looks) makes.plays.seat)) upto)
+    let upto = first_now old.history number (at old.machine.heap old.machine.state.words Phase) (seat_at old.machine.state number).looks.first seen (word_is old.machine.heap old.machine.state old.history s) in
+    let same : new.history ≡ old.history = makes.noted ∙ append-nil old.history in
+    subst (λ (h : List Entry). FirstUpTo (seat_at new.machine.state number).looks.first (phase h)) (sym same) (subst (λ (l : Looks). FirstUpTo l.first (phase old.history)) (sym (ap (λ (t : Seat). t.looks) makes.plays.seat)) upto)
 
 first_kept : (first : Option ℕ) (found p q : ℕ) → FirstUpTo first p → p ≤ q → FirstUpTo (first_of first found) q
 first_kept None found p q upto less = absurd upto
@@ -69,10 +70,10 @@ first_kept (Some first) found p q upto less = omega (arith, upto, less)
 found_then : (other p word : ℕ) (looks : Looks) → word < p → (compared other p word looks).behind ≡ Some (record { seat = other; answered = word; phase = p })
 found_then other p word looks less = rw (lt-ltb word p less) refl
 
-module _ (old new : MachineHeapValue) (number p : ℕ) (one : StandsFor old.machine.heap old.machine.state [] old.entries) (two : StandsFor new.machine.heap new.machine.state [] new.entries)
-    (between : IsBetweenCalls new.machine.heap new.machine.state new.entries) (present : IsPresent old number) (upto : FirstUpTo (seat_at old.machine.state number).looks.first p) where
+module _ (old new : Recorded) (number p : ℕ) (one : StandsFor old.machine.heap old.machine.state [] old.history) (two : StandsFor new.machine.heap new.machine.state [] new.history)
+    (between : IsBetweenCalls new.machine.heap new.machine.state new.history) (present : IsStillThere old number) (upto : FirstUpTo (seat_at old.machine.state number).looks.first p) where
   -- what it has seen it may note
-  pub may_note : (reply : CollectReply) → MakesInner old new number (seen_by reply) → ComesTo old number reply → ((cycle : ℕ) → reply ≡ replies.Cycle cycle → p ≤ cycle_phases * cycle) → MayGoOn new number (inners.Note reply)
+  pub may_note : (reply : CollectReply) → MakesInner old new number (seen_by reply) → LastTurnIs old number reply → ((cycle : ℕ) → reply ≡ replies.Cycle cycle → p ≤ cycle_phases * cycle) → MayGoOn new number (inners.Note reply)
   may_note (replies.Cycle cycle) makes comes whole =
       let here = present_still old new number inners.Look makes present in
       let looks : (seat_at new.machine.state number).looks ≡ looked (at old.machine.heap old.machine.state.words Phase) (seat_at old.machine.state number).looks = ap (λ (t : Seat). t.looks) makes.plays.seat in
@@ -85,7 +86,7 @@ module _ (old new : MachineHeapValue) (number p : ℕ) (one : StandsFor old.mach
             present = here.there;
             makes = (
               subst (λ (l : Looks). FirstUpTo l.first (cycle_phases * cycle)) (sym looks) kept,
-              omega (arith, ap (λ (l : Looks). l.seen) looks, word_is old.machine.heap old.machine.state old.entries one, comes.2),
+              omega (arith, ap (λ (l : Looks). l.seen) looks, word_is old.machine.heap old.machine.state old.history one, comes.2),
             );
           },
         );
@@ -93,13 +94,13 @@ module _ (old new : MachineHeapValue) (number p : ℕ) (one : StandsFor old.mach
       }
   may_note (replies.Waits other answer q) makes comes whole =
       let here = present_still old new number (inners.Behind other) makes present in
-      let behind : IsBehind other answer q old.entries = comes.3 in
+      let behind : IsBehind other answer q old.history = comes.3 in
       let below : other < old.machine.heap.seats = comes.2 in
-      let same : new.entries ≡ old.entries = makes.noted ∙ append-nil old.entries in
-      let later : IsBehind other answer q new.entries = subst (IsBehind other answer q) (sym same) behind in
+      let same : new.history ≡ old.history = makes.noted ∙ append-nil old.history in
+      let later : IsBehind other answer q new.history = subst (IsBehind other answer q) (sym same) behind in
       let there : other < new.machine.heap.seats = rw makes.same_heap below in
-      let phase_word : at old.machine.heap old.machine.state.words Phase ≡ q = word_is old.machine.heap old.machine.state old.entries one ∙ behind.here in
-      let own_word : at old.machine.heap old.machine.state.words (Answer other) ≡ answer = answer_word_is old.machine.heap old.machine.state old.entries one other answer below behind.present behind.answered in
+      let phase_word : at old.machine.heap old.machine.state.words Phase ≡ q = word_is old.machine.heap old.machine.state old.history one ∙ behind.here in
+      let own_word : at old.machine.heap old.machine.state.words (Answer other) ≡ answer = answer_word_is old.machine.heap old.machine.state old.history one other answer below behind.present behind.answered in
       let looks : (seat_at new.machine.state number).looks ≡ compared other (at old.machine.heap old.machine.state.words Phase) (at old.machine.heap old.machine.state.words (Answer other))
       (seen_phase (at old.machine.heap old.machine.state.words Phase) (seat_at old.machine.state number).looks) = ap (λ (t : Seat). t.looks) makes.plays.seat in
       record {
@@ -112,21 +113,21 @@ module _ (old new : MachineHeapValue) (number p : ℕ) (one : StandsFor old.mach
           },
         );
         now = record {
-          word = answer_word_is new.machine.heap new.machine.state new.entries two other answer there later.present later.answered;
-          here = word_is new.machine.heap new.machine.state new.entries two ∙ later.here;
+          word = answer_word_is new.machine.heap new.machine.state new.history two other answer there later.present later.answered;
+          here = word_is new.machine.heap new.machine.state new.history two ∙ later.here;
         };
       }
 
 -- a cycle that began not before the turns, where none was under way
-pub whole_at_rest : (old new : MachineHeapValue) (number : ℕ) (reply : CollectReply) → EndsFor old new number reply → phase old.entries % cycle_phases ≡ 0 → EndsWholeFor old new number reply
+pub whole_at_rest : (old new : Recorded) (number : ℕ) (reply : CollectReply) → EndsFor old new number reply → phase old.history % cycle_phases ≡ 0 → EndsWholeFor old new number reply
 whole_at_rest old new number reply ends at_rest = record { ends = ends; whole = λ cycle is. omega (arith, at_rest, ends.earlier cycle is) }
 
 -- nothing ended where a seat is waited for
-pub whole_waiting : (old new : MachineHeapValue) (number other answer p : ℕ) → EndsFor old new number (replies.Waits other answer p) → EndsWholeFor old new number (replies.Waits other answer p)
+pub whole_waiting : (old new : Recorded) (number other answer p : ℕ) → EndsFor old new number (replies.Waits other answer p) → EndsWholeFor old new number (replies.Waits other answer p)
 whole_waiting old new number other answer p ends = record { ends = ends; whole = λ cycle is. absurd (cc is) }
 
 -- behind the end of a cycle a whole one is made
-pub whole_behind : (old now new : MachineHeapValue) (number first : ℕ) (reply : CollectReply) → EndsFor old now number (replies.Cycle first) → EndsFor now new number reply → EndsWholeFor old new number reply
+pub whole_behind : (old now new : Recorded) (number first : ℕ) (reply : CollectReply) → EndsFor old now number (replies.Cycle first) → EndsFor now new number reply → EndsWholeFor old new number reply
 unfolding goes_then
 whole_behind old now new number first reply ended ends =
     let some : 0 < ended.goes.turns + ends.goes.turns = omega (arith, ends.some) in
@@ -141,16 +142,16 @@ whole_behind old now new number first reply ended ends =
     }
 
 -- seeing tells nothing
-seen_none : (whole : MachineHeapValue) (number : ℕ) (reply : CollectReply) → inner_entries whole.machine.heap whole.machine.state.words number (seat_at whole.machine.state number).answered (seen_by reply) ≡ []
+seen_none : (whole : Recorded) (number : ℕ) (reply : CollectReply) → inner_entries whole.machine.heap whole.machine.state.words number (seat_at whole.machine.state number).answered (seen_by reply) ≡ []
 seen_none whole number (replies.Cycle cycle) = refl
 seen_none whole number (replies.Waits other answer p) = refl
 
-tells_turn : (two : MachineHeapValue) (number : ℕ) (reply : CollectReply) → ComesTo two number reply → TellsTurn number two.last_turn (noted_reply reply)
+tells_turn : (two : Recorded) (number : ℕ) (reply : CollectReply) → LastTurnIs two number reply → TellsTurn number two.last_turn (noted_reply reply)
 tells_turn two number (replies.Cycle cycle) comes = (comes.0, comes.1)
 tells_turn two number (replies.Waits other answer p) comes = (comes.0, comes.1)
 
 -- the whole collect
-module _ (start one two three four : MachineHeapValue) (number : ℕ) (reply : CollectReply) (look : MakesInner start one number inners.Look) (whole : EndsWholeFor one two number reply)
+module _ (start one two three four : Recorded) (number : ℕ) (reply : CollectReply) (look : MakesInner start one number inners.Look) (whole : EndsWholeFor one two number reply)
     (sees : MakesInner two three number (seen_by reply)) (notes : MakesInner three four number (inners.Note reply)) where
   pub collect_machine : CollectsMachine start four number
   collect_machine =
@@ -161,12 +162,12 @@ module _ (start one two three four : MachineHeapValue) (number : ℕ) (reply : C
   collect_answers =
       let goes = whole.ends.goes in
       let said : List Entry = Said number Collect (noted_reply reply) ∷ [] in
-      let seen : three.entries ≡ two.entries = sees.noted ∙ ap (λ (l : List Entry). two.entries ++ l) (seen_none two number reply) ∙ append-nil two.entries in
+      let seen : three.history ≡ two.history = sees.noted ∙ ap (λ (l : List Entry). two.history ++ l) (seen_none two number reply) ∙ append-nil two.history in
       record {
         heap = notes.same_heap ∙ sees.same_heap ∙ goes.machine.same_heap ∙ look.same_heap;
         before = goes.machine.told;
         told = goes.quiet;
-        entries = notes.noted ∙ ap (λ (l : List Entry). l ++ said) (seen ∙ goes.machine.noted ∙ ap (λ (l : List Entry). l ++ goes.machine.told) (look.noted ∙ append-nil start.entries)) ∙ append_assoc start.entries goes.machine.told said;
+        entries = notes.noted ∙ ap (λ (l : List Entry). l ++ said) (seen ∙ goes.machine.noted ∙ ap (λ (l : List Entry). l ++ goes.machine.told) (look.noted ∙ append-nil start.history)) ∙ append_assoc start.history goes.machine.told said;
         turns = goes.turns;
         some = whole.ends.some;
         counted = omega (arith, goes.counted, look.turns_stay, sees.turns_stay, notes.turns_stay);

@@ -4,21 +4,20 @@ use Rattle.heap_model.specs.declared.heap.Heap.{Heap}
 use Rattle.heap_model.specs.declared.entry.Entry.{Entry}
 use Rattle.heap_model.specs.account.Account.{IsLegal}
 use Rattle.core_machine.specs.machine.Machine.{State}
-use Rattle.core_rule.specs.Laws.{StandsFor, EveryRunKeeps, WholeCallsPlay, WordsAreUsed}
+use Rattle.core_rule.specs.Laws.{OneCallAtATime, StandsFor, EveryRunKeeps, WholeCallsPlay, WordsAreUsed}
 use Rattle.core_rule.proofs.parties.Standing.{none_short, words_used}
-use Rattle.heap_runs.specs.MachineHeap.{WholeCalls, IsBetweenCalls}
+use Rattle.locked_heap.proofs.Leading.{book_stands}
+use Rattle.heap_runs.specs.MachineHeap.{IsBetweenCalls}
 use Rattle.heap_runs.specs.PlayHeap.{IsPlayed}
 
--- some book stands for a machine after whole calls, with their entries
-pub stands : EveryRunKeeps → (heap : Heap) (state : State) (told : List Entry) → WholeCalls heap state told → StandsFor heap state [] told
-stands runs heap state told calls =
-    rw (calls.shown, calls.ends) (runs heap calls.opening calls.events calls.limits calls.opens calls.run)
+-- some book stands for it
+pub stands : EveryRunKeeps → (heap : Heap) (state : State) (told : List Entry) → IsBetweenCalls heap state told → StandsFor heap state [] told
+stands runs heap state told between = book_stands OneCallAtATime heap state told between runs
 
 -- the entries are a play
 pub played : EveryRunKeeps → WholeCallsPlay → WordsAreUsed → (heap : Heap) (state : State) (told : List Entry) → IsBetweenCalls heap state told → IsPlayed heap told
 played runs plays words heap state told between =
-    let calls = between.calls in
-    let legal : IsLegal heap true told = subst (IsLegal heap true) (sym calls.shown) (plays heap calls.opening calls.events calls.limits calls.opens calls.run calls.whole) in
-    let s = stands runs heap state told calls in
+    let legal : IsLegal heap true told = subst (IsLegal heap true) (sym between.shown) (plays heap between.opening between.events between.limits between.opens between.run between.are) in
+    let s = stands runs heap state told between in
     let used = words_used heap state told s words between.all_idle in
     record { legal = legal; none_short = none_short heap state told s; words_fit = omega (arith, used.0, used.1) }

@@ -20,15 +20,16 @@ use Rattle.core_rule.specs.Laws.{StandsFor}
 use Rattle.core_rule.specs.TurnsLeft.{turns_left, turns_left_at}
 use Rattle.core_rule.proofs.parties.OneSeat.{after_inner}
 use Rattle.core_rule.proofs.parties.Standing.{word_is, answered_last, phase_near}
-use Rattle.heap_runs.specs.Collecting.{MakesInner, IsPresent}
-use Rattle.heap_runs.specs.MachineHeap.{MachineHeapValue, IsBetweenCalls, TurnsMachine, play_state_of}
+use Rattle.locked_heap.specs.Recorded.{MakesInner, Recorded, MakesTurn}
+use Rattle.heap_runs.specs.Collecting.{IsStillThere}
+use Rattle.heap_runs.specs.MachineHeap.{IsBetweenCalls, play_state_of}
 use Rattle.heap_runs.specs.PlayHeap.{TakesTurn}
 
 -- how many phases the seat is behind, which is one at most, and how many turns are left
-abbrev pub behind_by : MachineHeapValue → ℕ → ℕ
+abbrev pub behind_by : Recorded → ℕ → ℕ
 behind_by whole number = at whole.machine.heap whole.machine.state.words Phase - (seat_at whole.machine.state number).answered
 
-abbrev pub left_for : MachineHeapValue → ℕ → ℕ
+abbrev pub left_for : Recorded → ℕ → ℕ
 left_for whole number = 2 * turns_left whole.machine.heap whole.machine.state + behind_by whole number
 
 -- a turn that waits looks at a seat, and the collector stays as it is
@@ -54,11 +55,11 @@ looking_left : (heap : Heap) (one two : List ℕ) (p looked : ℕ) (stage : Stag
 looking_left heap one two p looked stage is = rw is refl
 
 -- so a turn that waits leaves as many
-pub record LooksStill (old new : MachineHeapValue) : Type 0 where
+pub record LooksStill (old new : Recorded) : Type 0 where
   pub looking : new.machine.state.collector.stage ≡ stages.Looking
   pub same : turns_left new.machine.heap new.machine.state ≡ turns_left old.machine.heap old.machine.state
 
-pub waits_still : (old new : MachineHeapValue) (other answer p : ℕ) → TurnsMachine old new (turns.Waits other answer p) → LooksStill old new
+pub waits_still : (old new : Recorded) (other answer p : ℕ) → MakesTurn old new (turns.Waits other answer p) → LooksStill old new
 waits_still old new other answer p turned =
     let heap = old.machine.heap in
     let state = old.machine.state in
@@ -76,12 +77,12 @@ waits_still old new other answer p turned =
     }
 
 -- a step leaves fewer, and the seat may be behind then
-pub stepped_fewer : (old new : MachineHeapValue) (number : ℕ) → StandsFor new.machine.heap new.machine.state [] new.entries → IsBetweenCalls new.machine.heap new.machine.state new.entries → IsPresent new number
+pub stepped_fewer : (old new : Recorded) (number : ℕ) → StandsFor new.machine.heap new.machine.state [] new.history → IsBetweenCalls new.machine.heap new.machine.state new.history → IsStillThere new number
     → TakesTurn (play_state_of old) (play_state_of new) turns.Stepped → left_for new number < left_for old number
 stepped_fewer old new number s between present takes =
     let below : number < new.machine.heap.seats = omega (arith, present.within, s.stands.rule.machine.seated) in
     let fewer = takes.fewer refl in
-    elim (phase_near new.machine.heap new.machine.state new.entries s number below (between.all_idle number present.within) present.there) [
+    elim (phase_near new.machine.heap new.machine.state new.history s number below (between.all_idle number present.within) present.there) [
       | inl same ↦ omega (arith, same, fewer)
       | inr next ↦ omega (arith, next, fewer)
     ]
@@ -94,9 +95,9 @@ answer_phase number p answered = elim (eqb_tells p answered) [
 ]
 
 -- a turn that waits for the seat, and its answer, leave as many turns, and the seat isn't behind any more
-pub answered_fewer : (old now new : MachineHeapValue) (number answer p : ℕ) → StandsFor old.machine.heap old.machine.state [] old.entries → StandsFor now.machine.heap now.machine.state [] now.entries
-    → StandsFor new.machine.heap new.machine.state [] new.entries → IsBetweenCalls old.machine.heap old.machine.state old.entries → IsPresent old number
-    → TakesTurn (play_state_of old) (play_state_of now) (turns.Waits number answer p) → TurnsMachine old now (turns.Waits number answer p) → MakesInner now new number inners.Answer
+pub answered_fewer : (old now new : Recorded) (number answer p : ℕ) → StandsFor old.machine.heap old.machine.state [] old.history → StandsFor now.machine.heap now.machine.state [] now.history
+    → StandsFor new.machine.heap new.machine.state [] new.history → IsBetweenCalls old.machine.heap old.machine.state old.history → IsStillThere old number
+    → TakesTurn (play_state_of old) (play_state_of now) (turns.Waits number answer p) → MakesTurn old now (turns.Waits number answer p) → MakesInner now new number inners.Answer
     → left_for new number < left_for old number
 answered_fewer old now new number answer p one two three between present takes turned makes =
     let still = waits_still old now number answer p turned in
@@ -105,13 +106,13 @@ answered_fewer old now new number answer p one two three between present takes t
     let same : turns_left new.machine.heap new.machine.state ≡ turns_left now.machine.heap now.machine.state
     = rw (makes.same_heap, collector) (looking_left now.machine.heap new.machine.state.words now.machine.state.words now.machine.state.collector.phase now.machine.state.collector.looked now.machine.state.collector.stage still.looking) in
     let below : number < old.machine.heap.seats = takes.waits.0 in
-    let before : at old.machine.heap old.machine.state.words Phase ≡ p = word_is old.machine.heap old.machine.state old.entries one ∙ takes.waits.1.here in
+    let before : at old.machine.heap old.machine.state.words Phase ≡ p = word_is old.machine.heap old.machine.state old.history one ∙ takes.waits.1.here in
     let gave : (seat_at old.machine.state number).answered ≡ answer
-    = answered_last old.machine.heap old.machine.state old.entries one number below (between.all_idle number present.within) ∙ takes.waits.1.answered in
+    = answered_last old.machine.heap old.machine.state old.history one number below (between.all_idle number present.within) ∙ takes.waits.1.answered in
     let told : List Entry = (if at now.machine.heap now.machine.state.words Phase == (seat_at now.machine.state number).answered then [] else entries.Answers number (at now.machine.heap now.machine.state.words Phase) ∷ []) in
-    let phases : phase new.entries ≡ phase now.entries = ap phase makes.noted ∙ plain now.entries told (answer_phase number (at now.machine.heap now.machine.state.words Phase) (seat_at now.machine.state number).answered) in
-    let now_word = word_is now.machine.heap now.machine.state now.entries two in
-    let new_word = word_is new.machine.heap new.machine.state new.entries three in
+    let phases : phase new.history ≡ phase now.history = ap phase makes.noted ∙ plain now.history told (answer_phase number (at now.machine.heap now.machine.state.words Phase) (seat_at now.machine.state number).answered) in
+    let now_word = word_is now.machine.heap now.machine.state now.history two in
+    let new_word = word_is new.machine.heap new.machine.state new.history three in
     let answers : (seat_at new.machine.state number).answered ≡ at now.machine.heap now.machine.state.words Phase = ap (λ (t : Seat). t.answered) makes.plays.seat in
     omega (arith, same, still.same, before, gave, takes.waits.2, phases, now_word, new_word, answers)
   where

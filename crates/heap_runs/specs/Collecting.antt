@@ -1,5 +1,5 @@
 -- What the parts of a collect on the machine come to.
-use Rattle.std.specs.Prelude.{◌≡◌, ◌≢◌, ℕ, ◌+◌, ◌-◌, ◌*◌, ◌<◌, ◌≤◌, ◌^◌, min, ◌++◌, length, false, Some}
+use Rattle.std.specs.Prelude.{◌≡◌, ◌≢◌, ℕ, ◌+◌, ◌-◌, ◌*◌, ◌<◌, ◌≤◌, ◌^◌, min, length, false, Some}
 use Rattle.std.specs.List.{AllByRecursion}
 use Rattle.heap_model.specs.declared.calls.collect.Inner.{Inner}
 use Rattle.heap_model.specs.declared.calls.collect.Inner.TheVariants.{Look, Behind}
@@ -9,41 +9,32 @@ use Rattle.heap_model.specs.declared.calls.collector_calls.Turn.TheVariants as t
 use Rattle.heap_model.specs.PhasePlan.{cycle_phases, clearing}
 use Rattle.heap_model.specs.account.PhaseCounts.{phase}
 use Rattle.heap_model.specs.account.Phases.{IsBehind}
-use Rattle.core_machine.specs.machine.InnerCalls.{PlaysInner, inner_entries}
 use Rattle.core_machine.specs.machine.Machine.{BeginsInner, Can, seat_at}
 use Rattle.core_rule.specs.Laws.{NotesNow}
-use Rattle.heap_runs.specs.MachineHeap.{MachineHeapValue, CollectsMachine}
+use Rattle.locked_heap.specs.Recorded.{Recorded}
+use Rattle.heap_runs.specs.MachineHeap.{CollectsMachine}
 use Rattle.heap_runs.specs.PlayHeap.{TellsInCollect}
 
 -- the seat may make the inner call now
-pub record MayGoOn (whole : MachineHeapValue) (number : ℕ) (inner : Inner) : Type 0 where
+pub record MayGoOn (whole : Recorded) (number : ℕ) (inner : Inner) : Type 0 where
   pub can : Can whole.machine.heap whole.machine.state (BeginsInner number inner)
   pub now : NotesNow whole.machine.heap whole.machine.state inner
 
--- the inner call is the machine's, and no turn was made
-pub record MakesInner (old new : MachineHeapValue) (number : ℕ) (inner : Inner) : Type 0 where
-  pub same_heap : new.machine.heap ≡ old.machine.heap
-  pub plays : PlaysInner old.machine.heap old.machine.state new.machine.state number inner
-  pub noted : new.entries ≡ old.entries ++ inner_entries old.machine.heap old.machine.state.words number (seat_at old.machine.state number).answered inner
-  pub turns_stay : new.turns ≡ old.turns
-  pub last_stays : new.last_turn ≡ old.last_turn
-  pub spare : old.spare + length old.entries ≤ new.spare + length new.entries
-
 -- a seat that is there, and hasn't left
-pub record IsPresent (whole : MachineHeapValue) (number : ℕ) : Type 0 where
+pub record IsStillThere (whole : Recorded) (number : ℕ) : Type 0 where
   pub within : number < length whole.machine.state.seats
   pub there : (seat_at whole.machine.state number).left ≡ false
 
 -- turns were made, and answers of the seat between them; it hasn't left, and what it looked at first stays
-pub record GoesOn (old new : MachineHeapValue) (number : ℕ) : Type 0 where
+pub record CollectGoesOn (old new : Recorded) (number : ℕ) : Type 0 where
   pub machine : CollectsMachine old new number
   pub quiet : AllByRecursion (TellsInCollect number) machine.told
   pub turns : ℕ
   pub counted : min new.turns (2 ^ 64 - 1) ≡ min (old.turns + turns) (2 ^ 64 - 1)
-  pub spare : old.spare + length old.entries ≤ new.spare + length new.entries
-  pub present : IsPresent new number
+  pub spare : old.spare + length old.history ≤ new.spare + length new.history
+  pub present : IsStillThere new number
   pub first_stays : (seat_at new.machine.state number).looks.first ≡ (seat_at old.machine.state number).looks.first
-  pub onward : phase old.entries ≤ phase new.entries
+  pub onward : phase old.history ≤ phase new.history
 
 -- the inner call by which the seat sees for itself what the turns came to: it looks at the phase, or whether the other seat is behind
 abbrev pub seen_by : CollectReply → Inner
@@ -51,19 +42,19 @@ seen_by (Cycle cycle) = Look
 seen_by (Waits other answer p) = Behind other
 
 -- the last turn came to this: it ended that cycle, or it waits for that other seat
-abbrev pub ComesTo : MachineHeapValue → ℕ → CollectReply → Type 0
-ComesTo whole number (Cycle cycle) = (kept : ℕ) × (whole.last_turn ≡ Some (turns.Ended cycle kept)) × (phase whole.entries ≡ cycle_phases * cycle + cycle_phases)
-ComesTo whole number (Waits other answer p) =
-    (other ≢ number) × (whole.last_turn ≡ Some (turns.Waits other answer p)) × (other < whole.machine.heap.seats) × IsBehind other answer p whole.entries × (answer < p)
+abbrev pub LastTurnIs : Recorded → ℕ → CollectReply → Type 0
+LastTurnIs whole number (Cycle cycle) = (kept : ℕ) × (whole.last_turn ≡ Some (turns.Ended cycle kept)) × (phase whole.history ≡ cycle_phases * cycle + cycle_phases)
+LastTurnIs whole number (Waits other answer p) =
+    (other ≢ number) × (whole.last_turn ≡ Some (turns.Waits other answer p)) × (other < whole.machine.heap.seats) × IsBehind other answer p whole.history × (answer < p)
 
 -- turns were made up to the first that ended a cycle or waits for another seat, as the reply tells
-pub record EndsFor (old new : MachineHeapValue) (number : ℕ) (reply : CollectReply) : Type 0 where
-  pub goes : GoesOn old new number
+pub record EndsFor (old new : Recorded) (number : ℕ) (reply : CollectReply) : Type 0 where
+  pub goes : CollectGoesOn old new number
   pub some : 0 < goes.turns
-  pub comes : ComesTo new number reply
-  pub earlier : (cycle : ℕ) → reply ≡ Cycle cycle → phase old.entries ≤ cycle_phases * cycle + clearing
+  pub comes : LastTurnIs new number reply
+  pub earlier : (cycle : ℕ) → reply ≡ Cycle cycle → phase old.history ≤ cycle_phases * cycle + clearing
 
 -- so it is, and a cycle that ended began not before the first turn
-pub record EndsWholeFor (old new : MachineHeapValue) (number : ℕ) (reply : CollectReply) : Type 0 where
+pub record EndsWholeFor (old new : Recorded) (number : ℕ) (reply : CollectReply) : Type 0 where
   pub ends : EndsFor old new number reply
-  pub whole : (cycle : ℕ) → reply ≡ Cycle cycle → phase old.entries ≤ cycle_phases * cycle
+  pub whole : (cycle : ℕ) → reply ≡ Cycle cycle → phase old.history ≤ cycle_phases * cycle

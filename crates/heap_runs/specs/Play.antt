@@ -66,7 +66,7 @@ EndsAtLine false entries = EndsInReply entries
 EndsAtLine true entries = EndsInSlack entries
 
 -- steps of the collector up to the end of a cycle, which began among them or had begun before
-pub record EndsCycle (began : Bool) (turned : List Entry) : Type 0 where
+pub record ReachesCycleEnd (began : Bool) (turned : List Entry) : Type 0 where
   pub steps : List Entry
   pub own : AllByRecursion (λ entry. tells_step entry ≡ true) steps
   pub begins : list_any begins_cycle steps ≡ began
@@ -78,8 +78,8 @@ pub record EndsCycle (began : Bool) (turned : List Entry) : Type 0 where
 pub record IsLastCycle (turned : List Entry) : Type 0 where
   pub under_way : List Entry
   pub whole : List Entry
-  pub first : (under_way ≡ []) ⊎ EndsCycle false under_way
-  pub last : EndsCycle true whole
+  pub first : (under_way ≡ []) ⊎ ReachesCycleEnd false under_way
+  pub last : ReachesCycleEnd true whole
   pub both : turned ≡ under_way ++ whole
 
 -- the entries before the mark answer the script's lines in order, each once, and behind it the seats leave, and then a last cycle is made

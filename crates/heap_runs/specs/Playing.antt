@@ -1,5 +1,5 @@
 -- A play that has answered some lines of its script, and one whose seats have left.
-use Rattle.std.specs.Prelude.{◌≡◌, ℕ, ◌-◌, ◌<◌, ◌≤◌, ◌%◌, ◌==◌, ◌^◌, min, Bool, true, false, List, [], ◌∷◌, ◌++◌, length}
+use Rattle.std.specs.Prelude.{◌≡◌, ℕ, ◌<◌, ◌≤◌, ◌%◌, ◌==◌, Bool, true, false, List, [], ◌∷◌, ◌++◌, length}
 use Rattle.std.specs.List.{flat_map, range_with_len}
 use Rattle.heap_model.specs.declared.heap.Heap.{Heap}
 use Rattle.heap_model.specs.declared.command.Command.{Command}
@@ -10,14 +10,13 @@ use Rattle.heap_model.specs.declared.reply.Reply.{Reply}
 use Rattle.heap_model.specs.declared.reply.TurnReply.{TurnReply}
 use Rattle.heap_model.specs.PhasePlan.{cycle_phases, rest}
 use Rattle.heap_model.specs.account.PhaseCounts.{phase, has_left}
-use Rattle.heap_model.specs.account.Space.{total}
 use Rattle.heap_model.specs.account.Turned.{without_turned, AllAnswerRightly}
 use Rattle.heap_model.specs.calls.SeatCalls.{leave_entries}
 use Rattle.heap_model.specs.calls.SeatState.{own_graph_seat}
 use Rattle.script_text.specs.declared.script.Line.{Line}
-use Rattle.heap_runs.specs.Play.{lines_answered, EndsCycle, IsLastCycle}
+use Rattle.heap_runs.specs.Play.{lines_answered, ReachesCycleEnd, IsLastCycle}
 use Rattle.heap_runs.specs.PlayHeap.{PlayState, seat_state_of, AnswersCall}
-use Rattle.heap_runs.specs.Turning.{ServesCommand, AddsTurns, CountsTurns}
+use Rattle.heap_runs.specs.Turning.{ServesCommand, AddsTurns, TurnsRiseBy}
 use Rattle.slack_pace.specs.Slack.{HasWaited}
 
 -- the call was made, and its entries are noted behind those from before
@@ -28,10 +27,6 @@ pub record NotesCall (old new : PlayState) (before after : List Entry) (number :
   pub told : new.entries ≡ old.entries ++ added
   pub noted : after ≡ before ++ added
 
--- how many fragments these entries take, up to the last number of its type
-abbrev pub claimed_by : List Entry → ℕ
-claimed_by entries = min (total (λ e. e.taken) entries) (2 ^ 64 - 1)
-
 -- the turns that a pace asked for were made, or those up to the first that waited, and their entries are noted behind those from before
 pub record NotesSlack (asked : ℕ) (old new : PlayState) (before after : List Entry) : Type 0 where
   pub adds : AddsTurns old new
@@ -39,7 +34,7 @@ pub record NotesSlack (asked : ℕ) (old new : PlayState) (before after : List E
   pub made : ℕ
   pub most : made ≤ asked
   pub fewer : made < asked → HasWaited new.last_turn
-  pub counted : CountsTurns old new made
+  pub counted : TurnsRiseBy old new made
 
 -- the call was made and noted, and with a pace turns behind it
 pub record NotesSeatLine (paced : Bool) (old new : PlayState) (before after : List Entry) (number : ℕ) (command : Command) : Type 0 where
@@ -89,8 +84,8 @@ pub record HaveLeft (heap : Heap) (state : PlayState) (before after : List Entry
   pub leaves : after ≡ before ++ flat_map (λ number. leave_entries number (left number)) (range_with_len 0 count)
 
 -- every seat has left
-abbrev pub AllGone : PlayState → Type 0
-AllGone state = (number : ℕ) → number < state.heap.seats → has_left number state.entries ≡ true
+abbrev pub AllHaveLeft : PlayState → Type 0
+AllHaveLeft state = (number : ℕ) → number < state.heap.seats → has_left number state.entries ≡ true
 
 -- turns were made up to the end of a cycle, which had begun before where one was under way, and their entries are noted behind those from before
 pub record NotesCycle (old new : PlayState) (before after : List Entry) : Type 0 where
@@ -98,7 +93,7 @@ pub record NotesCycle (old new : PlayState) (before after : List Entry) : Type 0
   pub turned : List Entry
   pub told : new.entries ≡ old.entries ++ turned
   pub noted : after ≡ before ++ turned
-  pub ended : EndsCycle (phase old.entries % cycle_phases == rest) turned
+  pub ended : ReachesCycleEnd (phase old.entries % cycle_phases == rest) turned
   pub at_rest : phase new.entries % cycle_phases ≡ rest
 
 -- a last cycle was made, and its entries are noted behind those from before

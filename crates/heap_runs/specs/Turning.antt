@@ -19,9 +19,9 @@ pub record AddsTurns (old new : PlayState) : Type 0 where
   pub turned : AreTurns added
 
 -- the turn doesn't wait
-abbrev pub GoesOnward : Turn → Type 0
-GoesOnward (turns.Waits number answer p) = ⊥
-GoesOnward _ = Unit {0}
+abbrev pub IsNoWait : Turn → Type 0
+IsNoWait (turns.Waits number answer p) = ⊥
+IsNoWait _ = Unit {0}
 
 -- it is a step alone: it neither waits nor ends a cycle
 abbrev pub IsStep : Turn → Type 0
@@ -33,13 +33,13 @@ TakesTurns Is zero old new = new ≡ old
 TakesTurns Is (suc n) old new = (now : PlayState) × (turn : Turn) × TakesTurns Is n old now × TakesTurn now new turn × Is turn
 
 -- the number of turns rose by so many, or it stands at its last value
-abbrev pub CountsTurns : PlayState → PlayState → ℕ → Type 0
-CountsTurns old new n = min new.turns (2 ^ 64 - 1) ≡ min (old.turns + n) (2 ^ 64 - 1)
+abbrev pub TurnsRiseBy : PlayState → PlayState → ℕ → Type 0
+TurnsRiseBy old new n = min new.turns (2 ^ 64 - 1) ≡ min (old.turns + n) (2 ^ 64 - 1)
 
 -- so many turns were made, each with such an answer, and counted
 pub record HasTurned (Is : Turn → Type 0) (old new : PlayState) (n : ℕ) : Type 0 where
   pub taken : TakesTurns Is n old new
-  pub counted : CountsTurns old new n
+  pub counted : TurnsRiseBy old new n
 
 -- turns with such answers were made, and one more with the last answer, of which the reply shows what is so
 pub record HasComeTo (Is : Turn → Type 0) (old new : PlayState) (last : Turn) (reply : TurnReply) : Type 0 where
@@ -47,14 +47,14 @@ pub record HasComeTo (Is : Turn → Type 0) (old new : PlayState) (last : Turn) 
   pub now : PlayState
   pub turned : HasTurned Is old now earlier
   pub takes : TakesTurn now new last
-  pub counted : CountsTurns old new (earlier + 1)
+  pub counted : TurnsRiseBy old new (earlier + 1)
   pub shows : TurnShows new.heap new.entries reply
 
 -- the turns were made, or fewer of them, and then the first that waited, as the reply shows
 abbrev pub ServesTurns : PlayState → PlayState → ℕ → TurnReply → Type 0
-ServesTurns old new n replies.Done = HasTurned GoesOnward old new n
+ServesTurns old new n replies.Done = HasTurned IsNoWait old new n
 ServesTurns old new n (replies.Waits number answer p) =
-    (came : HasComeTo GoesOnward old new (turns.Waits number answer p) (replies.Waits number answer p)) × (came.earlier < n)
+    (came : HasComeTo IsNoWait old new (turns.Waits number answer p) (replies.Waits number answer p)) × (came.earlier < n)
 ServesTurns old new n (replies.Cycle cycle) = ⊥
 
 -- steps were made, and then the first turn that ended a cycle or waited, as the reply shows

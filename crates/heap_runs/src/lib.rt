@@ -2,7 +2,6 @@
 #![tactic(auto)]
 
 mod machine_heap;
-mod note;
 mod play_collector;
 mod play_heap;
 mod playing;

@@ -1,15 +1,15 @@
 ghost use Rattle.std.specs.Prelude.{◌≡◌, ◌≢◌, ◌≤◌, ◌<◌, IfOk, OnOk, OnErr};
 ghost use Rattle.heap_model.specs.declared.command.Command.TheVariants.{Collect};
 ghost use Rattle.heap_model.specs.Heap.{IsHeap};
-ghost use Rattle.heap_model.specs.account.PhaseCounts.{phase};
+ghost use Rattle.locked_heap.specs.Recorded.{StandsStill, MakesCall, MakesTurn};
 ghost use Rattle.heap_runs.specs.PlayHeap.{PlayState, IsPlayed, MayCall, AnswersOnce, AnswersCall, TakesTurn};
-ghost use Rattle.heap_runs.specs.MachineHeap.{play_state_of, IsFresh, StandsStill, CallsOnce, CallsMachine, TurnsMachine};
+ghost use Rattle.heap_runs.specs.MachineHeap.{play_state_of, IsFresh, CallsMachine};
 
-use crate::note::note_all;
 use crate::play_heap::PlayHeap;
 use core_machine::Machine;
 use core_rule::law_every_run;
-use heap_model::{Command, Entry, Heap, Memory, Reply, Turn, seat_laws};
+use heap_model::{Command, Entry, Heap, Memory, Reply, Turn};
+use locked_heap::Recorder;
 use std::alloc::Global;
 use std::marker::Model;
 
@@ -18,29 +18,18 @@ mod collecting;
 /// A heap over the machine of single steps: a call is all steps of the machine's call, and a turn is one step of its collector.
 #[derive(Drop)]
 pub struct MachineHeap {
-    machine: Machine,
-    entries: Vec<Entry>,
-    spare: usize,
-    turns: u64,
-    last_turn: Option<Turn>,
+    recorder: Recorder,
 }
 
 impl Model for MachineHeap {
-    ghost use Rattle.std.specs.Prelude.{◌-◌, vec_len, vec_capacity};
-    ghost use Rattle.heap_runs.specs.MachineHeap.{MachineHeapValue, IsBetweenCalls, HasRoom};
+    ghost use Rattle.locked_heap.specs.Recorded.{Recorded};
+    ghost use Rattle.heap_runs.specs.MachineHeap.{IsBetweenCalls};
 
-    ghost Value = { MachineHeapValue };
+    ghost Value = { Recorded };
 
-    ghost view = { λ whole. record {
-      machine = whole.machine;
-      entries = whole.entries.items;
-      spare = whole.spare;
-      turns = whole.turns;
-      last_turn = whole.last_turn;
-    } };
+    ghost view = { λ whole. whole.recorder };
 
-    ghost invariant = { λ whole. IsBetweenCalls whole.machine.heap whole.machine.state whole.entries.items
-        × HasRoom whole.machine (vec_capacity whole.entries - vec_len whole.entries) whole.spare };
+    ghost invariant = { λ whole. IsBetweenCalls whole.recorder.machine.heap whole.recorder.machine.state whole.recorder.history };
 }
 
 impl MachineHeap {
@@ -49,12 +38,9 @@ impl MachineHeap {
         requires { IsHeap heap }
         ensures { IfOk result (IsFresh heap) }
     {
+        let machine = Machine::make(alloc, heap)?;
         Ok(MachineHeap {
-            machine: Machine::make(alloc, heap)?,
-            entries: Vec::new(alloc),
-            spare: 0,
-            turns: 0,
-            last_turn: None,
+            recorder: Recorder::new(alloc, machine),
         })
     }
 }
@@ -67,7 +53,7 @@ impl MachineHeap {
         ensures room { OnOk result (2 ≤ self.new.spare) }
         ensures memory { OnErr result (self.old.spare < 2) }
     {
-        if self.spare < 2 {
+        if self.spare() < 2 {
             self.room(2)?;
         }
         Ok(())
@@ -78,37 +64,21 @@ impl MachineHeap {
         requires may { MayCall (play_state_of self.old) seat command.now }
         requires once { command.now ≢ Collect }
         ensures answers { IfOk result (AnswersOnce (play_state_of self.old) (play_state_of self.new) seat command.now) }
-        ensures machine { IfOk result (CallsOnce self.old self.new seat command.now) }
+        ensures machine { IfOk result (MakesCall self.old self.new seat command.now) }
     {
         law_every_run();
-        seat_laws();
-        let room = 2 * command.need() as usize + 4;
-        self.machine.room(seat, room)?;
-        self.entries.reserve(room)?;
-        let before = self.machine.log(seat).len();
-        let reply = self.machine.play_call(seat, command);
-        let (_, told) = self.machine.log(seat).split_at(before);
-        self.spare = self.spare.saturating_sub(told.len());
-        note_all(&mut self.entries, told);
-        Ok(reply)
+        let called = self.recorder.call(seat, command)?;
+        Ok(called.reply)
     }
 
     /// Makes a turn, for which there is room.
     fn make_turn(&mut self) -> Turn
         requires room { 2 ≤ self.old.spare }
         ensures turn { TakesTurn (play_state_of self.old) (play_state_of self.new) result }
-        ensures machine { TurnsMachine self.old self.new result }
+        ensures machine { MakesTurn self.old self.new result }
     {
         law_every_run();
-        let collector = self.machine.heap().seats;
-        let before = self.machine.log(collector).len();
-        let turn = self.machine.play_turn();
-        let (_, told) = self.machine.log(collector).split_at(before);
-        self.spare = self.spare.saturating_sub(told.len());
-        note_all(&mut self.entries, told);
-        self.turns = self.turns.saturating_add(1);
-        self.last_turn = Some(turn);
-        turn
+        self.recorder.turn()
     }
 }
 
@@ -132,7 +102,7 @@ impl PlayHeap for MachineHeap {
     fn turn(&mut self) -> Result<Turn, Memory>
         ensures turn { IfOk result (TakesTurn (play_state_of self.old) (play_state_of self.new)) }
         ensures memory { OnErr result ((play_state_of self.old).spare < 2) }
-        ensures machine { IfOk result (TurnsMachine self.old self.new) }
+        ensures machine { IfOk result (MakesTurn self.old self.new) }
     {
         self.make_ready()?;
         Ok(self.make_turn())
@@ -145,28 +115,23 @@ impl PlayHeap for MachineHeap {
         ensures memory { OnErr result (play_state_of self.new ≡ play_state_of self.old) }
         ensures machine { StandsStill self.old self.new }
     {
-        let collector = self.machine.heap().seats;
-        self.machine.room(collector, n)?;
-        self.entries.reserve(n)?;
-        self.spare = self.spare.max(n);
-        Ok(())
+        self.recorder.room(n)
     }
 
     fn spare(&self) -> usize {
-        self.spare
+        self.recorder.spare()
     }
 
     fn phase(&self) -> u64 {
-        law_every_run();
-        self.machine.phase()
+        self.recorder.phase()
     }
 
     fn turns(&self) -> u64 {
-        self.turns
+        self.recorder.turns()
     }
 
     fn entries(&self) -> &[Entry] {
         law_every_run();
-        &self.entries
+        self.recorder.entries()
     }
 }

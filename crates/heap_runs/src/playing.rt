@@ -3,7 +3,7 @@ ghost use Rattle.script_text.specs.declared.script.Form.TheVariants.{Play};
 ghost use Rattle.script_text.specs.Writing.{IsOfForm};
 ghost use Rattle.heap_runs.specs.Play.{IsPlay, EndsAtLine};
 ghost use Rattle.heap_runs.specs.PlayHeap.{MayCall};
-ghost use Rattle.heap_runs.specs.Playing.{NotesSeatLine, HasAnsweredLines, HaveLeft, AllGone, NotesLastCycle};
+ghost use Rattle.heap_runs.specs.Playing.{NotesSeatLine, HasAnsweredLines, HaveLeft, AllHaveLeft, NotesLastCycle};
 
 use crate::play_heap::PlayHeap;
 use crate::playing::noting::{note_call, note_cycle, note_slack, note_turns};
@@ -85,7 +85,7 @@ fn leave_all<H: PlayHeap>(
 
 /// Brings the cycle under way to its end, if there is one, makes a whole one behind it, and notes what is told.
 fn make_last_cycle<H: PlayHeap>(whole: &mut H, history: &mut Vec<Entry>) -> Result<(), Memory>
-    requires gone { AllGone (H.state whole.old) }
+    requires gone { AllHaveLeft (H.state whole.old) }
     ensures notes { OnOk result (NotesLastCycle (H.state whole.old) (H.state whole.new) history.old.items history.new.items) }
 {
     if whole.phase() % CYCLE_PHASES != REST {

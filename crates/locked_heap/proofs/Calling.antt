@@ -12,20 +12,20 @@ use Rattle.heap_model.specs.declared.heap.Heap.{Heap}
 use Rattle.heap_model.specs.declared.reply.Reply.{Reply}
 use Rattle.heap_model.specs.Limits.{stamp_limit}
 use Rattle.heap_model.specs.account.PhaseCounts.{has_left, is_leave_of}
-use Rattle.core_machine.specs.machine.Machine.{State, seat_at, Begins, Can}
+use Rattle.core_machine.specs.machine.Machine.{seat_at, Begins, Can}
 use Rattle.core_machine.specs.seat.Commands.{IsServed}
 use Rattle.core_machine.specs.seat.Seat.{Seat, HasNumberLeft}
 use Rattle.core_rule.specs.Laws.{EveryRunKeeps}
 use Rattle.core_rule.proofs.parties.OneSeat.{after_call}
 use Rattle.locked_heap.specs.declared.progress.Progress.{Progress}
-use Rattle.locked_heap.specs.Given.{Given, IsOfScript, IsScript, script_of}
-use Rattle.locked_heap.specs.Locked.{AllHaveCome, IsNext}
+use Rattle.locked_heap.specs.Given.{Given, IsOfScript, IsSeatScript, script_of}
+use Rattle.locked_heap.specs.Locked.{IsRunFrom, AllHaveCome, IsNext}
 use Rattle.locked_heap.specs.Progress.{progress_at, IsPaid}
-use Rattle.locked_heap.specs.Recorded.{Recorded, IsReached, MakesCall}
+use Rattle.locked_heap.specs.Recorded.{Recorded, MakesCall}
 use Rattle.locked_heap.specs.Told.{waits_told}
 use Rattle.locked_heap.proofs.Coming.{come_next, come_left, all_come}
 use Rattle.locked_heap.proofs.FindsOn.{finds_on}
-use Rattle.locked_heap.proofs.Reached.{stands, seats_are, reached_call}
+use Rattle.locked_heap.proofs.GivenRuns.{run_stands, seats_are, run_call}
 use Rattle.locked_heap.proofs.TellsNone.{none_called, one_called}
 
 -- every command but a collect is served
@@ -40,38 +40,39 @@ number_few made sets place (commands.Array d cells) few_made few_sets few = omeg
 number_few made sets place (commands.Set r i v) few_made few_sets few = omega (arith, few_sets, few)
 number_few made sets place _ few_made few_sets few = tt
 
-module _ (runs : EveryRunKeeps) (given : Given) (heap : Heap) (state : State) (told : List Entry) (seats : List Progress) (number : ℕ) (reached : IsReached given heap state told) (all : AllHaveCome given told state seats)
+module _ (runs : EveryRunKeeps) (given : Given) (recorded : Recorded) (seats : List Progress) (number : ℕ) (run : IsRunFrom given recorded) (all : AllHaveCome given recorded.history recorded.machine.state seats)
     (below : number < given.heap.seats) where
-  here : number < length state.seats
-  here = omega (arith, below, seats_are given heap state told reached runs)
+  here : number < length recorded.machine.state.seats
+  here = omega (arith, below, seats_are given recorded run runs)
 
   -- each script is one
-  pub script_right : IsScript (script_of given number)
-  script_right = reached.given_right.scripts number [] (omega (arith, below, reached.given_right.seated))
+  pub script_right : IsSeatScript (script_of given number)
+  script_right = run.given_right.scripts number [] (omega (arith, below, run.given_right.seated))
 
   -- the next command of a seat may be called
-  pub can_call : (command : Command) → IsNext given seats number command → command ≢ commands.Collect → Can heap state (Begins number command)
+  pub can_call : (command : Command) → IsNext given seats number command → command ≢ commands.Collect → Can recorded.machine.heap recorded.machine.state (Begins number command)
   can_call command next once =
       let come = all.each number below in
+      let seat : Seat = seat_at recorded.machine.state number in
       let place : ℕ = (progress_at seats number).place in
       let within : place < length (script_of given number) = slice_get_within (script_of given number) place command next.next in
       let of_script : IsOfScript command = subst IsOfScript (get_or_from_slice_get (script_of given number) place command command next.next) (script_right.each place command within) in (
         here,
         record {
-          idle = reached.all_idle number here;
+          idle = run.led.all_idle number here;
           present = come.leaves ∙ next.there;
           served = served_once command once;
           in_range = of_script.0;
-          numbered = number_few (seat_at state number).made (seat_at state number).sets place command (come.few_objects next.there) (come.few_sets next.there) (omega (arith, within, script_right.few));
+          numbered = number_few seat.made seat.sets place command (come.few_objects next.there) (come.few_sets next.there) (omega (arith, within, script_right.few));
         },
       )
 
   -- so may its leave
-  pub can_leave : (progress_at seats number).gone ≡ false → Can heap state (Begins number commands.Leave)
-  can_leave there = (here, record { idle = reached.all_idle number here; present = (all.each number below).leaves ∙ there; served = tt; in_range = tt; numbered = tt })
+  pub can_leave : (progress_at seats number).gone ≡ false → Can recorded.machine.heap recorded.machine.state (Begins number commands.Leave)
+  can_leave there = (here, record { idle = run.led.all_idle number here; present = (all.each number below).leaves ∙ there; served = tt; in_range = tt; numbered = tt })
 
-module _ (runs : EveryRunKeeps) (given : Given) (old new : Recorded) (seats : List Progress) (number : ℕ) (command : Command) (reached : IsReached given old.machine.heap old.machine.state old.history)
-    (all : AllHaveCome given old.history old.machine.state seats) (below : number < given.heap.seats) (makes : MakesCall old new number command) where
+module _ (runs : EveryRunKeeps) (given : Given) (old new : Recorded) (seats : List Progress) (number : ℕ) (command : Command) (reply : Reply) (run : IsRunFrom given old)
+    (all : AllHaveCome given old.history old.machine.state seats) (below : number < given.heap.seats) (makes : MakesCall old new number command reply) where
   -- once it was called the seat has come further
   pub called_on : (next : Progress) → IsNext given seats number command → command ≢ commands.Collect → next ≡ record (progress_at seats number) { place = (progress_at seats number).place + 1 }
       → AllHaveCome given new.history new.machine.state (slice_set seats number next)
@@ -82,14 +83,14 @@ module _ (runs : EveryRunKeeps) (given : Given) (old new : Recorded) (seats : Li
       let now : Seat = seat_at new.machine.state number in
       let within = slice_get_within (script_of given number) (progress_at seats number).place command is_next.next in
       let of_script : IsOfScript command = subst IsOfScript (get_or_from_slice_get (script_of given number) (progress_at seats number).place command command is_next.next)
-      ((script_right runs given heap old.machine.state old.history seats number reached all below).each (progress_at seats number).place command within) in
-      let finds = finds_on heap old.machine.state new.machine.state number command makes.reply makes.call in
+      ((script_right runs given old seats number run all below).each (progress_at seats number).place command within) in
+      let finds = finds_on heap old.machine.state new.machine.state number command reply makes.call in
       let paid : IsPaid given.patience (waits_told number old.history + 0) next.paid = rw is (subst (λ (n : ℕ). IsPaid given.patience n (progress_at seats number).paid) (omega arith) come.paid) in
-      all_come given old.history new.history old.machine.state new.machine.state seats number all below next (makes.call.before ++ Said number command makes.reply ∷ [])
-      (after_call heap old.machine.state new.machine.state number command makes.reply makes.call) makes.noted
-      (λ other apart. none_called other number makes.call.before command makes.reply apart makes.call.beside)
-      (come_next given old.history new.history number seat now (progress_at seats number) come (makes.call.before ++ Said number command makes.reply ∷ []) makes.noted command 0 next is_next.next is_next.there
-      (one_called number makes.call.before command makes.reply once makes.call.beside) (makes.counts.present_stays of_script.1) makes.counts.made_more makes.counts.sets_more (ap (λ (p : Progress). p.place) is)
+      all_come given old.history new.history old.machine.state new.machine.state seats number all below next (makes.call.before ++ Said number command reply ∷ [])
+      (after_call heap old.machine.state new.machine.state number command reply makes.call) makes.noted
+      (λ other apart. none_called other number makes.call.before command reply apart makes.call.beside)
+      (come_next given old.history new.history number seat now (progress_at seats number) come (makes.call.before ++ Said number command reply ∷ []) makes.noted command 0 next is_next.next is_next.there
+      (one_called number makes.call.before command reply once makes.call.beside) (makes.counts.present_stays of_script.1) makes.counts.made_more makes.counts.sets_more (ap (λ (p : Progress). p.place) is)
       (ap (λ (p : Progress). p.gone) is) paid (omega (arith, ap (λ (p : Progress). p.paid) is, come.grown, finds)))
 
 -- a leave is told
@@ -100,22 +101,22 @@ leave_said number told before reply =
     list_any-append (is_leave_of number) told (before ++ Said number commands.Leave reply ∷ []) ∙ or_right _ _ behind
 
 -- a seat has left exactly where the history tells its leave
-pub left_told : EveryRunKeeps → (given : Given) (heap : Heap) (state : State) (told : List Entry) (number : ℕ) → IsReached given heap state told → number < given.heap.seats → (seat_at state number).left ≡ has_left number told
-left_told runs given heap state told number reached below =
-    let s = stands given heap state told reached runs in
-    sym (s.stands.rule.seats_stand number (subst (λ (h : Heap). number < h.seats) (sym reached.of_heap) below)).cycle.answers_told.leaves ∙ ap (has_left number) s.grown
+pub left_told : EveryRunKeeps → (given : Given) (recorded : Recorded) (number : ℕ) → IsRunFrom given recorded → number < given.heap.seats → (seat_at recorded.machine.state number).left ≡ has_left number recorded.history
+left_told runs given recorded number run below =
+    let s = run_stands given recorded run runs in
+    sym (s.stands.rule.seats_stand number (subst (λ (h : Heap). number < h.seats) (sym run.of_heap) below)).cycle.answers_told.leaves ∙ ap (has_left number) s.grown
 
 -- once it has left it has come to its end
-pub left_on : (runs : EveryRunKeeps) (given : Given) (old new : Recorded) (seats : List Progress) (number : ℕ) (next : Progress) → IsReached given old.machine.heap old.machine.state old.history
-    → AllHaveCome given old.history old.machine.state seats → number < given.heap.seats → MakesCall old new number commands.Leave → (progress_at seats number).gone ≡ false
+pub left_on : (runs : EveryRunKeeps) (given : Given) (old new : Recorded) (seats : List Progress) (number : ℕ) (reply : Reply) (next : Progress) → IsRunFrom given old
+    → AllHaveCome given old.history old.machine.state seats → number < given.heap.seats → MakesCall old new number commands.Leave reply → (progress_at seats number).gone ≡ false
     → (progress_at seats number).place ≡ length (script_of given number) → next ≡ record (progress_at seats number) { gone = true } → AllHaveCome given new.history new.machine.state (slice_set seats number next)
-left_on runs given old new seats number next reached all below makes there through is =
+left_on runs given old new seats number reply next run all below makes there through is =
     let heap = old.machine.heap in
-    let added : List Entry = makes.call.before ++ Said number commands.Leave makes.reply ∷ [] in
-    let now_reached = reached_call given heap old.machine.state old.history reached new.machine.state number commands.Leave makes.reply makes.call in
-    let left : (seat_at new.machine.state number).left ≡ true = left_told runs given heap new.machine.state (old.history ++ added) number now_reached below ∙ leave_said number old.history makes.call.before makes.reply in
-    all_come given old.history new.history old.machine.state new.machine.state seats number all below next added (after_call heap old.machine.state new.machine.state number commands.Leave makes.reply makes.call) makes.noted
-    (λ other apart. none_called other number makes.call.before commands.Leave makes.reply apart makes.call.beside)
+    let added : List Entry = makes.call.before ++ Said number commands.Leave reply ∷ [] in
+    let told = left_told runs given new number (run_call given old new run number commands.Leave reply makes) below in
+    let left : (seat_at new.machine.state number).left ≡ true = told ∙ ap (has_left number) makes.noted ∙ leave_said number old.history makes.call.before reply in
+    all_come given old.history new.history old.machine.state new.machine.state seats number all below next added (after_call heap old.machine.state new.machine.state number commands.Leave reply makes.call) makes.noted
+    (λ other apart. none_called other number makes.call.before commands.Leave reply apart makes.call.beside)
     (come_left given old.history new.history number (seat_at old.machine.state number) (seat_at new.machine.state number) (progress_at seats number) (all.each number below) added makes.noted next through there
-    (one_called number makes.call.before commands.Leave makes.reply (λ e. cc e) makes.call.beside) left (ap (λ (p : Progress). p.place) is) (ap (λ (p : Progress). p.gone) is) (ap (λ (p : Progress). p.paid) is)
-    (finds_on heap old.machine.state new.machine.state number commands.Leave makes.reply makes.call))
+    (one_called number makes.call.before commands.Leave reply (λ e. cc e) makes.call.beside) left (ap (λ (p : Progress). p.place) is) (ap (λ (p : Progress). p.gone) is) (ap (λ (p : Progress). p.paid) is)
+    (finds_on heap old.machine.state new.machine.state number commands.Leave reply makes.call))

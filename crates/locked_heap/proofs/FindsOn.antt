@@ -36,9 +36,9 @@ same_on : (seat : Seat) → FindsOn seat seat
 same_on seat = omega arith
 
 -- so it is after a move
-abbrev pub MovesOn : Seat → Option Move → Type 0
-MovesOn seat None = (found : ℕ) → FindsOn seat seat
-MovesOn seat (Some move) = (found : ℕ) → FindsOn seat (move.told found)
+abbrev pub MoveFindsOn : Seat → Option Move → Type 0
+MoveFindsOn seat None = (found : ℕ) → FindsOn seat seat
+MoveFindsOn seat (Some move) = (found : ℕ) → FindsOn seat (move.told found)
 
 one_more_on : (b : Bool) (n : ℕ) → n ≤ (if b then n + 1 else n)
 one_more_on true n = omega arith
@@ -50,7 +50,7 @@ compared_on true found looks = one_more_on (nat_lt (looks.waits + 1) (2 ^ 64)) l
 compared_on false found looks = omega arith
 
 module _ (heap : Heap) (number : ℕ) (seat : Seat) where
-  bears : (last : Bool) → MovesOn seat (Some (if last then last_birth_move number seat else birth_move seat))
+  bears : (last : Bool) → MoveFindsOn seat (Some (if last then last_birth_move number seat else birth_move seat))
   bears true found = same_on seat
   bears false found = same_on seat
 
@@ -74,7 +74,7 @@ module _ (heap : Heap) (number : ℕ) (seat : Seat) where
   polls true p = over seat.command seat.answered
   polls false p = same_on seat
 
-  moves_on : (place : Place) → MovesOn seat (move_at heap number seat place)
+  moves_on : (place : Place) → MoveFindsOn seat (move_at heap number seat place)
   moves_on places.Idle = λ found. same_on seat
   moves_on (places.Making Granting) = λ found. stays_on seat _ (stays_budget heap seat found)
   moves_on (places.Making Withdrawing) = λ found. same_on seat
@@ -107,7 +107,7 @@ module _ (heap : Heap) (number : ℕ) (seat : Seat) where
   moves_on (places.Leaving Parting) = λ found. same_on seat
 
 -- by a due move
-due_on : (heap : Heap) (state : State) (number : ℕ) → number < length state.seats → (move : Option Move) → MovesOn (seat_at state number) move
+due_on : (heap : Heap) (state : State) (number : ℕ) → number < length state.seats → (move : Option Move) → MoveFindsOn (seat_at state number) move
     → FindsOn (seat_at state number) (seat_at (state_after_due heap state number move) number)
 due_on heap state number within None on = same_on (seat_at state number)
 due_on heap state number within (Some move) on =

@@ -1,4 +1,5 @@
-pub mod Reached
+pub mod Leading
+pub mod GivenRuns
 pub mod Calls
 pub mod Inners
 pub mod MachineTurns

@@ -17,28 +17,27 @@ use Rattle.core_rule.proofs.parties.Standing.{none_short, words_used as words_to
 use Rattle.locked_heap.specs.declared.progress.Progress.{Progress}
 use Rattle.locked_heap.specs.declared.ran.LockedRan.{LockedRan}
 use Rattle.locked_heap.specs.Given.{Given, script_of}
-use Rattle.locked_heap.specs.Locked.{LockedValue, AllHaveCome, AllGone, EndsWhole}
+use Rattle.locked_heap.specs.Locked.{IsRunFrom, LockedValue, AllHaveCome, AllGone, EndsWhole}
 use Rattle.locked_heap.specs.Progress.{progress_at, leave_told, IsPaid}
 use Rattle.locked_heap.specs.Ran.{IsRun, EndsEmpty}
-use Rattle.locked_heap.specs.Recorded.{IsReached}
 use Rattle.locked_heap.specs.Told.{commands_told, waits_told}
 use Rattle.locked_heap.proofs.Calling.{left_told}
 use Rattle.locked_heap.proofs.Coming.{paid_still}
 use Rattle.locked_heap.proofs.LastCycle.{left_before}
-use Rattle.locked_heap.proofs.Reached.{stands}
+use Rattle.locked_heap.proofs.GivenRuns.{run_stands, run_of}
 
-module _ (runs : EveryRunKeeps) (given : Given) (locked : LockedValue) (reached : IsReached given locked.recorded.machine.heap locked.recorded.machine.state locked.recorded.history)
+module _ (runs : EveryRunKeeps) (given : Given) (locked : LockedValue) (run : IsRunFrom given locked.recorded)
     (all : AllHaveCome given locked.recorded.history locked.recorded.machine.state locked.seats) where
   -- the history is legal
   legal_told : IsLegal given.heap false locked.recorded.history
   legal_told =
-      let s = stands given locked.recorded.machine.heap locked.recorded.machine.state locked.recorded.history reached runs in
-      subst (λ (h : Heap). IsLegal h false locked.recorded.history) reached.of_heap (subst (IsLegal locked.recorded.machine.heap false) s.grown s.stands.rule.heap_stands.legal)
+      let s = run_stands given locked.recorded run runs in
+      subst (λ (h : Heap). IsLegal h false locked.recorded.history) run.of_heap (subst (IsLegal locked.recorded.machine.heap false) s.grown s.stands.rule.heap_stands.legal)
 
   -- where a seat has left the history tells so
   gone_told : (number : ℕ) → number < given.heap.seats → (progress_at locked.seats number).gone ≡ true → has_left number locked.recorded.history ≡ true
   gone_told number below gone =
-      sym (left_told runs given locked.recorded.machine.heap locked.recorded.machine.state locked.recorded.history number reached below) ∙ (all.each number below).leaves ∙ gone
+      sym (left_told runs given locked.recorded number run below) ∙ (all.each number below).leaves ∙ gone
 
   -- and its whole script
   all_told : (number : ℕ) → number < given.heap.seats → (progress_at locked.seats number).gone ≡ true → commands_told number locked.recorded.history ≡ script_of given number ++ Leave ∷ []
@@ -48,9 +47,9 @@ module _ (runs : EveryRunKeeps) (given : Given) (locked : LockedValue) (reached 
       ∙ ap (λ (l : List Command). l ++ Leave ∷ []) (take_all (progress_at locked.seats number).place (script_of given number) (omega (arith, come.through gone)))
 
 -- the last cycle began after every seat had left
-ends_empty : EveryRunKeeps → (given : Given) (old new : LockedValue) → IsReached given old.recorded.machine.heap old.recorded.machine.state old.recorded.history
+ends_empty : EveryRunKeeps → (given : Given) (old new : LockedValue) → IsRunFrom given old.recorded
     → AllHaveCome given old.recorded.history old.recorded.machine.state old.seats → AllGone given old.seats → EndsWhole old new → IsLegal given.heap false new.recorded.history → EndsEmpty given.heap new.recorded.history
-ends_empty runs given old new reached all gone ends legal =
+ends_empty runs given old new run all gone ends legal =
     let before : List Entry = old.recorded.history ++ ends.turned in
     let last : new.recorded.history ≡ before ++ Ends ends.cycle ends.kept ∷ [] = ends.told ∙ sym (append_assoc old.recorded.history ends.turned (Ends ends.cycle ends.kept ∷ [])) in
     record {
@@ -59,7 +58,7 @@ ends_empty runs given old new reached all gone ends legal =
       kept = ends.kept;
       last = last;
       left = λ number below. left_before given.heap false old.recorded.history ends.turned ends.cycle ends.kept number (subst (IsLegal given.heap false) last legal) ends.began
-          (gone_told runs given old reached all number below (gone number below));
+          (gone_told runs given old run all number below (gone number below));
     }
 
 -- nothing is in use
@@ -67,15 +66,15 @@ record NoneUsed (told : List Entry) : Type 0 where
   pub fragments : fragments_lost told ≡ fragments_gained told
   pub words : words_returned told ≡ words_granted told
 
-none_used : EveryRunKeeps → WordsAreUsed → EachLastCycleEmpties → (given : Given) (locked : LockedValue) → IsReached given locked.recorded.machine.heap locked.recorded.machine.state locked.recorded.history
+none_used : EveryRunKeeps → WordsAreUsed → EachLastCycleEmpties → (given : Given) (locked : LockedValue) → IsRunFrom given locked.recorded
     → IsLegal given.heap false locked.recorded.history → EndsEmpty given.heap locked.recorded.history → NoneUsed locked.recorded.history
-none_used runs words empties given locked reached legal ends =
+none_used runs words empties given locked run legal ends =
     let told = locked.recorded.history in
     let heap = locked.recorded.machine.heap in
     let state = locked.recorded.machine.state in
-    let s = stands given heap state told reached runs in
+    let s = run_stands given locked.recorded run runs in
     let short = none_short heap state told s in
-    let granted = words_told heap state told s words reached.all_idle in
+    let granted = words_told heap state told s words run.led.all_idle in
     let none = empties given.heap false ends.before ends.cycle ends.kept (subst (IsLegal given.heap false) ends.last legal) ends.left in
     let none_left : fragments_used told ≡ 0 = ap fragments_used ends.last ∙ none.0 in
     let no_words : words_used told ≡ 0 = ap words_used ends.last ∙ none.1 in
@@ -83,27 +82,28 @@ none_used runs words empties given locked reached legal ends =
 
 -- so it is the run that was asked for
 pub whole_run : EveryRunKeeps → WordsAreUsed → EachLastCycleEmpties → (given : Given) (old new : LockedValue) (ran : LockedRan)
-    → IsReached given old.recorded.machine.heap old.recorded.machine.state old.recorded.history → AllHaveCome given old.recorded.history old.recorded.machine.state old.seats → AllGone given old.seats → EndsWhole old new
-    → IsReached given new.recorded.machine.heap new.recorded.machine.state new.recorded.history → AllHaveCome given new.recorded.history new.recorded.machine.state new.seats
+    → IsRunFrom given old.recorded → AllHaveCome given old.recorded.history old.recorded.machine.state old.seats → AllGone given old.seats → EndsWhole old new
+    → IsRunFrom given new.recorded → AllHaveCome given new.recorded.history new.recorded.machine.state new.seats
     → ran.history.items ≡ new.recorded.history → ran.end_used ≡ 0
     → ran.waits.items ≡ map (λ (number : ℕ). (seat_at new.recorded.machine.state number).looks.waits) (range_with_len 0 given.heap.seats) → IsRun given ran
 whole_run runs words empties given old new ran one all gone ends two come history_is none counts =
     let told = new.recorded.history in
+    let way = run_of given new.recorded two in
     let legal = legal_told runs given new two come in
     let last = ends_empty runs given old new one all gone ends legal in
     let used = none_used runs words empties given new two legal last in
     let still = λ (number : ℕ) (below : number < given.heap.seats). subst (λ (l : List Progress). (progress_at l number).gone ≡ true) (sym ends.same_seats) (gone number below) in
     record {
-      events = two.events;
-      run = two.run;
-      shown = history_is ∙ two.shown;
+      events = way.events;
+      run = way.run;
+      shown = history_is ∙ way.shown;
       legal = rw history_is legal;
       commands = λ number below. rw history_is (all_told runs given new two come number below (still number below));
       last_cycle = rw history_is last;
       used = rw (history_is, none) (omega (arith, used.fragments));
       none_used = none;
       all_returned = rw history_is used.words;
-      counts = counts ∙ ap (λ (s : State). map (λ (number : ℕ). (seat_at s number).looks.waits) (range_with_len 0 given.heap.seats)) two.ends;
-      patient = λ number below. rw history_is (subst (λ (s : State). IsPaid given.patience (waits_told number told) (seat_at s number).looks.waits) two.ends
+      counts = counts ∙ ap (λ (s : State). map (λ (number : ℕ). (seat_at s number).looks.waits) (range_with_len 0 given.heap.seats)) way.ends;
+      patient = λ number below. rw history_is (subst (λ (s : State). IsPaid given.patience (waits_told number told) (seat_at s number).looks.waits) way.ends
           (paid_still given.patience (waits_told number told) (progress_at new.seats number).paid (seat_at new.recorded.machine.state number).looks.waits (come.each number below).grown (come.each number below).paid));
     }

@@ -31,7 +31,7 @@ abbrev pub IsOfScript : Command → Type 0
 IsOfScript command = IsCommand command × (command ≢ Leave)
 
 -- so is each command, and there are fewer than the stamps of a seat
-pub record IsScript (commands : List Command) : Type 0 where
+pub record IsSeatScript (commands : List Command) : Type 0 where
   pub few : length commands < stamp_limit
   pub each : All IsOfScript commands
 
@@ -44,4 +44,4 @@ pub record IsGiven (given : Given) : Type 0 where
   pub limits : IsHeap given.heap
   pub opens : IsOpening given.heap given.opening
   pub seated : length given.scripts ≡ given.heap.seats
-  pub scripts : All IsScript given.scripts
+  pub scripts : All IsSeatScript given.scripts

@@ -1,5 +1,5 @@
 -- What contracts see of the heap under the lock.
-use Rattle.std.specs.Prelude.{◌≡◌, ℕ, ◌+◌, ◌-◌, ◌*◌, ◌^◌, ◌<◌, ◌≤◌, ◌⊎◌, true, false, List, ◌∷◌, [], ◌++◌, length, slice_get, Some}
+use Rattle.std.specs.Prelude.{◌≡◌, ◌≢◌, ℕ, ◌+◌, ◌-◌, ◌*◌, ◌^◌, ◌<◌, ◌≤◌, ◌⊎◌, true, false, List, ◌∷◌, [], ◌++◌, length, slice_get, Some}
 use Rattle.heap_model.specs.declared.command.Command.{Command}
 use Rattle.heap_model.specs.declared.calls.collect.CollectReply.{CollectReply}
 use Rattle.heap_model.specs.declared.calls.collect.CollectReply.TheVariants.{Cycle, Waits}
@@ -7,13 +7,24 @@ use Rattle.heap_model.specs.declared.calls.collect.Inner.{Inner}
 use Rattle.heap_model.specs.declared.calls.collect.Inner.TheVariants.{Note}
 use Rattle.heap_model.specs.declared.entry.Entry.{Entry}
 use Rattle.heap_model.specs.declared.entry.Entry.TheVariants.{Ends}
+use Rattle.heap_model.specs.declared.heap.Heap.{Heap}
 use Rattle.heap_model.specs.PhasePlan.{cycle_phases}
 use Rattle.heap_model.specs.account.PhaseCounts.{phase}
-use Rattle.core_machine.specs.machine.Machine.{State, seat_at}
+use Rattle.core_machine.specs.machine.Machine.{State, seat_at, Event}
 use Rattle.locked_heap.specs.declared.progress.Progress.{Progress}
-use Rattle.locked_heap.specs.Given.{Given, script_of}
+use Rattle.locked_heap.specs.Given.{Given, IsGiven, script_of}
 use Rattle.locked_heap.specs.Progress.{progress_at, HasCome}
-use Rattle.locked_heap.specs.Recorded.{Recorded}
+use Rattle.locked_heap.specs.Recorded.{Recorded, EventsLeadTo}
+
+-- they lead from the opening that was given
+abbrev pub OpensAs : Given → Heap → State → List Event → Type 0
+OpensAs given heap opening events = opening ≡ given.opening
+
+-- a run from what was given led to the machine and its history
+pub record IsRunFrom (given : Given) (recorded : Recorded) : Type 0 where
+  pub given_right : IsGiven given
+  pub of_heap : recorded.machine.heap ≡ given.heap
+  pub led : EventsLeadTo (OpensAs given) recorded.machine.heap recorded.machine.state recorded.history
 
 -- the machine with its history, and how far each seat has come
 pub record LockedValue : Type 0 where
@@ -25,6 +36,12 @@ pub record AllHaveCome (given : Given) (told : List Entry) (state : State) (seat
   pub seated : length seats ≡ given.heap.seats
   pub each : (number : ℕ) → number < given.heap.seats → HasCome given told number (seat_at state number) (progress_at seats number)
 
+-- a run from what was given led here, each seat has come as far as is kept of it, and the patience is the one given
+pub record StandsLocked (given : Given) (locked : LockedValue) (patience : ℕ) : Type 0 where
+  pub run : IsRunFrom given locked.recorded
+  pub come : AllHaveCome given locked.recorded.history locked.recorded.machine.state locked.seats
+  pub patient : patience ≡ given.patience
+
 -- the command is the seat's next one, and the seat hasn't left
 pub record IsNext (given : Given) (seats : List Progress) (number : ℕ) (command : Command) : Type 0 where
   pub within : number < given.heap.seats
@@ -32,16 +49,23 @@ pub record IsNext (given : Given) (seats : List Progress) (number : ℕ) (comman
   pub next : slice_get (script_of given number) (progress_at seats number).place ≡ Some command
 
 -- the seat has left
-abbrev pub IsGone : List Progress → ℕ → Type 0
-IsGone seats number = (progress_at seats number).gone ≡ true
+abbrev pub SeatHasLeft : List Progress → ℕ → Type 0
+SeatHasLeft seats number = (progress_at seats number).gone ≡ true
 
 -- who has left stays so
 abbrev pub KeepsGone : List Progress → List Progress → Type 0
-KeepsGone old new = (number : ℕ) → IsGone old number → IsGone new number
+KeepsGone old new = (number : ℕ) → SeatHasLeft old number → SeatHasLeft new number
+
+-- the seat has come one command further at most, where it had left it stays so, and the others are where they were
+pub record ComesOneFurther (old new : List Progress) (number : ℕ) : Type 0 where
+  pub onward : (progress_at old number).place ≤ (progress_at new number).place
+  pub few : (progress_at new number).place ≤ (progress_at old number).place + 1
+  pub gone_stays : SeatHasLeft old number → SeatHasLeft new number
+  pub others : (other : ℕ) → other ≢ number → progress_at new other ≡ progress_at old other
 
 -- every seat has left
 abbrev pub AllGone : Given → List Progress → Type 0
-AllGone given seats = (number : ℕ) → number < given.heap.seats → IsGone seats number
+AllGone given seats = (number : ℕ) → number < given.heap.seats → SeatHasLeft seats number
 
 -- the inner call tells no reply
 abbrev pub IsQuiet : Inner → Type 0

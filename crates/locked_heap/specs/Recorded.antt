@@ -1,23 +1,27 @@
 -- What contracts see of a machine with its history, and what calls and turns do to it.
-use Rattle.std.specs.Prelude.{◌≡◌, ℕ, ◌≤◌, true, List, [], ◌∷◌, ◌++◌, length, filter, Option}
+use Rattle.std.specs.Prelude.{◌≡◌, ℕ, ◌+◌, ◌-◌, ◌^◌, ◌≤◌, min, true, List, [], ◌∷◌, ◌++◌, length, filter, Option}
 use Rattle.std.specs.List.{AllByRecursion}
 use Rattle.heap_model.specs.declared.command.Command.{Command}
+use Rattle.heap_model.specs.declared.command.Command.TheVariants.{Leave}
 use Rattle.heap_model.specs.declared.entry.Entry.{Entry}
 use Rattle.heap_model.specs.declared.entry.Entry.TheVariants.{Said}
 use Rattle.heap_model.specs.declared.heap.Heap.{Heap}
 use Rattle.heap_model.specs.declared.reply.Reply.{Reply}
 use Rattle.heap_model.specs.declared.calls.collect.Inner.{Inner}
 use Rattle.heap_model.specs.declared.calls.collector_calls.Turn.{Turn}
+use Rattle.heap_model.specs.Heap.{IsHeap}
 use Rattle.heap_model.specs.account.Noting.{is_collectors}
 use Rattle.heap_model.specs.account.PhaseCounts.{phase}
+use Rattle.heap_model.specs.account.Space.{total}
 use Rattle.heap_model.specs.calls.CollectorCalls.{CollectorState}
 use Rattle.heap_model.specs.calls.CollectorCalls as collectors
-use Rattle.core_machine.specs.machine.Calls.{PlaysCall, CountsCall}
+use Rattle.core_machine.specs.seat.Commands.{IsRecordCall, IsArrayCall}
+use Rattle.core_machine.specs.machine.Calls.{PlaysCall, CountsCall, AnswersNew, AnswersArray, TellsLeave, IsPlaceRefusal, LeavesAll}
 use Rattle.core_machine.specs.machine.InnerCalls.{PlaysInner, inner_entries}
-use Rattle.core_machine.specs.machine.Machine.{State, seat_at, Event, Turns, Can, Run, state_after, state_after_all, entries, history}
+use Rattle.core_machine.specs.machine.Machine.{State, seat_at, Event, Turns, Can, Run, next_turn, found_by, state_after, state_after_all, entries, history}
+use Rattle.core_machine.specs.machine.Opening.{IsOpening}
 use Rattle.core_machine.specs.machine.Value.{MachineValue, spare_of}
 use Rattle.core_rule.specs.Laws.{AllIdle}
-use Rattle.locked_heap.specs.Given.{Given, IsGiven}
 
 -- the machine, the entries of all its parties in their order, for how many more of the collector's there is room, its turns as far as they are counted, and
 -- what the last of them answered
@@ -28,15 +32,21 @@ pub record Recorded : Type 0 where
   pub turns : ℕ
   pub last_turn : Option Turn
 
--- a run leads from the opening that was given to this state, with this history, and no seat has a call in flight
-pub record IsReached (given : Given) (heap : Heap) (state : State) (told : List Entry) : Type 0 where
-  pub given_right : IsGiven given
-  pub of_heap : heap ≡ given.heap
+-- such events lead from an opening of the heap to this state, with this history, and no seat has a call in flight
+pub record EventsLeadTo (Are : Heap → State → List Event → Type 0) (heap : Heap) (state : State) (told : List Entry) : Type 0 where
+  pub limits : IsHeap heap
+  pub opening : State
+  pub opens : IsOpening heap opening
   pub events : List Event
-  pub run : Run given.heap given.opening events
-  pub ends : state ≡ state_after_all given.heap given.opening events
-  pub shown : told ≡ history given.heap given.opening events
+  pub are : Are heap opening events
+  pub run : Run heap opening events
+  pub ends : state ≡ state_after_all heap opening events
+  pub shown : told ≡ history heap opening events
   pub all_idle : AllIdle state
+
+-- any events that may happen, one after another
+abbrev pub AnyEvents : Heap → State → List Event → Type 0
+AnyEvents heap opening events = Unit {0}
 
 -- there is room in the collector's own list, and in the history
 pub record HasRoom (machine : MachineValue) (listed spare : ℕ) : Type 0 where
@@ -53,6 +63,10 @@ collector_of recorded = record {
   last_turn = recorded.last_turn;
 }
 
+-- how many fragments these entries take, or the last number of its type
+abbrev pub claimed_by : List Entry → ℕ
+claimed_by entries = min (total (λ e. e.taken) entries) (2 ^ 64 - 1)
+
 -- nothing happened: the machine's state, the history and the turns are as before
 pub record StandsStill (old new : Recorded) : Type 0 where
   pub heap_stays : new.machine.heap ≡ old.machine.heap
@@ -61,25 +75,35 @@ pub record StandsStill (old new : Recorded) : Type 0 where
   pub turns_stay : new.turns ≡ old.turns
   pub last_stays : new.last_turn ≡ old.last_turn
 
--- the machine made a whole call, whose entries the history has
-pub record MakesCall (old new : Recorded) (number : ℕ) (command : Command) : Type 0 where
+-- a whole call of the machine was made: its steps and its answer are right there, the history has its entries, what it refuses changes nothing there, and no turn was made
+pub record MakesCall (old new : Recorded) (number : ℕ) (command : Command) (reply : Reply) : Type 0 where
   pub same_heap : new.machine.heap ≡ old.machine.heap
-  pub reply : Reply
   pub call : PlaysCall old.machine.heap old.machine.state new.machine.state number command reply
-  pub counts : CountsCall (seat_at old.machine.state number) (seat_at new.machine.state number) command
   pub noted : new.history ≡ old.history ++ (call.before ++ Said number command reply ∷ [])
+  pub counts : CountsCall (seat_at old.machine.state number) (seat_at new.machine.state number) command
+  pub answer : IsRecordCall command → AnswersNew old.machine.heap old.machine.state new.machine.state number command reply
+  pub array : IsArrayCall command → AnswersArray old.machine.heap old.machine.state new.machine.state number command reply
+  pub leave : command ≡ Leave → TellsLeave old.machine.state new.machine.state number
+  pub refused : IsPlaceRefusal reply → LeavesAll old.machine.state new.machine.state number
+  pub turns_stay : new.turns ≡ old.turns
+  pub last_stays : new.last_turn ≡ old.last_turn
+  pub spare : old.spare + length old.history ≤ new.spare + length new.history
 
--- the machine made a whole inner call, and no turn
+-- a whole inner call of the machine was made, the history has what it told, and no turn was made
 pub record MakesInner (old new : Recorded) (number : ℕ) (inner : Inner) : Type 0 where
   pub same_heap : new.machine.heap ≡ old.machine.heap
   pub plays : PlaysInner old.machine.heap old.machine.state new.machine.state number inner
   pub noted : new.history ≡ old.history ++ inner_entries old.machine.heap old.machine.state.words number (seat_at old.machine.state number).answered inner
+  pub turns_stay : new.turns ≡ old.turns
+  pub last_stays : new.last_turn ≡ old.last_turn
+  pub spare : old.spare + length old.history ≤ new.spare + length new.history
 
--- the machine made one turn, and the history has what it told, which is the collector's
+-- the machine made one turn, as which it answered, and the history has what it told, which is the collector's
 pub record MakesTurn (old new : Recorded) (turn : Turn) : Type 0 where
   pub same_heap : new.machine.heap ≡ old.machine.heap
   pub can : Can old.machine.heap old.machine.state Turns
   pub after : new.machine.state ≡ state_after old.machine.heap old.machine.state Turns
   pub noted : new.history ≡ old.history ++ entries old.machine.heap old.machine.state Turns
+  pub answered : turn ≡ (next_turn old.machine.heap old.machine.state.collector).answer (found_by old.machine.heap old.machine.state (next_turn old.machine.heap old.machine.state.collector).step)
   pub own : AllByRecursion (λ entry. is_collectors entry ≡ true) (entries old.machine.heap old.machine.state Turns)
   pub turned : collectors.Turns (collector_of old) (collector_of new) turn

@@ -10,5 +10,7 @@ mod recorder;
 mod running;
 mod working;
 
+pub use note::claimed;
 pub use ran::LockedRan;
+pub use recorder::{Called, Recorder};
 pub use running::run_locked;

@@ -1,9 +1,8 @@
 ghost use Rattle.std.specs.Prelude.{◌≡◌, ◌≢◌, ◌<◌, false, length};
 ghost use Rattle.heap_model.specs.declared.command.Command.TheVariants.{Collect};
 ghost use Rattle.locked_heap.specs.Given.{IsGiven, script_of};
-ghost use Rattle.locked_heap.specs.Locked.{AllHaveCome, IsNext, KeepsGone};
+ghost use Rattle.locked_heap.specs.Locked.{IsRunFrom, AllHaveCome, IsNext, ComesOneFurther};
 ghost use Rattle.locked_heap.specs.Progress.{progress_at};
-ghost use Rattle.locked_heap.specs.Recorded.{IsReached};
 
 use crate::handed::Handed;
 use crate::progress::Progress;
@@ -12,7 +11,7 @@ use core_machine::Machine;
 use core_rule::law_every_run;
 use heap_model::{Command, Memory};
 use std::alloc::Global;
-use std::marker::Model;
+use std::marker::{Model, PhantomData};
 
 mod collecting;
 mod finishing;
@@ -21,24 +20,24 @@ mod turning;
 /// The heap under the lock of a run: the machine with its history, and how far each seat has come with its script. No seat has a call in flight.
 #[derive(Drop)]
 pub struct Locked<N: Handed> {
-    recorder: Recorder<N>,
+    recorder: Recorder,
     seats: Vec<Progress>,
     patience: u32,
     /// How many fragments were claimed since the collector last made its slack.
     owed: u64,
     /// Whether the seats' workers have returned.
     over: bool,
+    name: PhantomData<N>,
 }
 
 impl<N: Handed> Model for Locked<N> {
-    ghost use Rattle.std.specs.Prelude.{◌≡◌};
-    ghost use Rattle.locked_heap.specs.Locked.{LockedValue, AllHaveCome};
+    ghost use Rattle.locked_heap.specs.Locked.{LockedValue, StandsLocked};
 
     ghost Value = { LockedValue };
 
     ghost view = { λ l. record { recorded = l.recorder; seats = l.seats.items } };
 
-    ghost invariant = { λ l. AllHaveCome N.given l.recorder.history l.recorder.machine.state l.seats.items × (l.patience ≡ N.given.patience) };
+    ghost invariant = { λ l. StandsLocked N.given (record { recorded = l.recorder; seats = l.seats.items }) l.patience };
 }
 
 impl<N: Handed> Locked<N> {
@@ -62,15 +61,16 @@ impl<N: Handed> Locked<N> {
             patience,
             owed: 0,
             over: false,
+            name: PhantomData,
         })
     }
 
     /// What is true of every one.
     pub fn known(&self)
-        ensures reached { IsReached N.given self.now.recorded.machine.heap self.now.recorded.machine.state self.now.recorded.history }
+        ensures run { IsRunFrom N.given self.now.recorded }
         ensures come { AllHaveCome N.given self.now.recorded.history self.now.recorded.machine.state self.now.seats }
     {
-        self.recorder.known();
+        let _ = &self.recorder;
     }
 
     /// How far the seat has come.
@@ -85,12 +85,11 @@ impl<N: Handed> Locked<N> {
     fn call(&mut self, seat: u8, command: &Command) -> Result<(), Memory>
         requires next { IsNext N.given self.old.seats seat command.now }
         requires once { command.now ≢ Collect }
-        ensures gone { KeepsGone self.old.seats self.new.seats }
+        ensures further { ComesOneFurther self.old.seats self.new.seats seat }
     {
         law_every_run();
-        self.recorder.known();
-        let claimed = self.recorder.call(seat, command)?;
-        self.owed = self.owed.saturating_add(claimed);
+        let called = self.recorder.call(seat, command)?;
+        self.owed = self.owed.saturating_add(called.claimed);
         let progress = self.seats[seat as usize];
         self.seats[seat as usize] = Progress {
             place: progress.place + 1,
@@ -104,10 +103,9 @@ impl<N: Handed> Locked<N> {
         requires within { seat < N.given.heap.seats }
         requires there { (progress_at self.old.seats seat).gone ≡ false }
         requires through { (progress_at self.old.seats seat).place ≡ length (script_of N.given seat) }
-        ensures gone { KeepsGone self.old.seats self.new.seats }
+        ensures further { ComesOneFurther self.old.seats self.new.seats seat }
     {
         law_every_run();
-        self.recorder.known();
         self.recorder.call(seat, &Command::Leave)?;
         let progress = self.seats[seat as usize];
         self.seats[seat as usize] = Progress {

@@ -1,31 +1,36 @@
-ghost use Rattle.std.specs.Prelude.{◌≡◌, ◌≤◌, ◌<◌, ◌↔◌, IsTrue, [], None, length, OnOk, OnErr};
+ghost use Rattle.std.specs.Prelude.{◌≡◌, ◌≤◌, ◌<◌, ◌↔◌, IsTrue, [], None, length, drop, IfOk, OnOk, OnErr};
 ghost use Rattle.heap_model.specs.account.PhaseCounts.{phase};
 ghost use Rattle.core_machine.specs.machine.Machine.{Begins, BeginsInner, Can, seat_at};
-ghost use Rattle.locked_heap.specs.Given.{IsGiven};
-ghost use Rattle.locked_heap.specs.Recorded.{IsReached, collector_of, StandsStill, MakesCall, MakesInner, MakesTurn};
+ghost use Rattle.core_machine.specs.machine.Opening.{IsOpening};
+ghost use Rattle.locked_heap.specs.Recorded.{collector_of, claimed_by, StandsStill, MakesCall, MakesInner, MakesTurn};
 
-use crate::handed::Handed;
-use crate::note::{claimed, note_all};
+use crate::note::{claimed, note_since};
 use core_machine::{Looks, Machine};
 use core_rule::law_every_run;
-use heap_model::{Command, Entry, Heap, Inner, Memory, Turn, seat_laws};
+use heap_model::{Command, Entry, Heap, Inner, Memory, Reply, Turn, seat_laws};
 use std::alloc::Global;
-use std::marker::{Model, PhantomData};
+use std::marker::Model;
 
-/// A machine with the history of all that was done to it since its opening.
+/// What a call came to: its reply, and how many fragments it has claimed.
+#[derive(Clone, Copy)]
+pub struct Called {
+    pub reply: Reply,
+    pub claimed: u64,
+}
+
+/// A machine with the history of all that was done to it since its opening. No seat has a call in flight.
 #[derive(Drop)]
-pub struct Recorder<N: Handed> {
+pub struct Recorder {
     machine: Machine,
     history: Vec<Entry>,
     spare: usize,
     turns: u64,
     last_turn: Option<Turn>,
-    name: PhantomData<N>,
 }
 
-impl<N: Handed> Model for Recorder<N> {
+impl Model for Recorder {
     ghost use Rattle.std.specs.Prelude.{◌-◌, vec_len, vec_capacity};
-    ghost use Rattle.locked_heap.specs.Recorded.{Recorded, IsReached, HasRoom};
+    ghost use Rattle.locked_heap.specs.Recorded.{Recorded, EventsLeadTo, AnyEvents, HasRoom};
 
     ghost Value = { Recorded };
 
@@ -37,33 +42,25 @@ impl<N: Handed> Model for Recorder<N> {
       last_turn = r.last_turn;
     } };
 
-    ghost invariant = { λ r. IsReached N.given r.machine.heap r.machine.state r.history.items
+    ghost invariant = { λ r. EventsLeadTo AnyEvents r.machine.heap r.machine.state r.history.items
         × HasRoom r.machine (vec_capacity r.history - vec_len r.history) r.spare };
 }
 
-impl<N: Handed> Recorder<N> {
+impl Recorder {
     /// Nothing was done yet.
-    pub fn new(alloc: Global, machine: Machine) -> Recorder<N>
-        requires given { IsGiven N.given }
-        requires heap { machine.heap ≡ N.given.heap }
-        requires opening { machine.state ≡ N.given.opening }
+    pub fn new(alloc: Global, machine: Machine) -> Recorder
+        requires { IsOpening machine.heap machine.state }
         ensures { result ≡ record { machine = machine; history = []; spare = 0; turns = 0; last_turn = None } }
     {
+        // What is true of every machine is known from here on.
+        let _ = machine.heap();
         Recorder {
             machine,
             history: Vec::new(alloc),
             spare: 0,
             turns: 0,
             last_turn: None,
-            name: PhantomData,
         }
-    }
-
-    /// What is true of every one.
-    pub fn known(&self)
-        ensures { IsReached N.given self.now.machine.heap self.now.machine.state self.now.history }
-    {
-        let _ = &self.history;
     }
 
     /// The heap whose machine it is.
@@ -73,10 +70,11 @@ impl<N: Handed> Recorder<N> {
         self.machine.heap()
     }
 
-    /// Makes a whole call of the seat, and answers how many fragments it has claimed.
-    pub fn call(&mut self, seat: u8, command: &Command) -> Result<u64, Memory>
+    /// Makes a whole call of the seat.
+    pub fn call(&mut self, seat: u8, command: &Command) -> Result<Called, Memory>
         requires can { Can self.old.machine.heap self.old.machine.state (Begins seat command.now) }
-        ensures makes { OnOk result (MakesCall self.old self.new seat command.now) }
+        ensures makes { IfOk result (λ called. MakesCall self.old self.new seat command.now called.reply) }
+        ensures claims { IfOk result (λ called. called.claimed ≡ claimed_by (drop (length self.old.history) self.new.history)) }
         ensures still { OnErr result (StandsStill self.old self.new) }
     {
         law_every_run();
@@ -85,11 +83,18 @@ impl<N: Handed> Recorder<N> {
         self.machine.room(seat, room)?;
         self.history.reserve(room)?;
         let before = self.machine.log(seat).len();
-        self.machine.play_call(seat, command);
-        let (_, told) = self.machine.log(seat).split_at(before);
-        self.spare = self.spare.saturating_sub(told.len());
-        note_all(&mut self.history, told);
-        Ok(claimed(told))
+        let first = self.history.len();
+        let reply = self.machine.play_call(seat, command);
+        note_since(
+            &mut self.history,
+            &mut self.spare,
+            &self.machine,
+            seat,
+            before,
+        );
+        let (_, told) = self.history.split_at(first);
+        let claimed = claimed(told);
+        Ok(Called { reply, claimed })
     }
 
     /// Whether the seat may make the inner call now.
@@ -110,9 +115,13 @@ impl<N: Handed> Recorder<N> {
         self.history.reserve(4)?;
         let before = self.machine.log(seat).len();
         self.machine.play_inner(seat, inner);
-        let (_, told) = self.machine.log(seat).split_at(before);
-        self.spare = self.spare.saturating_sub(told.len());
-        note_all(&mut self.history, told);
+        note_since(
+            &mut self.history,
+            &mut self.spare,
+            &self.machine,
+            seat,
+            before,
+        );
         Ok(())
     }
 
@@ -125,9 +134,13 @@ impl<N: Handed> Recorder<N> {
         let collector = self.machine.heap().seats;
         let before = self.machine.log(collector).len();
         let turn = self.machine.play_turn();
-        let (_, told) = self.machine.log(collector).split_at(before);
-        self.spare = self.spare.saturating_sub(told.len());
-        note_all(&mut self.history, told);
+        note_since(
+            &mut self.history,
+            &mut self.spare,
+            &self.machine,
+            collector,
+            before,
+        );
         self.turns = self.turns.saturating_add(1);
         self.last_turn = Some(turn);
         turn
@@ -175,6 +188,13 @@ impl<N: Handed> Recorder<N> {
         ensures { result ≡ (seat_at self.now.machine.state seat).looks }
     {
         self.machine.looks(seat)
+    }
+
+    /// The history so far.
+    pub fn entries(&self) -> &[Entry]
+        ensures { result.now ≡ self.now.history }
+    {
+        &self.history
     }
 
     /// The history alone.

@@ -1,6 +1,6 @@
 ghost use Rattle.std.specs.Prelude.{◌≡◌, ◌≤◌, length, map, All, IfOk};
 ghost use Rattle.core_machine.specs.machine.Opening.{IsOpening};
-ghost use Rattle.locked_heap.specs.Given.{IsGiven, IsScript};
+ghost use Rattle.locked_heap.specs.Given.{IsGiven, IsSeatScript};
 ghost use Rattle.locked_heap.specs.Ran.{IsRun};
 
 use crate::handed::Handed;
@@ -50,7 +50,7 @@ pub fn run_locked<G: Gate, R: Threads + Wait + Sync>(
 ) -> Result<LockedRan, Memory>
     requires opening { IsOpening machine.heap machine.state }
     requires seated { length scripts.now ≡ machine.heap.seats }
-    requires scripts { All (λ script. IsScript script.items) scripts.now }
+    requires scripts { All (λ script. IsSeatScript script.items) scripts.now }
     requires patience { 1 ≤ patience }
     ensures { IfOk result (IsRun (record {
       heap = machine.heap;

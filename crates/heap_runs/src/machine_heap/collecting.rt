@@ -2,10 +2,10 @@ ghost use Rattle.std.specs.Prelude.{◌≡◌, IfOk};
 ghost use Rattle.core_machine.specs.seat.Looks.{noted_reply};
 ghost use Rattle.heap_runs.specs.PlayHeap.{AnswersCollect};
 ghost use Rattle.heap_runs.specs.MachineHeap.{play_state_of, IsBetweenCalls, CollectsMachine};
-ghost use Rattle.heap_runs.specs.Collecting.{MayGoOn, MakesInner, IsPresent, EndsFor, EndsWholeFor, seen_by};
+ghost use Rattle.locked_heap.specs.Recorded.{MakesInner};
+ghost use Rattle.heap_runs.specs.Collecting.{MayGoOn, IsStillThere, EndsFor, EndsWholeFor, seen_by};
 
 use crate::machine_heap::MachineHeap;
-use crate::note::note_all;
 use crate::play_heap::PlayHeap;
 use core_rule::law_every_run;
 use heap_model::phase_plan::{CYCLE_PHASES, REST};
@@ -42,9 +42,9 @@ fn seen_by(came: CollectReply) -> Inner
 impl MachineHeap {
     /// What is true of every such heap.
     pub fn known(&self)
-        ensures { IsBetweenCalls self.now.machine.heap self.now.machine.state self.now.entries }
+        ensures { IsBetweenCalls self.now.machine.heap self.now.machine.state self.now.history }
     {
-        let _ = &self.entries;
+        let _ = &self.recorder;
     }
 
     /// Makes a whole inner call of the seat's collect.
@@ -52,20 +52,13 @@ impl MachineHeap {
         requires may { MayGoOn self.old seat inner }
         ensures makes { IfOk result (λ done. MakesInner self.old self.new seat inner) }
     {
-        law_every_run();
-        self.machine.room(seat, 4)?;
-        self.entries.reserve(4)?;
-        let before = self.machine.log(seat).len();
-        self.machine.play_inner(seat, inner);
-        let (_, told) = self.machine.log(seat).split_at(before);
-        self.spare = self.spare.saturating_sub(told.len());
-        note_all(&mut self.entries, told);
+        self.recorder.inner(seat, inner)?;
         Ok(())
     }
 
     /// Makes turns up to the first that ends a cycle or waits for another seat. Where one waits for this seat, it answers.
     fn end_for(&mut self, seat: u8) -> Result<CollectReply, Memory>
-        requires present { IsPresent self.old seat }
+        requires present { IsStillThere self.old seat }
         ensures ends { IfOk result (EndsFor self.old self.new seat) }
     {
         law_every_run();
@@ -96,7 +89,7 @@ impl MachineHeap {
 
     /// Makes turns up to the end of a cycle that begins in them or waits for another seat.
     fn end_whole(&mut self, seat: u8) -> Result<CollectReply, Memory>
-        requires present { IsPresent self.old seat }
+        requires present { IsStillThere self.old seat }
         ensures ends { IfOk result (EndsWholeFor self.old self.new seat) }
     {
         if self.phase() % CYCLE_PHASES == REST {
@@ -122,7 +115,7 @@ impl MachineHeap {
 
     /// Makes a whole collect of the seat, for which it makes the turns itself.
     pub fn collect(&mut self, seat: u8) -> Result<Reply, Memory>
-        requires present { IsPresent self.old seat }
+        requires present { IsStillThere self.old seat }
         ensures answers { IfOk result (AnswersCollect (play_state_of self.old) (play_state_of self.new) seat) }
         ensures machine { IfOk result (λ reply. CollectsMachine self.old self.new seat) }
     {

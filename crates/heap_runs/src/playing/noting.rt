@@ -1,12 +1,13 @@
 ghost use Rattle.std.specs.Prelude.{◌≡◌, length, drop, IfOk, OnOk};
 ghost use Rattle.heap_runs.specs.PlayHeap.{MayCall};
-ghost use Rattle.heap_runs.specs.Playing.{NotesCall, NotesSlack, NotesTurns, AllGone, NotesCycle, claimed_by};
+ghost use Rattle.locked_heap.specs.Recorded.{claimed_by};
+ghost use Rattle.heap_runs.specs.Playing.{NotesCall, NotesSlack, NotesTurns, AllHaveLeft, NotesCycle};
 
 use crate::play_collector::make_slack;
 use crate::play_heap::PlayHeap;
-use crate::playing::use_count::claimed;
 use crate::turning::{end_cycle, turn_line};
 use heap_model::{Command, Entry, Memory, TurnCommand};
+use locked_heap::claimed;
 use slack_pace::{MOST_SLACK_TURNS, Pace};
 
 /// Makes a whole call of the seat, notes its entries, and answers how many fragments it claimed.
@@ -65,7 +66,7 @@ pub fn note_turns<H: PlayHeap>(
 
 /// Makes turns up to the end of a cycle, for which no seat is left to be waited for, and notes their entries.
 pub fn note_cycle<H: PlayHeap>(whole: &mut H, history: &mut Vec<Entry>) -> Result<(), Memory>
-    requires gone { AllGone (H.state whole.old) }
+    requires gone { AllHaveLeft (H.state whole.old) }
     ensures notes { OnOk result (NotesCycle (H.state whole.old) (H.state whole.new) history.old.items history.new.items) }
 {
     let before = whole.entries().len();

@@ -3,7 +3,6 @@ ghost use Rattle.heap_model.specs.Heap.{IsHeap};
 ghost use Rattle.heap_model.specs.account.Space.{words_granted, words_returned};
 ghost use Rattle.log_merge.specs.Legal.{ShowsUse};
 ghost use Rattle.heap_runs.specs.PlayHeap.{IsPlayed};
-ghost use Rattle.heap_runs.specs.Playing.{claimed_by};
 
 use heap_model::limits::BOARD_FRAGMENTS;
 use heap_model::{Effect, Entry, Heap};
@@ -22,17 +21,6 @@ pub fn in_use(heap: &Heap, entries: &[Entry]) -> u64
         lost += u128::from(effect.given) + u128::from(effect.freed);
     }
     (gained - lost) as u64
-}
-
-/// How many fragments these entries take, or the last number of its type.
-pub fn claimed(entries: &[Entry]) -> u64
-    ensures { result ≡ claimed_by entries.now }
-{
-    let mut taken = 0u64;
-    for entry in entries {
-        taken = taken.saturating_add(Effect::of(entry).taken);
-    }
-    taken
 }
 
 /// How many spine words are in use after these entries.

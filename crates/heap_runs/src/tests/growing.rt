@@ -1,11 +1,10 @@
 //! A heap without a machine: it keeps the graph that its entries grow, and serves what takes no fragments.
 
-ghost use Rattle.std.specs.Prelude.{◌≡◌, [], IfOk};
+ghost use Rattle.std.specs.Prelude.{◌≡◌, ◌<◌, [], ◌∷◌, ◌++◌, IfOk, vec_len, vec_capacity};
 ghost use Rattle.heap_model.specs.Heap.{IsHeap};
 ghost use Rattle.heap_runs.specs.Growing.{is_plain};
 
 use crate::PlayHeap;
-use crate::note::note;
 use heap_model::{Command, Entry, Graph, Heap, Memory, Reply, Turn};
 use std::alloc::Global;
 use std::marker::Model;
@@ -55,6 +54,14 @@ impl Growing {
             turns_left: 5,
         })
     }
+}
+
+/// Adds an entry, for which there is room.
+fn note(list: &mut Vec<Entry>, entry: Entry)
+    requires { vec_len list.old < vec_capacity list.old }
+    ensures { list.new.items ≡ list.old.items ++ entry ∷ [] }
+{
+    let _ = list.push(entry);
 }
 
 /// Whether the command changes registers alone, or leaves.

@@ -1,7 +1,7 @@
 ghost use Rattle.std.specs.Prelude.{◌≡◌, ◌+◌, ◌*◌, ◌<◌, ◌≤◌, IsTrue};
 ghost use Rattle.heap_model.specs.declared.command.Command.TheVariants.{Collect};
 ghost use Rattle.core_machine.specs.machine.Machine.{seat_at};
-ghost use Rattle.locked_heap.specs.Locked.{IsNext, KeepsGone, IsQuiet, IsPatient, MayAnswer};
+ghost use Rattle.locked_heap.specs.Locked.{IsNext, ComesOneFurther, IsQuiet, IsPatient, MayAnswer};
 
 use crate::handed::Handed;
 use crate::locked::Locked;
@@ -29,7 +29,6 @@ impl<N: Handed> Locked<N> {
         ensures { result ≡ (seat_at self.now.recorded.machine.state seat).looks.waits }
     {
         law_every_run();
-        self.recorder.known();
         self.recorder.looks(seat).waits
     }
 
@@ -48,10 +47,9 @@ impl<N: Handed> Locked<N> {
     fn note(&mut self, seat: u8, came: CollectReply) -> Result<(), Memory>
         requires next { IsNext N.given self.old.seats seat Collect }
         requires may { MayAnswer N.given self.old seat came }
-        ensures gone { KeepsGone self.old.seats self.new.seats }
+        ensures further { ComesOneFurther self.old.seats self.new.seats seat }
     {
         law_every_run();
-        self.recorder.known();
         if !self.recorder.may_make(seat, &Inner::Note(came)) {
             return Ok(());
         }
@@ -70,7 +68,7 @@ impl<N: Handed> Locked<N> {
     /// Begins the seat's collect, which is its next command.
     fn begin_collect(&mut self, seat: u8) -> Result<(), Memory>
         requires { IsNext N.given self.old.seats seat Collect }
-        ensures { KeepsGone self.old.seats self.new.seats }
+        ensures { ComesOneFurther self.old.seats self.new.seats seat }
     {
         self.inner(seat, Inner::Look)?;
         let paid = self.finds(seat);
@@ -99,10 +97,9 @@ impl<N: Handed> Locked<N> {
     /// Answers the seat's collect by what it has found last, once it was patient.
     fn note_wait(&mut self, seat: u8) -> Result<(), Memory>
         requires { IsNext N.given self.old.seats seat Collect }
-        ensures { KeepsGone self.old.seats self.new.seats }
+        ensures { ComesOneFurther self.old.seats self.new.seats seat }
     {
         law_every_run();
-        self.recorder.known();
         let Some(found) = self.recorder.looks(seat).behind else {
             return Ok(());
         };
@@ -122,7 +119,7 @@ impl<N: Handed> Locked<N> {
     /// Goes on with the seat's collect, which is its next command: begins it, or makes one turn for it.
     pub fn collect(&mut self, seat: u8) -> Result<(), Memory>
         requires { IsNext N.given self.old.seats seat Collect }
-        ensures { KeepsGone self.old.seats self.new.seats }
+        ensures { ComesOneFurther self.old.seats self.new.seats seat }
     {
         let Some(target) = self.progress(seat).target else {
             return self.begin_collect(seat);

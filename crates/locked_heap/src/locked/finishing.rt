@@ -2,7 +2,7 @@ ghost use Rattle.std.specs.Prelude.{◌≡◌, ◌<◌, map, IfOk, OnOk};
 ghost use Rattle.std.specs.List.{range_with_len};
 ghost use Rattle.core_machine.specs.machine.Machine.{seat_at};
 ghost use Rattle.locked_heap.specs.Given.{script_of};
-ghost use Rattle.locked_heap.specs.Locked.{IsGone, KeepsGone, AllGone, EndsWhole};
+ghost use Rattle.locked_heap.specs.Locked.{SeatHasLeft, ComesOneFurther, KeepsGone, AllGone, EndsWhole};
 ghost use Rattle.locked_heap.specs.Progress.{progress_at};
 ghost use Rattle.locked_heap.specs.Ran.{IsRun};
 
@@ -23,7 +23,7 @@ impl<N: Handed> Locked<N> {
         requires within { seat < N.given.heap.seats }
         requires script { script.now ≡ script_of N.given seat }
         ensures progress { IfOk result (λ progress. progress ≡ progress_at self.new.seats seat) }
-        ensures gone { KeepsGone self.old.seats self.new.seats }
+        ensures further { ComesOneFurther self.old.seats self.new.seats seat }
     {
         let progress = self.progress(seat);
         if progress.gone {
@@ -42,7 +42,7 @@ impl<N: Handed> Locked<N> {
     fn finish_seat<R: Wait>(&mut self, rt: &R, seat: u8, script: &[Command]) -> Result<(), Memory>
         requires within { seat < N.given.heap.seats }
         requires script { script.now ≡ script_of N.given seat }
-        ensures left { OnOk result (IsGone self.new.seats seat) }
+        ensures left { OnOk result (SeatHasLeft self.new.seats seat) }
         ensures gone { KeepsGone self.old.seats self.new.seats }
     {
         for _ in rt.forever() {

@@ -3,8 +3,8 @@ use Rattle.heap_model.specs.account.PhaseCounts.{phase}
 use Rattle.heap_model.specs.declared.calls.collect.Inner.{Inner}
 use Rattle.heap_model.specs.declared.reply.Reply.{Reply}
 use Rattle.core_machine.specs.seat.Looks.{FirstUpTo}
-use Rattle.heap_runs.specs.Collecting.{MakesInner}
-use Rattle.heap_runs.specs.MachineHeap.{MachineHeapValue, play_state_of}
+use Rattle.locked_heap.specs.Recorded.{MakesInner, Recorded}
+use Rattle.heap_runs.specs.MachineHeap.{play_state_of}
 use Rattle.heap_runs.specs.PlayHeap.{AnswersCollect}
 use Rattle.heap_runs.proofs.Noted.{first_looked, may_note, collect_machine, collect_answers}
 use Rattle.heap_runs.proofs.Standing.{stands}
@@ -13,31 +13,31 @@ use Rattle.heap_runs.proofs.machine_heap.MachineHeap.collect.Goals as goal
 pub make_inner-requires-3 : goal.make_inner-requires-3
 make_inner-requires-3 c =
     let runs = c.law_every_run.ensures.run in
-    let start : MachineHeapValue = c.args.self.now in
-    let one : MachineHeapValue = c.make_inner.new.self in
-    let two : MachineHeapValue = c.end_whole.new.self in
-    let three : MachineHeapValue = c.make_inner-2.new.self in
+    let start : Recorded = c.args.self.now in
+    let one : Recorded = c.make_inner.new.self in
+    let two : Recorded = c.end_whole.new.self in
+    let three : Recorded = c.make_inner-2.new.self in
     let number = c.args.seat in
     let whole = c.in_ok-came.ensures.ends in
     let sees = subst (λ (inner : Inner). MakesInner two three number inner) c.seen_by.ensures c.in_ok-make_inner-2.ensures.makes in
-    let first = first_looked start one number (stands runs start.machine.heap start.machine.state start.entries c.known.ensures.calls) c.known.ensures c.requires.present c.in_ok-make_inner.ensures.makes in
-    let upto = subst (λ f. FirstUpTo f (phase one.entries)) (sym whole.ends.goes.first_stays) first in
+    let first = first_looked start one number (stands runs start.machine.heap start.machine.state start.history c.known.ensures) c.known.ensures c.requires.present c.in_ok-make_inner.ensures.makes in
+    let upto = subst (λ f. FirstUpTo f (phase one.history)) (sym whole.ends.goes.first_stays) first in
     record {
-      may = may_note two three number (phase one.entries) (stands runs two.machine.heap two.machine.state two.entries c.known-3.ensures.calls) (stands runs three.machine.heap three.machine.state three.entries c.known-4.ensures.calls)
+      may = may_note two three number (phase one.history) (stands runs two.machine.heap two.machine.state two.history c.known-3.ensures) (stands runs three.machine.heap three.machine.state three.history c.known-4.ensures)
           c.known-4.ensures whole.ends.goes.present upto c.in_ok-came.came sees whole.ends.comes whole.whole;
     }
 
 pub returns-clause-answers : goal.returns-clause-answers
 returns-clause-answers c =
-    let two : MachineHeapValue = c.end_whole.new.self in
-    let three : MachineHeapValue = c.make_inner-2.new.self in
+    let two : Recorded = c.end_whole.new.self in
+    let three : Recorded = c.make_inner-2.new.self in
     let sees = subst (λ (inner : Inner). MakesInner two three c.args.seat inner) c.seen_by.ensures c.in_ok-make_inner-2.ensures.makes in
     subst (λ (reply : Reply). AnswersCollect (play_state_of c.args.self.now) (play_state_of c.make_inner-3.new.self) c.args.seat reply) (sym c.noted.ensures)
     (collect_answers c.args.self.now c.make_inner.new.self two three c.make_inner-3.new.self c.args.seat c.in_ok-came.came c.in_ok-make_inner.ensures.makes c.in_ok-came.ensures.ends sees c.in_ok-make_inner-3.ensures.makes)
 
 pub returns-clause-machine : goal.returns-clause-machine
 returns-clause-machine c =
-    let two : MachineHeapValue = c.end_whole.new.self in
-    let three : MachineHeapValue = c.make_inner-2.new.self in
+    let two : Recorded = c.end_whole.new.self in
+    let three : Recorded = c.make_inner-2.new.self in
     let sees = subst (λ (inner : Inner). MakesInner two three c.args.seat inner) c.seen_by.ensures c.in_ok-make_inner-2.ensures.makes in
     collect_machine c.args.self.now c.make_inner.new.self two three c.make_inner-3.new.self c.args.seat c.in_ok-came.came c.in_ok-make_inner.ensures.makes c.in_ok-came.ensures.ends sees c.in_ok-make_inner-3.ensures.makes

@@ -1,7 +1,8 @@
 use Rattle.std.proofs.Common.{◌≡◌, ap, subst, ◌∙◌, arith}
 use Rattle.heap_model.specs.declared.calls.collector_calls.Turn.{Turn}
 use Rattle.heap_model.specs.declared.calls.collector_calls.Turn.TheVariants as turns
-use Rattle.heap_runs.specs.MachineHeap.{MachineHeapValue, play_state_of, TurnsMachine}
+use Rattle.locked_heap.specs.Recorded.{Recorded, MakesTurn}
+use Rattle.heap_runs.specs.MachineHeap.{play_state_of}
 use Rattle.heap_runs.specs.PlayHeap.{TakesTurn}
 use Rattle.heap_runs.proofs.Collecting.{goes_none, goes_then, goes_turn, goes_answer, ends_waiting, ends_cycle}
 use Rattle.heap_runs.proofs.Standing.{stands}
@@ -18,33 +19,33 @@ turns-preserved-in-Stepped c =
 
 pub turns-smaller-in-Stepped : goal.turns-smaller-in-Stepped
 turns-smaller-in-Stepped c =
-    let now : MachineHeapValue = c.turns.self in
-    let new : MachineHeapValue = c.turn.new.self in
+    let now : Recorded = c.turns.self in
+    let new : Recorded = c.turn.new.self in
     let goes = goes_turn now new c.args.seat c.in_ok-turn.field-0 c.in_ok-turn.ensures.turn c.in_ok-turn.ensures.machine c.turns.invariant.0.present in
-    stepped_fewer now new c.args.seat (stands c.law_every_run.ensures.run new.machine.heap new.machine.state new.entries c.known-in-Stepped.ensures.calls) c.known-in-Stepped.ensures goes.present
+    stepped_fewer now new c.args.seat (stands c.law_every_run.ensures.run new.machine.heap new.machine.state new.history c.known-in-Stepped.ensures) c.known-in-Stepped.ensures goes.present
     (subst (λ (turn : Turn). TakesTurn (play_state_of now) (play_state_of new) turn) c.in-Stepped.is c.in_ok-turn.ensures.turn)
 
 pub returns-then-other-seat : goal.returns-then-other-seat
 returns-then-other-seat c =
-    let now : MachineHeapValue = c.turns.self in
-    let new : MachineHeapValue = c.turn.new.self in
+    let now : Recorded = c.turns.self in
+    let new : Recorded = c.turn.new.self in
     let takes = subst (λ (turn : Turn). TakesTurn (play_state_of now) (play_state_of new) turn) c.in-Waits.is c.in_ok-turn.ensures.turn in
-    let turned = subst (λ (turn : Turn). TurnsMachine now new turn) c.in-Waits.is c.in_ok-turn.ensures.machine in
+    let turned = subst (λ (turn : Turn). MakesTurn now new turn) c.in-Waits.is c.in_ok-turn.ensures.machine in
     record { ends = ends_waiting c.args.self.now now new c.args.seat c.in-Waits.other c.in-Waits.answered c.in-Waits.phase c.turns.invariant.0 takes turned c.if-other-seat.true }
 
 pub turns-smaller : goal.turns-smaller
 turns-smaller c =
-    let old : MachineHeapValue = c.turns.self in
-    let now : MachineHeapValue = c.turn.new.self in
-    let new : MachineHeapValue = c.make_inner.new.self in
+    let old : Recorded = c.turns.self in
+    let now : Recorded = c.turn.new.self in
+    let new : Recorded = c.make_inner.new.self in
     let runs = c.law_every_run.ensures.run in
     let is = c.in-Waits.is in
     let own : c.in-Waits.other ≡ c.args.seat = omega (arith, c.if-other-seat.false) in
     let turn_is : c.in_ok-turn.field-0 ≡ turns.Waits c.args.seat c.in-Waits.answered c.in-Waits.phase = is ∙ ap (λ n. turns.Waits n c.in-Waits.answered c.in-Waits.phase) own in
     let takes = subst (λ (turn : Turn). TakesTurn (play_state_of old) (play_state_of now) turn) turn_is c.in_ok-turn.ensures.turn in
-    let turned = subst (λ (turn : Turn). TurnsMachine old now turn) turn_is c.in_ok-turn.ensures.machine in
-    answered_fewer old now new c.args.seat c.in-Waits.answered c.in-Waits.phase (stands runs old.machine.heap old.machine.state old.entries c.turns.invariant.1.calls)
-    (stands runs now.machine.heap now.machine.state now.entries c.known-in-Waits.ensures.calls) (stands runs new.machine.heap new.machine.state new.entries c.known-in-Waits-2.ensures.calls) c.turns.invariant.1 c.turns.invariant.0.present
+    let turned = subst (λ (turn : Turn). MakesTurn old now turn) turn_is c.in_ok-turn.ensures.machine in
+    answered_fewer old now new c.args.seat c.in-Waits.answered c.in-Waits.phase (stands runs old.machine.heap old.machine.state old.history c.turns.invariant.1)
+    (stands runs now.machine.heap now.machine.state now.history c.known-in-Waits.ensures) (stands runs new.machine.heap new.machine.state new.history c.known-in-Waits-2.ensures) c.turns.invariant.1 c.turns.invariant.0.present
     takes turned c.in_ok-make_inner-in-Waits.ensures.makes
 
 pub turns-preserved : goal.turns-preserved
@@ -56,8 +57,8 @@ turns-preserved c =
 
 pub returns-in-Ended : goal.returns-in-Ended
 returns-in-Ended c =
-    let now : MachineHeapValue = c.turns.self in
-    let new : MachineHeapValue = c.turn.new.self in
+    let now : Recorded = c.turns.self in
+    let new : Recorded = c.turn.new.self in
     let takes = subst (λ (turn : Turn). TakesTurn (play_state_of now) (play_state_of new) turn) c.in-Ended.is c.in_ok-turn.ensures.turn in
-    let turned = subst (λ (turn : Turn). TurnsMachine now new turn) c.in-Ended.is c.in_ok-turn.ensures.machine in
+    let turned = subst (λ (turn : Turn). MakesTurn now new turn) c.in-Ended.is c.in_ok-turn.ensures.machine in
     record { ends = ends_cycle c.args.self.now now new c.args.seat c.in-Ended.cycle c.in-Ended.kept c.turns.invariant.0 takes turned }

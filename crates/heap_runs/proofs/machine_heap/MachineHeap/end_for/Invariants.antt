@@ -1,11 +1,11 @@
-use Rattle.heap_runs.specs.Collecting.{GoesOn}
+use Rattle.heap_runs.specs.Collecting.{CollectGoesOn}
 use Rattle.heap_runs.specs.MachineHeap.{IsBetweenCalls}
 use Rattle.heap_runs.proofs.Waiting.{left_for}
 use Rattle.heap_runs.proofs.machine_heap.MachineHeap.end_for.Given as goal
 
 -- the collect goes on
 abbrev pub invariant-turns : goal.invariant-turns
-invariant-turns l = GoesOn l.fn.self l.self l.seat × IsBetweenCalls l.self.machine.heap l.self.machine.state l.self.entries
+invariant-turns l = CollectGoesOn l.fn.self l.self l.seat × IsBetweenCalls l.self.machine.heap l.self.machine.state l.self.history
 
 -- fewer turns are left, or the seat has answered
 abbrev pub decreases-turns : goal.decreases-turns

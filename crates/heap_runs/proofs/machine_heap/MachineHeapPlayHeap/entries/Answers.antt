@@ -1,5 +1,5 @@
 use Rattle.std.proofs.Common.{subst}
-use Rattle.heap_runs.specs.MachineHeap.{MachineHeapValue}
+use Rattle.locked_heap.specs.Recorded.{Recorded}
 use Rattle.heap_runs.specs.PlayHeap.{IsPlayed}
 use Rattle.heap_runs.proofs.Standing.{played}
 use Rattle.heap_runs.proofs.machine_heap.MachineHeapPlayHeap.entries.Goals as goal
@@ -7,5 +7,5 @@ use Rattle.heap_runs.proofs.machine_heap.MachineHeapPlayHeap.entries.Goals as go
 pub returns-clause-played : goal.returns-clause-played
 returns-clause-played c =
     let law = c.law_every_run.ensures in
-    let inside = c.self.inside in
-    subst (λ (v : MachineHeapValue). IsPlayed v.machine.heap v.entries) c.self.view_is (played law.run law.play law.words inside.machine.heap inside.machine.state inside.entries.items c.self.invariant.0)
+    let recorded = c.self.inside.recorder in
+    subst (λ (v : Recorded). IsPlayed v.machine.heap v.history) c.self.view_is (played law.run law.play law.words recorded.machine.heap recorded.machine.state recorded.history c.self.invariant)

@@ -5,6 +5,7 @@ use Rattle.locked_heap.specs.Locked.{LockedValue}
 use Rattle.locked_heap.specs.Progress.{progress_at}
 use Rattle.locked_heap.proofs.Calling.{left_on}
 use Rattle.locked_heap.proofs.Coming.{read_is}
+use Rattle.locked_heap.proofs.GivenRuns.{run_call}
 use Rattle.locked_heap.proofs.locked.Locked.leave.Goals as goal
 
 pub invariant_of-self-2 : goal.invariant_of-self-2
@@ -13,8 +14,11 @@ invariant_of-self-2 g c =
     let there : (progress_at inside.seats.items c.args.seat).gone ≡ false = subst (λ (v : LockedValue). (progress_at v.seats c.args.seat).gone ≡ false) (sym c.self.view_is) c.requires.there in
     let through : (progress_at inside.seats.items c.args.seat).place ≡ length (script_of g.N.Handed.given c.args.seat)
     = subst (λ (v : LockedValue). (progress_at v.seats c.args.seat).place ≡ length (script_of g.N.Handed.given c.args.seat)) (sym c.self.view_is) c.requires.through in
-    let read = read_is inside.seats.items c.args.seat c.index-progress.result.now (omega (arith, c.requires.within, c.self.invariant.0.seated)) c.index-progress.ensures in (
-      left_on c.law_every_run.ensures.run g.N.Handed.given inside.recorder c.call.new.self inside.seats.items c.args.seat _ c.known.ensures c.self.invariant.0 c.requires.within c.in_ok-call.ensures.makes there through
-          (ap (λ (p : Progress). record p { gone = true }) (sym read)),
-      c.self.invariant.1,
-    )
+    let makes = c.in_ok-call.ensures.makes in
+    let read = read_is inside.seats.items c.args.seat c.index-progress.result.now (omega (arith, c.requires.within, c.self.invariant.come.seated)) c.index-progress.ensures in
+    record {
+      run = run_call g.N.Handed.given inside.recorder c.call.new.self c.self.invariant.run c.args.seat _ _ makes;
+      come = left_on c.law_every_run.ensures.run g.N.Handed.given inside.recorder c.call.new.self inside.seats.items c.args.seat _ _ c.self.invariant.run c.self.invariant.come c.requires.within makes there through
+          (ap (λ (p : Progress). record p { gone = true }) (sym read));
+      patient = c.self.invariant.patient;
+    }

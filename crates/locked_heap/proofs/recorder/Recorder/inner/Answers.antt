@@ -1,49 +1,55 @@
-use Rattle.std.proofs.Common.{◌≡◌, List, ◌++◌, length, ap, subst, ◌∙◌, arith}
+use Rattle.std.proofs.Common.{◌-◌, List, length, drop, refl, ap, subst, ◌∙◌, arith}
 use Rattle.heap_model.specs.declared.entry.Entry.{Entry}
-use Rattle.core_machine.specs.machine.Value.{MachineValue}
+use Rattle.core_machine.specs.machine.Value.{MachineValue, log_of}
 use Rattle.locked_heap.specs.contracts.recorder.Recorder.{the_view}
-use Rattle.locked_heap.specs.Recorded.{Recorded, MakesInner}
-use Rattle.locked_heap.proofs.Calls.{since, told_since}
-use Rattle.locked_heap.proofs.Inners.{inner_facts, makes_inner}
+use Rattle.locked_heap.specs.Recorded.{Recorded, AnyEvents, MakesInner}
+use Rattle.locked_heap.proofs.Calls.{noted_since}
+use Rattle.locked_heap.proofs.Inners.{InnerFacts, inner_facts, makes_inner}
+use Rattle.locked_heap.proofs.Leading.{led_inner}
 use Rattle.locked_heap.proofs.recorder.Recorder.inner.Goals as goal
+use Rattle.locked_heap.proofs.recorder.Recorder.inner.Goals.{After-play_inner, After-note_since}
 
-pub split_at-requires : goal.split_at-requires
-split_at-requires g c =
-    let facts = inner_facts g.N.Handed.given (the_view g.row.N g.N.Handed c.self.inside) _ c.room.new.self c.play_inner.new.self c.args.seat c.args.inner c.self.invariant.0 c.self.view_is c.requires.can c.room.ensures.same c.room.ensures.others
-    c.play_inner.ensures.plays c.play_inner.ensures.spent in
-    rw (c.log-before.ensures, c.log.ensures) facts.longer
+-- the machine's inner call
+facts : (c : After-play_inner) → InnerFacts (the_view c.self.inside) c.room.new.self c.play_inner.new.self c.args.seat c.args.inner
+facts c = inner_facts (the_view c.self.inside) c.room.new.self c.play_inner.new.self c.args.seat c.args.inner c.room.ensures.same c.room.ensures.others c.play_inner.ensures.plays c.play_inner.ensures.spent
 
-pub note_all-requires : goal.note_all-requires
-note_all-requires g c =
-    let facts = inner_facts g.N.Handed.given (the_view g.row.N g.N.Handed c.self.inside) _ c.room.new.self c.play_inner.new.self c.args.seat c.args.inner c.self.invariant.0 c.self.view_is c.requires.can c.room.ensures.same c.room.ensures.others
-    c.play_inner.ensures.plays c.play_inner.ensures.spent in
-    let told = told_since c.room.new.self c.play_inner.new.self c.args.seat c.split_at.result.1.now c.log-before.result.now c.log.result.now c.split_at.ensures.back c.log-before.ensures c.log.ensures in
-    omega (arith, ap (length {A = Entry}) told, facts.few, c.in_ok-reserve.ensures.ok, c.in_ok-reserve.ensures.len)
+-- what contracts see once it was noted
+abbrev after : After-note_since → Recorded
+after c = record (the_view c.self.inside) { machine = c.play_inner.new.self; history = c.note_since.new.list.items; spare = c.note_since.new.spare }
+
+-- so it is what contracts say of it
+makes : (c : After-note_since) → InnerFacts (the_view c.self.inside) c.room.new.self c.play_inner.new.self c.args.seat c.args.inner → MakesInner (the_view c.self.inside) (after c) c.args.seat c.args.inner
+makes c made =
+    let old : Recorded = the_view c.self.inside in
+    makes_inner old (after c) c.room.new.self c.args.seat c.args.inner made (record {
+      same_heap = c.play_inner.ensures.heap ∙ ap (λ (m : MachineValue). m.heap) c.room.ensures.same;
+      noted = noted_since old c.room.new.self c.play_inner.new.self c.args.seat c.log-before.result.now c.reserve.new.self.items c.note_since.new.list.items c.note_since.ensures.items c.reserve.ensures.items c.log-before.ensures;
+      left = c.note_since.ensures.left ∙ ap (λ (l : List Entry). old.spare - length (drop (length l) (log_of c.play_inner.new.self c.args.seat))) c.log-before.ensures;
+      turns_stay = refl;
+      last_stays = refl;
+    })
+
+pub note_since-requires-clause-longer : goal.note_since-requires-clause-longer
+note_since-requires-clause-longer c = rw c.log-before.ensures (facts (goal.at.note_since-requires-clause-longer c).After-play_inner).longer
+
+pub note_since-requires-clause-room : goal.note_since-requires-clause-room
+note_since-requires-clause-room c =
+    let made = facts (goal.at.note_since-requires-clause-room c).After-play_inner in
+    rw c.log-before.ensures (omega (arith, made.few, c.in_ok-reserve.ensures.ok, c.in_ok-reserve.ensures.len))
 
 pub invariant_of-self-2 : goal.invariant_of-self-2
-invariant_of-self-2 g c =
-    let facts = inner_facts g.N.Handed.given (the_view g.row.N g.N.Handed c.self.inside) _ c.room.new.self c.play_inner.new.self c.args.seat c.args.inner c.self.invariant.0 c.self.view_is c.requires.can c.room.ensures.same c.room.ensures.others
-    c.play_inner.ensures.plays c.play_inner.ensures.spent in
-    let told = told_since c.room.new.self c.play_inner.new.self c.args.seat c.split_at.result.1.now c.log-before.result.now c.log.result.now c.split_at.ensures.back c.log-before.ensures c.log.ensures in
-    let old : Recorded = the_view g.row.N g.N.Handed c.self.inside in
-    let same_heap : c.play_inner.new.self.heap ≡ old.machine.heap = c.play_inner.ensures.heap ∙ ap (λ (m : MachineValue). m.heap) c.room.ensures.same in
-    let noted : c.note_all.new.list.items ≡ old.history ++ since c.room.new.self c.play_inner.new.self c.args.seat
-    = c.note_all.ensures.items ∙ ap (λ (l : List Entry). l ++ c.split_at.result.1.now) c.reserve.ensures.items ∙ ap (λ (l : List Entry). old.history ++ l) told in (
-      rw (same_heap, noted) facts.reached,
+invariant_of-self-2 c =
+    let here = goal.at.invariant_of-self-2 c in
+    let made = facts here.After-play_inner in
+    let told = c.note_since.ensures in (
+      led_inner AnyEvents (the_view c.self.inside) (after here.After-note_since) c.self.invariant.0 c.args.seat c.args.inner (makes here.After-note_since made) tt,
       record {
-        own_room = omega (arith, facts.own_room, c.self.invariant.1.own_room, c.saturating_sub-self-inside.ensures);
-        listed_room = omega (arith, c.self.invariant.1.listed_room, c.saturating_sub-self-inside.ensures, c.note_all.ensures.capacity, c.note_all.ensures.len, c.in_ok-reserve.ensures.capacity, c.in_ok-reserve.ensures.len);
+        own_room = omega (arith, made.own_room, c.self.invariant.1.own_room, told.left);
+        listed_room = omega (arith, c.self.invariant.1.listed_room, told.left, told.capacity, told.len, c.in_ok-reserve.ensures.capacity, c.in_ok-reserve.ensures.len);
       },
     )
 
 pub returns-clause-makes : goal.returns-clause-makes
-returns-clause-makes g c =
-    let facts = inner_facts g.N.Handed.given (the_view g.row.N g.N.Handed c.self.inside) _ c.room.new.self c.play_inner.new.self c.args.seat c.args.inner c.self.invariant.0 c.self.view_is c.requires.can c.room.ensures.same c.room.ensures.others
-    c.play_inner.ensures.plays c.play_inner.ensures.spent in
-    let told = told_since c.room.new.self c.play_inner.new.self c.args.seat c.split_at.result.1.now c.log-before.result.now c.log.result.now c.split_at.ensures.back c.log-before.ensures c.log.ensures in
-    let old : Recorded = the_view g.row.N g.N.Handed c.self.inside in
-    let same_heap : c.play_inner.new.self.heap ≡ old.machine.heap = c.play_inner.ensures.heap ∙ ap (λ (m : MachineValue). m.heap) c.room.ensures.same in
-    let noted : c.note_all.new.list.items ≡ old.history ++ since c.room.new.self c.play_inner.new.self c.args.seat
-    = c.note_all.ensures.items ∙ ap (λ (l : List Entry). l ++ c.split_at.result.1.now) c.reserve.ensures.items ∙ ap (λ (l : List Entry). old.history ++ l) told in
-    let new : Recorded = record { machine = c.play_inner.new.self; history = c.note_all.new.list.items; spare = c.saturating_sub-self-inside.result; turns = old.turns; last_turn = old.last_turn } in
-    subst (λ (v : Recorded). MakesInner v new c.args.seat c.args.inner) c.self.view_is (makes_inner g.N.Handed.given old new c.room.new.self c.args.seat c.args.inner facts same_heap noted)
+returns-clause-makes c =
+    let here = goal.at.returns-clause-makes c in
+    subst (λ (v : Recorded). MakesInner v (after here.After-note_since) c.args.seat c.args.inner) c.self.view_is (makes here.After-note_since (facts here.After-play_inner))

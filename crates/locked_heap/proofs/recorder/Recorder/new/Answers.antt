@@ -1,9 +1,8 @@
 use Rattle.std.proofs.Common.{arith}
-use Rattle.locked_heap.proofs.Reached.{reached_none}
+use Rattle.locked_heap.specs.Recorded.{AnyEvents}
+use Rattle.locked_heap.proofs.Leading.{led_none}
 use Rattle.locked_heap.proofs.recorder.Recorder.new.Goals as goal
 
 pub invariant_of-result : goal.invariant_of-result
-invariant_of-result g c = (
-  rw c.new.ensures.items (reached_none g.N.Handed.given c.args.machine.heap c.args.machine.state c.requires.given c.requires.heap c.requires.opening),
-  record { own_room = omega arith; listed_room = omega arith },
-)
+invariant_of-result c =
+    (led_none AnyEvents c.args.machine.heap c.args.machine.state c.new.result.items c.heap.ensures.machine.limits c.requires c.new.ensures.items tt, record { own_room = omega arith; listed_room = omega arith })

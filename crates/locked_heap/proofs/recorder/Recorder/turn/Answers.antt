@@ -1,54 +1,68 @@
-use Rattle.std.proofs.Common.{◌≡◌, ◌+◌, ◌≤◌, List, ◌++◌, length, Some, refl, ap, subst, ◌∙◌, length-append, arith}
+use Rattle.std.proofs.Common.{◌-◌, List, Some, length, drop, refl, ap, subst, ◌∙◌, arith}
 use Rattle.heap_model.specs.declared.entry.Entry.{Entry}
-use Rattle.core_machine.specs.machine.Machine.{State, Turns, entries}
-use Rattle.core_machine.specs.machine.Value.{spare_of}
+use Rattle.core_machine.specs.machine.Machine.{State}
+use Rattle.core_machine.specs.machine.Value.{log_of, spare_of}
+use Rattle.core_rule.proofs.parties.TurnLogs.{TurnFacts}
 use Rattle.locked_heap.specs.contracts.recorder.Recorder.{the_view}
-use Rattle.locked_heap.specs.Recorded.{Recorded, MakesTurn}
-use Rattle.locked_heap.proofs.MachineTurns.{noted_turn, told_by_turn, makes_turn}
-use Rattle.locked_heap.proofs.Reached.{reached_turn}
+use Rattle.locked_heap.specs.Recorded.{Recorded, AnyEvents, MakesTurn}
+use Rattle.locked_heap.proofs.Calls.{since, noted_since}
+use Rattle.locked_heap.proofs.Leading.{led_turn}
+use Rattle.locked_heap.proofs.MachineTurns.{noted_turn, makes_turn}
 use Rattle.locked_heap.proofs.recorder.Recorder.turn.Goals as goal
+use Rattle.locked_heap.proofs.recorder.Recorder.turn.Goals.{After-play_turn-turn, After-saturating_add-self-inside}
 
-pub split_at-requires : goal.split_at-requires
-split_at-requires g c =
-    let facts = noted_turn c.law_every_run.ensures.run c.law_every_run.ensures.step c.law_every_run.ensures.turns g.N.Handed.given (the_view g.row.N g.N.Handed c.self.inside) c.play_turn-turn.new.self c.heap-collector.result c.self.invariant.0
-    c.play_turn-turn.ensures.can c.play_turn-turn.ensures.state c.heap-collector.ensures.heap in
-    rw (c.log-before.ensures, c.log.ensures) facts.longer
+-- the machine's turn
+facts : (c : After-play_turn-turn) → TurnFacts c.self.inside.machine c.play_turn-turn.new.self c.heap-collector.result.seats
+facts c =
+    let law = c.law_every_run.ensures in
+    noted_turn law.run law.step law.turns (the_view c.self.inside) c.play_turn-turn.new.self c.heap-collector.result c.self.invariant.0 c.play_turn-turn.ensures.can c.play_turn-turn.ensures.state c.heap-collector.ensures.heap
 
-pub note_all-requires : goal.note_all-requires
-note_all-requires g c =
-    let old : Recorded = the_view g.row.N g.N.Handed c.self.inside in
-    let facts = noted_turn c.law_every_run.ensures.run c.law_every_run.ensures.step c.law_every_run.ensures.turns g.N.Handed.given old c.play_turn-turn.new.self c.heap-collector.result c.self.invariant.0
-    c.play_turn-turn.ensures.can c.play_turn-turn.ensures.state c.heap-collector.ensures.heap in
-    let told = told_by_turn old.machine c.play_turn-turn.new.self c.heap-collector.result facts c.split_at.result.1.now c.log-before.result.now c.log.result.now c.split_at.ensures.back c.log-before.ensures c.log.ensures in
-    omega (arith, ap (length {A = Entry}) told, facts.few, c.self.invariant.1.listed_room, ap (λ (v : Recorded). v.spare) c.self.view_is, c.requires.room)
+-- what contracts see once it was noted
+abbrev after : After-saturating_add-self-inside → Recorded
+after c = record { machine = c.play_turn-turn.new.self; history = c.note_since.new.list.items; spare = c.note_since.new.spare; turns = c.saturating_add-self-inside.result; last_turn = Some c.play_turn-turn.result }
+
+-- so it is what contracts say of it
+makes : (c : After-saturating_add-self-inside) → TurnFacts c.self.inside.machine c.play_turn-turn.new.self c.heap-collector.result.seats → MakesTurn (the_view c.self.inside) (after c) c.play_turn-turn.result
+makes c made =
+    let law = c.law_every_run.ensures in
+    let turn = c.play_turn-turn.ensures in
+    let old : Recorded = the_view c.self.inside in
+    let two = c.play_turn-turn.new.self in
+    let party = c.heap-collector.result.seats in
+    makes_turn law.run law.turns old (after c) c.play_turn-turn.result (since old.machine two party) c.self.invariant.0 (record {
+      same_heap = turn.heap;
+      noted = noted_since old old.machine two party c.log-before.result.now old.history c.note_since.new.list.items c.note_since.ensures.items refl c.log-before.ensures;
+      left = c.note_since.ensures.left ∙ ap (λ (l : List Entry). old.spare - length (drop (length l) (log_of two party))) c.log-before.ensures;
+      turns_stay = refl;
+      last_stays = refl;
+    }) made.told turn.can turn.state turn.answer c.saturating_add-self-inside.ensures refl
+
+pub note_since-requires-clause-longer : goal.note_since-requires-clause-longer
+note_since-requires-clause-longer c = rw c.log-before.ensures (facts (goal.at.note_since-requires-clause-longer c).After-play_turn-turn).longer
+
+pub note_since-requires-clause-room : goal.note_since-requires-clause-room
+note_since-requires-clause-room c =
+    let made = facts (goal.at.note_since-requires-clause-room c).After-play_turn-turn in
+    rw (c.log-before.ensures, made.told) (omega (arith, made.few, c.self.invariant.1.listed_room, ap (λ (v : Recorded). v.spare) c.self.view_is, c.requires.room))
 
 pub invariant_of-self : goal.invariant_of-self
-invariant_of-self g c =
-    let old : Recorded = the_view g.row.N g.N.Handed c.self.inside in
-    let facts = noted_turn c.law_every_run.ensures.run c.law_every_run.ensures.step c.law_every_run.ensures.turns g.N.Handed.given old c.play_turn-turn.new.self c.heap-collector.result c.self.invariant.0
-    c.play_turn-turn.ensures.can c.play_turn-turn.ensures.state c.heap-collector.ensures.heap in
-    let told = told_by_turn old.machine c.play_turn-turn.new.self c.heap-collector.result facts c.split_at.result.1.now c.log-before.result.now c.log.result.now c.split_at.ensures.back c.log-before.ensures c.log.ensures in
-    let noted : c.note_all.new.list.items ≡ old.history ++ entries old.machine.heap old.machine.state Turns = c.note_all.ensures.items ∙ ap (λ (l : List Entry). old.history ++ l) told in
-    let seats : length c.play_turn-turn.new.self.state.seats ≡ length old.machine.state.seats = ap (λ (t : State). length t.seats) c.play_turn-turn.ensures.state in (
-      rw (c.play_turn-turn.ensures.heap, c.play_turn-turn.ensures.state, noted) (reached_turn g.N.Handed.given old.machine.heap old.machine.state old.history c.self.invariant.0 c.play_turn-turn.ensures.can),
+invariant_of-self c =
+    let here = goal.at.invariant_of-self c in
+    let made = facts here.After-play_turn-turn in
+    let old : Recorded = the_view c.self.inside in
+    let told = c.note_since.ensures in
+    let many = ap (λ (l : List Entry). length (drop (length l) (log_of c.play_turn-turn.new.self c.heap-collector.result.seats))) c.log-before.ensures ∙ ap (length {A = Entry}) made.told in
+    let seats = ap (λ (t : State). spare_of c.play_turn-turn.new.self (length t.seats)) c.play_turn-turn.ensures.state in (
+      led_turn AnyEvents old (after here.After-saturating_add-self-inside) c.self.invariant.0 c.play_turn-turn.result (makes here.After-saturating_add-self-inside made) tt,
       record {
-        own_room = omega (arith, ap (spare_of c.play_turn-turn.new.self) seats, c.play_turn-turn.ensures.spent.own, facts.many, ap (length {A = Entry}) told, c.self.invariant.1.own_room, c.saturating_sub-self-inside.ensures);
-        listed_room = omega (arith, c.self.invariant.1.listed_room, c.saturating_sub-self-inside.ensures, c.note_all.ensures.capacity, c.note_all.ensures.len);
+        own_room = omega (arith, seats, c.play_turn-turn.ensures.spent.own, made.many, many, c.self.invariant.1.own_room, told.left);
+        listed_room = omega (arith, c.self.invariant.1.listed_room, told.left, told.capacity, told.len);
       },
     )
 
 pub returns : goal.returns
-returns g c =
-    let old : Recorded = the_view g.row.N g.N.Handed c.self.inside in
-    let facts = noted_turn c.law_every_run.ensures.run c.law_every_run.ensures.step c.law_every_run.ensures.turns g.N.Handed.given old c.play_turn-turn.new.self c.heap-collector.result c.self.invariant.0
-    c.play_turn-turn.ensures.can c.play_turn-turn.ensures.state c.heap-collector.ensures.heap in
-    let told = told_by_turn old.machine c.play_turn-turn.new.self c.heap-collector.result facts c.split_at.result.1.now c.log-before.result.now c.log.result.now c.split_at.ensures.back c.log-before.ensures c.log.ensures in
-    let noted : c.note_all.new.list.items ≡ old.history ++ entries old.machine.heap old.machine.state Turns = c.note_all.ensures.items ∙ ap (λ (l : List Entry). old.history ++ l) told in
-    let new : Recorded = record { machine = c.play_turn-turn.new.self; history = c.note_all.new.list.items; spare = c.saturating_sub-self-inside.result; turns = c.saturating_add-self-inside.result; last_turn = Some c.play_turn-turn.result } in
-    let left : old.spare + length old.history ≤ new.spare + length new.history
-    = omega (arith, c.saturating_sub-self-inside.ensures, ap (length {A = Entry}) c.note_all.ensures.items, length-append old.history c.split_at.result.1.now) in
+returns c =
+    let here = goal.at.returns c in
     record {
-      makes = subst (λ (v : Recorded). MakesTurn v new c.play_turn-turn.result) c.self.view_is
-          (makes_turn c.law_every_run.ensures.run c.law_every_run.ensures.turns g.N.Handed.given old new c.play_turn-turn.result c.self.invariant.0 c.play_turn-turn.ensures.heap c.play_turn-turn.ensures.can c.play_turn-turn.ensures.state
-          noted c.play_turn-turn.ensures.answer left c.saturating_add-self-inside.ensures refl);
+      makes = subst (λ (v : Recorded). MakesTurn v (after here.After-saturating_add-self-inside) c.play_turn-turn.result) c.self.view_is (makes here.After-saturating_add-self-inside (facts here.After-play_turn-turn));
     }

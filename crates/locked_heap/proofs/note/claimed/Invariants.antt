@@ -1,6 +1,6 @@
 use Rattle.std.proofs.Common.{◌≡◌, take}
-use Rattle.heap_runs.specs.Playing.{claimed_by}
-use Rattle.heap_runs.proofs.playing.use_count.claimed.Given as goal
+use Rattle.locked_heap.specs.Recorded.{claimed_by}
+use Rattle.locked_heap.proofs.note.claimed.Given as goal
 
 -- what was taken so far
 abbrev pub invariant-loop-entry : goal.invariant-loop-entry
