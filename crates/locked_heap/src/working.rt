@@ -50,7 +50,7 @@ fn work<N: Handed, G: Gate, R: Wait>(
     Ok(())
 }
 
-/// Makes slack turns of the collector until the seats' workers have returned.
+/// Makes slack turns of the collector until each seat has left, or the seats' workers have returned.
 fn collect<N: Handed, R: Wait>(
     rt: &R,
     held: &Mutex<Locked<N>>,

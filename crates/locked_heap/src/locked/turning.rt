@@ -53,9 +53,9 @@ impl<N: Handed> Locked<N> {
         Ok(())
     }
 
-    /// Whether the seats' workers have returned.
+    /// Whether no more slack is wanted: each seat has left, or the seats' workers have returned.
     pub fn is_over(&self) -> bool {
-        self.over
+        self.over || self.seats.iter().all(|seat| seat.gone)
     }
 
     /// The seats' workers have returned.
