@@ -24,7 +24,7 @@ abbrev pub since : MachineValue → MachineValue → ℕ → List Entry
 since one two party = drop (length (log_of one party)) (log_of two party)
 
 -- these entries were noted, and take room; no turn was made
-pub record IsNoted (old new : Recorded) (told : List Entry) : Type 0 where
+pub record AddsTold (old new : Recorded) (told : List Entry) : Type 0 where
   pub same_heap : new.machine.heap ≡ old.machine.heap
   pub noted : new.history ≡ old.history ++ told
   pub left : new.spare ≡ old.spare - length told
@@ -32,7 +32,7 @@ pub record IsNoted (old new : Recorded) (told : List Entry) : Type 0 where
   pub last_stays : new.last_turn ≡ old.last_turn
 
 -- so no more room was lost than they take
-pub room_kept : (old new : Recorded) (told : List Entry) → IsNoted old new told → old.spare + length old.history ≤ new.spare + length new.history
+pub room_kept : (old new : Recorded) (told : List Entry) → AddsTold old new told → old.spare + length old.history ≤ new.spare + length new.history
 room_kept old new told is = omega (arith, is.left, ap (length {A = Entry}) is.noted, length-append old.history told)
 
 -- what was noted behind the party's log as it was is what that has more
@@ -88,7 +88,7 @@ call_facts runs each_short old one two number command reply led same others step
     }
 
 -- so it is what contracts say of it
-pub makes_call : (old new : Recorded) (one : MachineValue) (number : ℕ) (command : Command) (reply : Reply) → CallFacts old one new.machine number command reply → IsNoted old new (since one new.machine number)
+pub makes_call : (old new : Recorded) (one : MachineValue) (number : ℕ) (command : Command) (reply : Reply) → CallFacts old one new.machine number command reply → AddsTold old new (since one new.machine number)
     → MakesCall old new number command reply
 makes_call old new one number command reply facts is =
     let made = facts.made in

@@ -12,7 +12,7 @@ use Rattle.core_rule.proofs.parties.InnerTold.{few_told}
 use Rattle.core_rule.proofs.parties.Logs.{log_of_seat}
 use Rattle.core_rule.proofs.parties.OneSeat.{after_inner}
 use Rattle.locked_heap.specs.Recorded.{Recorded, MakesInner}
-use Rattle.locked_heap.proofs.Calls.{since, IsNoted, room_kept}
+use Rattle.locked_heap.proofs.Calls.{since, AddsTold, room_kept}
 
 -- the call was the machine's, and it tells one entry at most; the collector's room is as it was
 pub record InnerFacts (old : Recorded) (one two : MachineValue) (number : ℕ) (inner : Inner) : Type 0 where
@@ -47,7 +47,7 @@ inner_facts old one two number inner same others plays spent =
     }
 
 -- so it is what contracts say of it
-pub makes_inner : (old new : Recorded) (one : MachineValue) (number : ℕ) (inner : Inner) → InnerFacts old one new.machine number inner → IsNoted old new (since one new.machine number) → MakesInner old new number inner
+pub makes_inner : (old new : Recorded) (one : MachineValue) (number : ℕ) (inner : Inner) → InnerFacts old one new.machine number inner → AddsTold old new (since one new.machine number) → MakesInner old new number inner
 makes_inner old new one number inner facts is = record {
   same_heap = is.same_heap;
   plays = facts.plays;

@@ -16,7 +16,7 @@ use Rattle.core_rule.specs.Laws.{EveryRunKeeps, EachEventKeeps, EachTurnComesTo,
 use Rattle.core_rule.proofs.parties.Collectors.{all_collectors}
 use Rattle.core_rule.proofs.parties.TurnLogs.{TurnFacts, turn_facts}
 use Rattle.locked_heap.specs.Recorded.{Recorded, EventsLeadTo, AnyEvents, MakesTurn, collector_of}
-use Rattle.locked_heap.proofs.Calls.{IsNoted, room_kept}
+use Rattle.locked_heap.proofs.Calls.{AddsTold, room_kept}
 use Rattle.locked_heap.proofs.Leading.{book_stands}
 
 -- the turn's facts where events led to the machine, whose heap is this one
@@ -27,7 +27,7 @@ noted_turn runs keeps each old two heap led can after same =
     turn_facts keeps each old.machine two old.history heap.seats s can after (ap (λ (h : Heap). h.seats) same ∙ sym s.stands.rule.machine.seated)
 
 -- so it is what contracts say of it
-pub makes_turn : EveryRunKeeps → EachTurnComesTo → (old new : Recorded) (turn : Turn) (told : List Entry) → EventsLeadTo AnyEvents old.machine.heap old.machine.state old.history → IsNoted old (record new { turns = old.turns; last_turn = old.last_turn }) told
+pub makes_turn : EveryRunKeeps → EachTurnComesTo → (old new : Recorded) (turn : Turn) (told : List Entry) → EventsLeadTo AnyEvents old.machine.heap old.machine.state old.history → AddsTold old (record new { turns = old.turns; last_turn = old.last_turn }) told
     → told ≡ entries old.machine.heap old.machine.state Turns → Can old.machine.heap old.machine.state Turns → new.machine.state ≡ state_after old.machine.heap old.machine.state Turns
     → turn ≡ (next_turn old.machine.heap old.machine.state.collector).answer (found_by old.machine.heap old.machine.state (next_turn old.machine.heap old.machine.state.collector).step)
     → new.turns ≡ min (old.turns + 1) (2 ^ 64 - 1) → new.last_turn ≡ Some turn → MakesTurn old new turn

@@ -75,7 +75,7 @@ pub record StandsStill (old new : Recorded) : Type 0 where
   pub turns_stay : new.turns ≡ old.turns
   pub last_stays : new.last_turn ≡ old.last_turn
 
--- a whole call of the machine was made: its steps and its answer are right there, the history has its entries, what it refuses changes nothing there, and no turn was made
+-- a whole call was made: its steps and its answer are the machine's, the history has its entries, what it refuses changes nothing, and no turn was made
 pub record MakesCall (old new : Recorded) (number : ℕ) (command : Command) (reply : Reply) : Type 0 where
   pub same_heap : new.machine.heap ≡ old.machine.heap
   pub call : PlaysCall old.machine.heap old.machine.state new.machine.state number command reply

@@ -3,7 +3,7 @@ use Rattle.heap_model.specs.declared.entry.Entry.{Entry}
 use Rattle.core_machine.specs.machine.Value.{MachineValue, log_of}
 use Rattle.locked_heap.specs.contracts.recorder.Recorder.{the_view}
 use Rattle.locked_heap.specs.Recorded.{Recorded, AnyEvents, MakesCall}
-use Rattle.locked_heap.proofs.Calls.{since, IsNoted, noted_since, CallFacts, call_facts, makes_call}
+use Rattle.locked_heap.proofs.Calls.{since, AddsTold, noted_since, CallFacts, call_facts, makes_call}
 use Rattle.locked_heap.proofs.Leading.{led_call}
 use Rattle.locked_heap.proofs.recorder.Recorder.call.Goals as goal
 use Rattle.locked_heap.proofs.recorder.Recorder.call.Goals.{After-play_call-reply, After-note_since}
@@ -20,7 +20,7 @@ abbrev after : After-note_since → Recorded
 after c = record (the_view c.self.inside) { machine = c.play_call-reply.new.self; history = c.note_since.new.list.items; spare = c.note_since.new.spare }
 
 -- it was noted
-noted : (c : After-note_since) → IsNoted (the_view c.self.inside) (after c) (since c.room.new.self c.play_call-reply.new.self c.args.seat)
+noted : (c : After-note_since) → AddsTold (the_view c.self.inside) (after c) (since c.room.new.self c.play_call-reply.new.self c.args.seat)
 noted c =
     let old : Recorded = the_view c.self.inside in
     let one = c.room.new.self in
