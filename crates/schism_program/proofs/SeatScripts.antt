@@ -9,7 +9,7 @@ use Rattle.std.proofs.Math.ListN.{get_or-map}
 use Rattle.heap_model.specs.declared.command.Command.{Command}
 use Rattle.heap_model.specs.declared.command.Command.TheVariants as commands
 use Rattle.heap_model.specs.Limits.{stamp_limit}
-use Rattle.locked_heap.specs.Given.{IsOfScript, IsScript}
+use Rattle.locked_heap.specs.Given.{IsOfScript, IsSeatScript}
 use Rattle.script_text.specs.declared.script.Form.TheVariants.{Run}
 use Rattle.script_text.specs.declared.script.Line.{Line}
 use Rattle.script_text.specs.declared.script.Line.TheVariants as lines
@@ -63,7 +63,7 @@ all_commands seats number (lines.Seat other command ∷ more) all = all_more (ot
 all_commands seats number (lines.Turns command ∷ more) all = absurd all.0
 
 -- so what each seat is handed is a script
-pub seat_script : (number : ℕ) (script : Script) → IsOfForm Run script → IsScript (commands_of number script.lines)
+pub seat_script : (number : ℕ) (script : Script) → IsOfForm Run script → IsSeatScript (commands_of number script.lines)
 seat_script number script of_form = record {
   few = omega (arith, few_commands number script.lines, of_form.short);
   each = All-from_recursion IsOfScript (commands_of number script.lines) (all_commands script.heap.seats number script.lines of_form.lines);
@@ -74,12 +74,12 @@ pub seated : (scripts : List (Vec Command Global)) (script : Script) → map ite
 seated scripts script same = sym (length-map scripts items) ∙ ap (length {A = List Command}) same ∙ length-map-range_with_len (λ number. commands_of number script.lines) 0 script.heap.seats
 
 -- each of them is
-pub seat_scripts : (scripts : List (Vec Command Global)) (script : Script) → IsOfForm Run script → map items scripts ≡ scripts_by_seat script → All (λ (s : Vec Command Global). IsScript s.items) scripts
+pub seat_scripts : (scripts : List (Vec Command Global)) (script : Script) → IsOfForm Run script → map items scripts ≡ scripts_by_seat script → All (λ (s : Vec Command Global). IsSeatScript s.items) scripts
 seat_scripts scripts script of_form same k d below =
     let commands = λ (number : ℕ). commands_of number script.lines in
     let found : commands k ≡ (slice_index_or scripts k d).items
     = sym (get_or-map-range_with_len commands 0 script.heap.seats k k d.items (omega (arith, below, seated scripts script same)) (omega arith)) ∙ ap (λ l. slice_index_or l k d.items) (sym same) ∙ get_or-map items scripts k d in
-    subst IsScript found (seat_script k script of_form)
+    subst IsSeatScript found (seat_script k script of_form)
 
 -- and it is what the seat of its number is handed
 pub handed_script : (scripts : List (Vec Command Global)) (script : Script) (number : ℕ) → number < script.heap.seats → map items scripts ≡ scripts_by_seat script → slice_index_or (map items scripts) number [] ≡ commands_of number script.lines
