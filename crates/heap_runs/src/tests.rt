@@ -12,6 +12,7 @@ use std::alloc::Global;
 use std::test::Fail;
 
 mod growing;
+mod machine;
 mod pacing;
 
 /// The script that the text is.

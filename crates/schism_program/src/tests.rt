@@ -4,7 +4,6 @@ mod copies;
 mod cycles;
 mod forms;
 mod judged;
-mod machine;
 mod runs;
 mod several_seats;
 mod turns;
