@@ -12,7 +12,6 @@ use std::alloc::Global;
 use std::test::Fail;
 
 mod growing;
-mod machine;
 mod pacing;
 
 /// The script that the text is.

@@ -10,8 +10,6 @@ mod meta;
 mod name;
 mod phase;
 mod spot;
-#[cfg(test)]
-mod tests;
 
 pub use cell::Cell;
 pub use control::{

@@ -29,32 +29,3 @@ pub fn write_all<K: Sink>(sink: &mut K, bytes: &[u8]) -> Result<(), WriteFault>
     }
     Ok(())
 }
-
-#[cfg(test)]
-mod tests {
-    use super::*;
-    use crate::MemSink;
-    use std::test::Fail;
-
-    #[test]
-    fn writes_all_or_a_front(rt: HostRuntime) -> Result<(), Fail> {
-        for (text, room, fail, want, taken) in [
-            ("", 0, 0, Ok(()), ""),
-            ("abcde", 5, 9, Ok(()), "abcde"),
-            ("abcde", 9, 3, Ok(()), "abcde"),
-            ("abcde", 9, 0, Err(WriteFault), ""),
-            ("abcde", 9, 1, Err(WriteFault), "ab"),
-            ("abcde", 3, 9, Err(WriteFault), "abc"),
-        ] {
-            let bytes = Vec::with_capacity(rt.alloc(), room)?;
-            let mut sink = MemSink::new(bytes, 2, Vec::from_slice(rt.alloc(), &[fail])?);
-            assert_eq!(rt;
-                write_all(&mut sink, text.as_bytes()),
-                want,
-                "{text} into {room}"
-            );
-            assert_eq!(rt; sink.bytes(), taken.as_bytes(), "{text} into {room}");
-        }
-        Ok(())
-    }
-}

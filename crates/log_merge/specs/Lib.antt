@@ -1,4 +1,3 @@
 pub mod Checking
 pub mod Legal
 pub mod Lines
-pub mod LoneSeat

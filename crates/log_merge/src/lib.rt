@@ -8,6 +8,3 @@ mod totals;
 
 pub use checking::check;
 pub use fault::CheckFault;
-
-#[cfg(test)]
-mod tests;

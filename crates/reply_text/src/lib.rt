@@ -13,6 +13,3 @@ pub use write::brief::render_brief;
 pub use write::counts::BriefCounts;
 pub use write::rendering::{push_entry, render_entry};
 pub use write::text::render_history;
-
-#[cfg(test)]
-mod tests;

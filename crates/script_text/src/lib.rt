@@ -32,6 +32,3 @@ pub use script::{Form, Line, Script};
 pub use sequence::Sequence;
 pub use text::{push_heap_line, write_script};
 pub use writing::{push_command, push_digits, push_heap, push_number, push_turns, push_word};
-
-#[cfg(test)]
-mod tests;

@@ -8,6 +8,3 @@ mod turning;
 pub use pace::{MOST_SLACK_TURNS, Pace, Paces};
 pub use steady::Steady;
 pub use turning::{SlackDone, slack};
-
-#[cfg(test)]
-mod tests;

@@ -1,0 +1,4 @@
+pub mod LoneCalls
+pub mod LoneEntries
+pub mod LoneLemmas
+pub mod LoneLists

@@ -1,0 +1,48 @@
+use super::*;
+use crate::{MemSource, NeverSource};
+use std::test::Fail;
+
+// Gives two bytes a call, and fails at one call.
+fn source(alloc: Global, text: &str, fail: u64) -> Result<MemSource, AllocError> {
+    let bytes = Vec::from_slice(alloc, text.as_bytes())?;
+    let fails = Vec::from_slice(alloc, &[fail])?;
+    Ok(MemSource::new(bytes, 2, fails))
+}
+
+// The last column is what the next read gives.
+#[test]
+fn reads_to_the_end_or_the_limit(rt: HostRuntime) -> Result<(), Fail> {
+    for (text, limit, fail, want, next) in [
+        ("", 0, 9, Ok(""), ""),
+        ("abc", 3, 9, Ok("abc"), ""),
+        ("abc", 8, 9, Ok("abc"), ""),
+        ("abc", usize::MAX, 9, Ok("abc"), ""),
+        ("abc", 0, 9, Err(ReadAllFault::TooLong), "bc"),
+        ("abcde", 3, 9, Err(ReadAllFault::TooLong), "e"),
+        ("abcde", 8, 0, Err(ReadAllFault::ReadFault), "ab"),
+        ("abcde", 8, 1, Err(ReadAllFault::ReadFault), "cd"),
+    ] {
+        let mut source = source(rt.alloc(), text, fail)?;
+        match (read_all(rt.alloc(), &mut source, limit), want) {
+            (Ok(bytes), Ok(text)) => assert_eq!(rt; bytes.as_slice(), text.as_bytes()),
+            (Err(fault), Err(want)) => assert_eq!(rt; fault, want, "{text} within {limit}"),
+            _ => panic!(rt; "{text} within {limit}"),
+        }
+        let mut piece = [0; 2];
+        let n = source.read(&mut piece)?;
+        assert_eq!(rt; &piece[..n], next.as_bytes(), "{text} within {limit}");
+    }
+    Ok(())
+}
+
+#[test]
+fn reads_more_than_a_piece(rt: HostRuntime) -> Result<(), Fail> {
+    let text = vec![in rt.alloc(); b'a'; 2 * PIECE + 1]?;
+    let mut source = NeverSource::new(text);
+    let bytes = read_all(rt.alloc(), &mut source, 2 * PIECE + 1)?;
+    assert_eq!(rt; bytes.len(), 8193);
+    let mut source = NeverSource::new(bytes);
+    let short = read_all(rt.alloc(), &mut source, 2 * PIECE);
+    assert_eq!(rt; short.err(), Some(ReadAllFault::TooLong));
+    Ok(())
+}

@@ -1,6 +1,0 @@
-use Rattle.std.proofs.Common.{rules}
-use Rattle.log_merge.proofs.LoneCalls.{lone_adds, notes_none}
-use Rattle.log_merge.proofs.tests.seat_calls.lone.Lone.answer.Goals as goal
-
-pub returns : goal.returns
-returns c = rw (← c.self.view_is) (lone_adds _ _ _ _ _ _ _ _ _ c.self.invariant.0.tells (notes_none _ _ _ _ c.say.ensures.items) (c.requires.alone _ _) (search rules))
