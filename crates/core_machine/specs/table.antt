@@ -2,5 +2,4 @@
 pub mod Fragments
 pub mod Layout
 pub mod Decode
-pub mod Newborn
 pub mod Operation

@@ -3,10 +3,10 @@ ghost use Rattle.core_machine.specs.table.Operation.{address_of, operation_of, m
 
 use crate::step::operation::Operation;
 use crate::table::address::Address;
-use crate::table::newborn::{fixed_word, spine_word};
 use heap_model::limits::GROUP_FRAGMENTS;
 use heap_words::{
-    ALL_TAKEN, LEFT, MARKS_CLEARED, all_but, birth_bits, blacken_bit, free_mask, shade_bit,
+    ALL_TAKEN, LEFT, MARKS_CLEARED, all_but, birth_bits, blacken_bit, fixed_word, free_mask,
+    shade_bit, spine_word,
 };
 
 pub(crate) mod operation;

@@ -1,5 +1,4 @@
 pub(crate) mod address;
 pub(crate) mod decode;
 pub(crate) mod fragments;
-pub(crate) mod newborn;
 pub(crate) mod words;

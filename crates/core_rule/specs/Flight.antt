@@ -10,7 +10,7 @@ use Rattle.core_machine.specs.declared.place.Polling.TheVariants.{Asking, Shadin
 use Rattle.core_machine.specs.declared.place.Access.{Access}
 use Rattle.core_machine.specs.declared.place.Access.TheVariants.{ShadingOld, ShadingNew, Swapping}
 use Rattle.core_machine.specs.declared.seat.register.Register.{Register}
-use Rattle.core_machine.specs.table.Decode.{head_of}
+use Rattle.heap_words.specs.Loaded.{head_of}
 use Rattle.core_machine.specs.seat.AccessMoves.{new_register_of}
 use Rattle.core_machine.specs.seat.Registers.{register_in, register_head}
 use Rattle.core_machine.specs.seat.Seat.{Seat}

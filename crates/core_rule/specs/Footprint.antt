@@ -18,7 +18,7 @@ use Rattle.core_machine.specs.declared.place.Place.TheVariants as places
 use Rattle.core_machine.specs.machine.Machine.{State, seat_at}
 use Rattle.core_machine.specs.machine.Sums.{sum_upto}
 use Rattle.core_machine.specs.seat.Registers.{is_same_id}
-use Rattle.core_machine.specs.table.Decode.{head_of}
+use Rattle.heap_words.specs.Loaded.{head_of}
 use Rattle.core_rule.specs.Book.{Book, id_at}
 use Rattle.core_rule.specs.Colours.{IsMarked}
 use Rattle.core_rule.specs.Owners.{Owner, Free, Taken, Borne, Kept, Dead, taken_bit}

@@ -9,7 +9,7 @@ use Rattle.core_machine.specs.machine.Machine.{State, seat_at}
 use Rattle.core_machine.specs.seat.Commands.{target_of}
 use Rattle.core_machine.specs.seat.Registers.{register_in, register_head}
 use Rattle.core_machine.specs.seat.Seat.{Seat}
-use Rattle.core_machine.specs.table.Decode.{head_of}
+use Rattle.heap_words.specs.Loaded.{head_of}
 use Rattle.core_machine.specs.table.Fragments.{tally}
 use Rattle.core_rule.specs.ControlWords.{IsBorn}
 use Rattle.core_rule.specs.Paths.{Edge}

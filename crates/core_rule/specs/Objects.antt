@@ -17,7 +17,7 @@ use Rattle.heap_model.specs.graph.Reach.{IsMade}
 use Rattle.heap_model.specs.Limits.{most_fields, most_cells}
 use Rattle.core_machine.specs.declared.table.address.Address.TheVariants.{Word}
 use Rattle.core_machine.specs.table.Layout.{at, spine_place}
-use Rattle.core_machine.specs.table.Newborn.{record_word_of, sentinel_word_of, spine_word}
+use Rattle.heap_words.specs.Newborn.{record_word_of, sentinel_word_of, spine_word}
 use Rattle.core_rule.specs.Owners.{Owner, Kept}
 use Rattle.core_rule.specs.Book.{fragment_at, id_at, object_number, object_head}
 

@@ -23,7 +23,7 @@ use Rattle.core_machine.specs.seat.Commands.{object_of}
 use Rattle.core_machine.specs.seat.Registers.{register_head, register_in}
 use Rattle.core_machine.specs.seat.Seat.{Seat}
 use Rattle.core_machine.specs.table.Layout.{at, spine_place}
-use Rattle.core_machine.specs.table.Newborn.{spine_word}
+use Rattle.heap_words.specs.Newborn.{spine_word}
 use Rattle.core_rule.specs.Book.{Colour, fragment_at, id_at}
 use Rattle.core_rule.specs.Colours.{IsMarked, IsBetween}
 use Rattle.core_rule.specs.Owners.{Owner, Kept, SpineOwner, Placed, Gone}

@@ -7,7 +7,7 @@ use Rattle.core_machine.specs.declared.place.Access.{Access}
 use Rattle.core_machine.specs.declared.place.Access.TheVariants.{Naming, ShadingOld}
 use Rattle.core_machine.specs.seat.Registers.{register_in, register_head}
 use Rattle.core_machine.specs.seat.Seat.{Seat}
-use Rattle.core_machine.specs.table.Decode.{head_of}
+use Rattle.heap_words.specs.Loaded.{head_of}
 use Rattle.core_rule.specs.Book.{Colour}
 use Rattle.core_rule.specs.Flight.{WhileAccess}
 use Rattle.core_rule.specs.Owners.{Owner}

@@ -12,7 +12,7 @@ use Rattle.core_machine.specs.declared.table.address.Address.TheVariants as addr
 use Rattle.core_machine.specs.seat.Commands.{IsArrayCall}
 use Rattle.core_machine.specs.seat.Seat.{Seat, spine_need}
 use Rattle.core_machine.specs.table.Layout.{at, spine_place}
-use Rattle.core_machine.specs.table.Newborn.{spine_word}
+use Rattle.heap_words.specs.Newborn.{spine_word}
 use Rattle.core_rule.specs.Owners.{Owner, SpineOwner, Placed, Spined}
 use Rattle.core_rule.specs.Book.{fragment_at}
 use Rattle.core_rule.specs.Objects.{IsKept}

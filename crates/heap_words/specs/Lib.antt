@@ -2,8 +2,10 @@ pub mod Cell
 pub mod Control
 pub mod Group
 pub mod Kind
+pub mod Loaded
 pub mod Meta
 pub mod Name
+pub mod Newborn
 pub mod Phase
 pub mod Reads
 pub mod Spot

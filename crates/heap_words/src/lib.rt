@@ -6,8 +6,10 @@ mod control;
 mod group;
 mod kind;
 mod laws;
+mod loaded;
 mod meta;
 mod name;
+mod newborn;
 mod phase;
 mod spot;
 
@@ -19,7 +21,9 @@ pub use control::{
 pub use group::Group;
 pub use kind::Kind;
 pub use laws::word_laws;
+pub use loaded::{array_length, head_in, is_meta, lead_in, link_in, payload, stamp_in};
 pub use meta::Meta;
 pub use name::Name;
+pub use newborn::{Newborn, NewbornArray, fixed_word, spine_word};
 pub use phase::{LEFT, Phase};
 pub use spot::Spot;

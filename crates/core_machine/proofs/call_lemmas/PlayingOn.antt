@@ -27,7 +27,8 @@ use Rattle.core_machine.specs.machine.Calls.{IsPhaseNear, IsPlaceRefusal, Leaves
 use Rattle.core_machine.specs.seat.Commands.{MakesObject, IsRecordCall, IsArrayCall, source_of}
 use Rattle.core_machine.specs.table.Layout.{at, put, InTable}
 use Rattle.core_machine.specs.table.Operation.{address_of, word_after}
-use Rattle.core_machine.specs.table.Decode.{head_of, array_length_of, id_of, stamp_of}
+use Rattle.heap_words.specs.Loaded.{head_of, array_length_of, stamp_of}
+use Rattle.core_machine.specs.table.Decode.{id_of}
 use Rattle.core_machine.specs.seat.Registers.{register_in, register_head}
 use Rattle.core_machine.specs.seat.Access.{at_access, with_field_place, field_place_of, way_place_of, after_link, after_walk, after_length, after_index, meta_reply_of, after_meta, after_get, new_place_of, after_old, after_old_load}
 use Rattle.core_machine.specs.seat.AccessMoves.{reply_entries_if, got_adds, got_shows}

@@ -19,7 +19,8 @@ use Rattle.core_machine.specs.declared.step.Step.TheVariants as steps
 use Rattle.core_machine.specs.collector.Copying.{next_half, after_visited, after_seen, after_visit, visit_on, after_inspected, after_located, copy_at}
 use Rattle.core_machine.specs.collector.CopyingTurns.{visited, copying_step, after_copying, copying_adds}
 use Rattle.core_machine.specs.collector.FitsTurns.{IsCopying, FitsVisit, FitsArrayAt, FitsCopy, FitsCopying, FitsStage}
-use Rattle.core_machine.specs.table.Decode.{array_length_of, FoundPointsWithin}
+use Rattle.heap_words.specs.Loaded.{array_length_of}
+use Rattle.core_machine.specs.table.Decode.{FoundPointsWithin}
 use Rattle.core_machine.specs.table.Layout.{FitsSpot}
 use Rattle.core_machine.specs.table.Operation.{address_of}
 use Rattle.core_machine.proofs.collector_lemmas.SpineTurns.{told_spot}

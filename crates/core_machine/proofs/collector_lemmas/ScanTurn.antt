@@ -9,7 +9,8 @@ use Rattle.core_machine.specs.declared.step.Step.TheVariants.{Turning}
 use Rattle.core_machine.specs.declared.step.TurningStep.TheVariants as turning
 use Rattle.core_machine.specs.collector.Marking.{part_after, scan_step, scan_at, after_scan_load, array_at, after_first_load}
 use Rattle.core_machine.specs.collector.FitsTurns.{FitsStage, IsMarking, IsScanning}
-use Rattle.core_machine.specs.table.Decode.{is_meta, pointer_in, array_length_of, IsWithinHeap}
+use Rattle.heap_words.specs.Loaded.{is_meta, pointer_in, array_length_of}
+use Rattle.core_machine.specs.table.Decode.{IsWithinHeap}
 use Rattle.core_machine.proofs.collector_lemmas.Standing.{StageStands, work_stands, stage_fits}
 use Rattle.core_machine.proofs.table_lemmas.Bits.{bool_tells}
 use Rattle.core_machine.proofs.table_lemmas.Lengths.{length_few}

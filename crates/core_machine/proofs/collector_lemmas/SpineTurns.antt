@@ -12,7 +12,7 @@ use Rattle.core_machine.specs.declared.step.SpineStep.TheVariants.{AddressLoad, 
 use Rattle.core_machine.specs.declared.step.TurningStep.TheVariants as turning
 use Rattle.core_machine.specs.collector.Marking.{spine_step, spine_scan_at, after_address, after_spread}
 use Rattle.core_machine.specs.collector.FitsTurns.{FitsStage, IsMarking}
-use Rattle.core_machine.specs.table.Decode.{payload_in}
+use Rattle.heap_words.specs.Loaded.{payload_in}
 use Rattle.core_machine.specs.table.Layout.{FitsSpot}
 use Rattle.core_machine.proofs.collector_lemmas.Standing.{StageStands, work_stands, stage_fits}
 use Rattle.core_machine.proofs.table_lemmas.StepStands.{load_stands}

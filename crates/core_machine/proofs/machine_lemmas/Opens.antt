@@ -13,13 +13,14 @@ use Rattle.heap_model.specs.Heap.{IsHeap}
 use Rattle.core_machine.specs.declared.table.address.Address.{Address}
 use Rattle.core_machine.specs.declared.table.address.Address.TheVariants.{Phase, Answer, Budget, Spot, Control, Word, Spine}
 use Rattle.core_machine.specs.table.Layout.{table_length, index_of, InTable, at, put}
-use Rattle.core_machine.specs.table.Newborn.{record_word_of}
+use Rattle.heap_words.specs.Newborn.{record_word_of}
 use Rattle.core_machine.specs.machine.Opening.{board, board_name, board_group, opening_word, opening_seat, with_left, with_board}
 use Rattle.core_machine.specs.seat.Seat.{Seat, absent_seat}
 use Rattle.core_machine.specs.declared.seat.register.Register.TheVariants.{Nil, Object}
 use Rattle.heap_model.specs.declared.id.Id.TheVariants.{Board}
 use Rattle.core_machine.specs.collector.Collector.{Collector, opening_collector}
-use Rattle.core_machine.specs.table.Decode.{pointer_in, IsWithinHeap, FoundPointsWithin}
+use Rattle.heap_words.specs.Loaded.{pointer_in}
+use Rattle.core_machine.specs.table.Decode.{IsWithinHeap, FoundPointsWithin}
 use Rattle.core_machine.specs.seat.Fits.{AreFragments, FitsRegister, CollectorFits, Fits}
 use Rattle.core_machine.proofs.seat_lemmas.Aside.{gone_aside, no_hand_fits, no_way_fits}
 use Rattle.core_machine.proofs.table_lemmas.Leading.{record_leads, zero_leads}

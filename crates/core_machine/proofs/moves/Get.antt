@@ -19,7 +19,8 @@ use Rattle.core_machine.specs.seat.FitsAccess.{SeatIsAtGet}
 use Rattle.core_machine.specs.seat.Access.{after_get}
 use Rattle.core_machine.specs.seat.AccessMoves.{loaded_head_of, got_adds, got_shows, get_move, name_move}
 use Rattle.core_machine.specs.seat.Seat.{Seat, with_entries}
-use Rattle.core_machine.specs.table.Decode.{head_of, id_of, plain_of, plain_register, IsWithinHeap}
+use Rattle.heap_words.specs.Loaded.{head_of}
+use Rattle.core_machine.specs.table.Decode.{id_of, plain_of, plain_register, IsWithinHeap}
 use Rattle.core_machine.proofs.call_lemmas.Awaits.{after_words}
 use Rattle.core_machine.proofs.call_lemmas.Owes.{Nears}
 use Rattle.core_machine.proofs.call_lemmas.Saying.{IsGoing, HasReplied, Says, replies_, ends}

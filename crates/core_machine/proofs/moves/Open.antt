@@ -20,7 +20,8 @@ use Rattle.core_machine.specs.seat.Access.{row_of, part_of, with_field_place, af
 use Rattle.core_machine.specs.seat.AccessMoves.{reply_entries_if, open_move}
 use Rattle.core_machine.specs.seat.Registers.{register_head, register_in}
 use Rattle.core_machine.specs.seat.Seat.{Seat, with_entries}
-use Rattle.core_machine.specs.table.Decode.{pointer_in, array_length_of, IsWithinHeap}
+use Rattle.heap_words.specs.Loaded.{pointer_in, array_length_of}
+use Rattle.core_machine.specs.table.Decode.{IsWithinHeap}
 use Rattle.core_machine.proofs.call_lemmas.Awaits.{plain, after_words}
 use Rattle.core_machine.proofs.call_lemmas.Owes.{Nears}
 use Rattle.core_machine.proofs.call_lemmas.Saying.{IsGoing, Says, on, ends}

@@ -17,7 +17,8 @@ use Rattle.core_machine.specs.seat.Access.{after_old, after_old_load, at_access,
 use Rattle.core_machine.specs.seat.AccessMoves.{loaded_head_of, new_register_of, old_move, shade_old_move, shade_new_move, swap_move}
 use Rattle.core_machine.specs.seat.Registers.{register_in, register_head}
 use Rattle.core_machine.specs.seat.Seat.{Seat, with_entries}
-use Rattle.core_machine.specs.table.Decode.{head_of, IsWithinHeap}
+use Rattle.heap_words.specs.Loaded.{head_of}
+use Rattle.core_machine.specs.table.Decode.{IsWithinHeap}
 use Rattle.core_machine.proofs.call_lemmas.Awaits.{plain, after_words}
 use Rattle.core_machine.proofs.call_lemmas.Owes.{Nears}
 use Rattle.core_machine.proofs.call_lemmas.Saying.{IsGoing, Says, on, ends}

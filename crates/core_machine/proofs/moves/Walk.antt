@@ -17,7 +17,8 @@ use Rattle.core_machine.specs.seat.FitsAccess.{FitsAccess, IsAtField, IsGet, IsS
 use Rattle.core_machine.specs.seat.Access.{after_walk, at_access, row_of, has_barrier_of, field_place_of, way_place_of, after_link}
 use Rattle.core_machine.specs.seat.AccessMoves.{walk_move}
 use Rattle.core_machine.specs.seat.Seat.{Seat, with_entries}
-use Rattle.core_machine.specs.table.Decode.{pointer_in, link_of, IsWithinHeap}
+use Rattle.heap_words.specs.Loaded.{pointer_in, link_of}
+use Rattle.core_machine.specs.table.Decode.{IsWithinHeap}
 use Rattle.core_machine.proofs.call_lemmas.Awaits.{plain, after_words}
 use Rattle.core_machine.proofs.call_lemmas.Owes.{access_steps, Nears}
 use Rattle.core_machine.proofs.call_lemmas.Saying.{IsGoing, Says, on}

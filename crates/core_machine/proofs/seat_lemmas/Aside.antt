@@ -7,7 +7,8 @@ use Rattle.heap_model.specs.declared.heap.Heap.{Heap}
 use Rattle.core_machine.specs.declared.place.Place.{Place}
 use Rattle.core_machine.specs.declared.place.Place.TheVariants as places
 use Rattle.core_machine.specs.declared.seat.register.Register.{Register}
-use Rattle.core_machine.specs.table.Decode.{head_of, IsWithinHeap}
+use Rattle.heap_words.specs.Loaded.{head_of}
+use Rattle.core_machine.specs.table.Decode.{IsWithinHeap}
 use Rattle.core_machine.specs.table.Layout.{FitsSpot}
 use Rattle.core_machine.specs.seat.Seat.{Seat, no_spot, call_over, after_call}
 use Rattle.core_machine.specs.seat.Looks.{forgotten}

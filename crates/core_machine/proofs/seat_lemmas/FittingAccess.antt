@@ -9,7 +9,8 @@ use Rattle.core_machine.specs.declared.place.Place.TheVariants as places
 use Rattle.core_machine.specs.declared.place.Access.{Access}
 use Rattle.core_machine.specs.declared.seat.register.Register.{Register}
 use Rattle.core_machine.specs.seat.Commands.{target_of}
-use Rattle.core_machine.specs.table.Decode.{head_of, IsWithinHeap}
+use Rattle.heap_words.specs.Loaded.{head_of}
+use Rattle.core_machine.specs.table.Decode.{IsWithinHeap}
 use Rattle.core_machine.specs.table.Layout.{FitsSpot}
 use Rattle.core_machine.specs.seat.Seat.{Seat, after_call}
 use Rattle.core_machine.specs.seat.Access.{with_register_filled}

@@ -4,8 +4,8 @@ use Rattle.heap_words.specs.declared.kind.Kind.{Kind}
 use Rattle.heap_words.specs.declared.kind.Kind.TheVariants as kinds
 use Rattle.heap_words.specs.declared.cell.Cell.{Cell}
 use Rattle.heap_words.specs.Cell.{cell_word, cell_of}
-use Rattle.core_machine.specs.table.Decode.{payload_in}
-use Rattle.core_machine.specs.table.Newborn.{spine_word}
+use Rattle.heap_words.specs.Loaded.{payload_in}
+use Rattle.heap_words.specs.Newborn.{spine_word}
 
 -- the parts of a word
 parts : (k v s : ℕ) → v < 2 ^ 30 → s < 2 ^ 32

@@ -18,8 +18,9 @@ use Rattle.core_machine.specs.declared.table.address.Address.{Address}
 use Rattle.core_machine.specs.declared.seat.register.Register.{Register}
 use Rattle.core_machine.specs.declared.seat.register.Register.TheVariants.{Nil, Number, Object}
 use Rattle.core_machine.specs.table.Layout.{at, put, index_of, InTable, FitsSpot}
-use Rattle.core_machine.specs.table.Decode.{pointer_in, first_pointer, reference_of, IsWithinHeap, PointersWithin, FoundPointsWithin}
-use Rattle.core_machine.specs.table.Newborn.{link_after, head_word_of, record_word_of, array_meta, sentinel_word_of, array_word_of}
+use Rattle.heap_words.specs.Loaded.{pointer_in, first_pointer, reference_of}
+use Rattle.core_machine.specs.table.Decode.{IsWithinHeap, PointersWithin, FoundPointsWithin}
+use Rattle.heap_words.specs.Newborn.{link_after, head_word_of, record_word_of, array_meta, sentinel_word_of, array_word_of}
 use Rattle.core_machine.specs.seat.Commands.{MakesObject}
 use Rattle.core_machine.specs.seat.Making.{newborn_word}
 use Rattle.core_machine.specs.seat.Registers.{register_word}

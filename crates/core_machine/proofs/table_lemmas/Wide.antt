@@ -20,7 +20,7 @@ use Rattle.core_machine.specs.seat.FitsAccess.{IsSet}
 use Rattle.core_machine.specs.seat.Commands.{MakesObject}
 use Rattle.core_machine.specs.seat.Making.{newborn_word}
 use Rattle.core_machine.specs.table.Layout.{FitsSpot}
-use Rattle.core_machine.specs.table.Newborn.{link_after, head_word_of, record_word_of, spine_word, sentinel_word_of, array_word_of}
+use Rattle.heap_words.specs.Newborn.{link_after, head_word_of, record_word_of, spine_word, sentinel_word_of, array_word_of}
 use Rattle.core_machine.specs.table.Operation.{birth_bits_of, shade_bit_of, blacken_bit_of}
 use Rattle.core_machine.specs.seat.Seat.{HasNumberLeft}
 use Rattle.core_machine.specs.seat.Fits.{AreFragments, FitsRegister}

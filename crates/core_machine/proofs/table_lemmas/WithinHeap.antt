@@ -10,7 +10,8 @@ use Rattle.heap_words.specs.declared.kind.Kind.TheVariants as kinds
 use Rattle.heap_model.specs.declared.heap.Heap.{Heap}
 use Rattle.core_machine.specs.declared.seat.register.Register.{Register}
 use Rattle.core_machine.specs.declared.seat.register.Register.TheVariants.{Nil, Number, Object}
-use Rattle.core_machine.specs.table.Decode.{head_of, pointer_in, first_pointer, reference_of, IsWithinHeap}
+use Rattle.heap_words.specs.Loaded.{head_of, pointer_in, first_pointer, reference_of}
+use Rattle.core_machine.specs.table.Decode.{IsWithinHeap}
 use Rattle.core_machine.specs.seat.Registers.{register_head, heads_of, register_in}
 use Rattle.core_machine.specs.seat.Handshake.{roots}
 use Rattle.core_machine.specs.seat.Seat.{Seat}

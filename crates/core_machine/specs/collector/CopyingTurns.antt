@@ -20,7 +20,8 @@ use Rattle.core_machine.specs.declared.step.Step.TheVariants as steps
 use Rattle.core_machine.specs.declared.step.TurningStep.TheVariants as turning
 use Rattle.core_machine.specs.collector.Copying.{next_half, after_visit, visit_on, after_inspected, after_located, after_claimed, after_copied}
 use Rattle.core_machine.specs.collector.Turn.{Collector, Turn, work_turn}
-use Rattle.core_machine.specs.table.Decode.{array_length_of, id_of}
+use Rattle.heap_words.specs.Loaded.{array_length_of}
+use Rattle.core_machine.specs.table.Decode.{id_of}
 
 -- the flip: the next spine begins at the first word of the other half
 abbrev pub flip_turn : Collector → Turn

@@ -9,7 +9,7 @@ use Rattle.core_machine.specs.declared.collector.stage.Copying.{Copying}
 use Rattle.core_machine.specs.declared.collector.stage.Copying.TheVariants as copying
 use Rattle.core_machine.specs.declared.collector.stage.SpineCopy.{SpineCopy}
 use Rattle.core_machine.specs.declared.collector.stage.Visit.{Visit}
-use Rattle.core_machine.specs.table.Decode.{payload_in}
+use Rattle.heap_words.specs.Loaded.{payload_in}
 use Rattle.core_machine.specs.table.Layout.{FitsSpot}
 
 -- the most words of a spine that a meta tells

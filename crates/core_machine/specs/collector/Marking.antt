@@ -8,7 +8,7 @@ use Rattle.core_machine.specs.declared.collector.stage.Scan.{Scan}
 use Rattle.core_machine.specs.declared.collector.stage.SpineScan.{SpineScan}
 use Rattle.core_machine.specs.declared.collector.stage.Stage.{Stage}
 use Rattle.core_machine.specs.declared.collector.stage.Stage.TheVariants as stages
-use Rattle.core_machine.specs.table.Decode.{is_meta, array_length_of}
+use Rattle.heap_words.specs.Loaded.{is_meta, array_length_of}
 pub use Rattle.heap_words.specs.Control.{lowest_grey_of}
 
 -- behind the last group another pass begins where this one found something; else marking has ended, and the flip comes

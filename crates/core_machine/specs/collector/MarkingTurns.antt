@@ -10,7 +10,7 @@ use Rattle.core_machine.specs.declared.step.SpineStep.TheVariants.{AddressLoad, 
 use Rattle.core_machine.specs.declared.step.TurningStep.TheVariants as turning
 use Rattle.core_machine.specs.collector.Marking.{lowest_grey_of, after_pass, part_after, scan_step, scan_at, array_at, after_first_load, spine_step, after_address, after_spread}
 use Rattle.core_machine.specs.collector.Turn.{Collector, Turn, work_turn}
-use Rattle.core_machine.specs.table.Decode.{pointer_in, payload_in}
+use Rattle.heap_words.specs.Loaded.{pointer_in, payload_in}
 
 -- a group's control word is loaded
 abbrev pub pass_turn : Heap → Collector → ℕ → Bool → Turn

@@ -12,7 +12,7 @@ use Rattle.core_machine.specs.declared.table.address.Address.{Address}
 use Rattle.core_machine.specs.declared.table.address.Address.TheVariants.{Phase, Answer, Budget, Spot, Control, Word, Spine}
 use Rattle.core_machine.specs.declared.seat.register.Register.TheVariants.{Nil, Object}
 use Rattle.core_machine.specs.table.Layout.{at, InTable, table_length}
-use Rattle.core_machine.specs.table.Newborn.{record_word_of}
+use Rattle.heap_words.specs.Newborn.{record_word_of}
 use Rattle.core_machine.specs.seat.Seat.{Seat, absent_seat}
 use Rattle.core_machine.specs.collector.Collector.{opening_collector}
 use Rattle.core_machine.specs.machine.Machine.{State}

@@ -13,7 +13,8 @@ use Rattle.core_machine.specs.declared.place.Access.TheVariants.{LoadingMeta, Wa
 use Rattle.core_machine.specs.declared.seat.register.Register.{Register}
 use Rattle.core_machine.specs.declared.seat.register.Register.TheVariants.{Nil, Number, Object}
 use Rattle.core_machine.specs.seat.Commands.{target_of, source_of, field_of}
-use Rattle.core_machine.specs.table.Decode.{link_of, length_of, array_length_of, payload_in, plain_of}
+use Rattle.heap_words.specs.Loaded.{link_of, length_of, array_length_of, payload_in}
+use Rattle.core_machine.specs.table.Decode.{plain_of}
 use Rattle.core_machine.specs.seat.Registers.{register_in, register_head}
 use Rattle.core_machine.specs.seat.Seat.{Seat, after_call}
 

@@ -16,7 +16,8 @@ use Rattle.core_machine.specs.declared.step.AccessStep.TheVariants.{WalkLoad, Na
 use Rattle.core_machine.specs.declared.step.SpineStep.TheVariants.{AddressLoad, WordLoad}
 use Rattle.core_machine.specs.seat.Commands.{source_of, field_of}
 use Rattle.core_machine.specs.table.Layout.{at}
-use Rattle.core_machine.specs.table.Decode.{head_of, id_of, stamp_of, plain_of}
+use Rattle.heap_words.specs.Loaded.{head_of, stamp_of}
+use Rattle.core_machine.specs.table.Decode.{id_of, plain_of}
 use Rattle.core_machine.specs.seat.Access.{after_walk, meta_reply_of, after_meta, after_address, after_index, after_get, after_name, after_old, after_old_load, at_access, after_swap}
 use Rattle.core_machine.specs.seat.Registers.{register_in, register_word, register_head, value_of}
 use Rattle.core_machine.specs.seat.Seat.{Seat}

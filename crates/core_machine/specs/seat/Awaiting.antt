@@ -9,7 +9,8 @@ use Rattle.core_machine.specs.declared.place.Place.{Place}
 use Rattle.core_machine.specs.declared.place.Place.TheVariants as places
 use Rattle.core_machine.specs.declared.place.Access.TheVariants.{LoadingMeta, Walking, Locating, Indexing, Getting, Naming, LoadingOld, ShadingOld, ShadingNew, Swapping}
 use Rattle.core_machine.specs.table.Layout.{at}
-use Rattle.core_machine.specs.table.Decode.{id_of, stamp_of}
+use Rattle.heap_words.specs.Loaded.{stamp_of}
+use Rattle.core_machine.specs.table.Decode.{id_of}
 use Rattle.core_machine.specs.seat.AccessMoves.{reply_entries, loaded_head_of}
 use Rattle.core_machine.specs.seat.Seat.{Seat}
 

@@ -10,7 +10,8 @@ use Rattle.core_machine.specs.declared.place.Place.TheVariants as places
 use Rattle.core_machine.specs.declared.seat.register.Register.{Register}
 use Rattle.core_machine.specs.declared.seat.register.Register.TheVariants.{Nil, Number, Object}
 use Rattle.core_machine.specs.seat.FitsAccess.{FitsAccess, IsNowhere}
-use Rattle.core_machine.specs.table.Decode.{head_of, IsWithinHeap}
+use Rattle.heap_words.specs.Loaded.{head_of}
+use Rattle.core_machine.specs.table.Decode.{IsWithinHeap}
 use Rattle.core_machine.specs.table.Layout.{FitsSpot}
 use Rattle.core_machine.specs.seat.Seat.{Seat}
 pub use Rattle.core_machine.specs.seat.FitsMaking.{AreFragments, HasNoSpine, HasNoHand, IsAtRest, MakesNext, SeatIsGranting, SeatIsWithdrawing, SeatIsGathering, SeatIsRefusing, HasBody, SpineIsListed, IsUnstored, HasArrayBody, FitsMaking}

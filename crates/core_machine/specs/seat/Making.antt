@@ -16,7 +16,7 @@ use Rattle.core_machine.specs.declared.place.Place.TheVariants as places
 use Rattle.core_machine.specs.declared.seat.register.Register.TheVariants.{Object}
 use Rattle.core_machine.specs.seat.Commands.{target_of, fields_of}
 use Rattle.core_machine.specs.table.Fragments.{in_group, part_in, part_out, clear_in}
-use Rattle.core_machine.specs.table.Newborn.{record_word_of, array_word_of}
+use Rattle.heap_words.specs.Newborn.{record_word_of, array_word_of}
 use Rattle.core_machine.specs.seat.Seat.{Seat, need, spine_need, after_call}
 
 -- the group that is claimed next: from the cursor's on, wrapping at the last

@@ -22,7 +22,7 @@ use Rattle.core_machine.specs.declared.step.CopyingStep.{CopyingStep}
 use Rattle.core_machine.specs.declared.step.CopyingStep.TheVariants.{FlipStore, CopyClaim, CopyLoad, CopyStore, SwingStore, BudgetReturn}
 use Rattle.core_machine.specs.declared.step.TurningStep.{TurningStep}
 use Rattle.core_machine.specs.declared.step.TurningStep.TheVariants as turning
-use Rattle.core_machine.specs.table.Newborn.{spine_word}
+use Rattle.heap_words.specs.Newborn.{spine_word}
 
 -- the word that a step of making touches
 abbrev pub making_address : MakingStep → Address

@@ -3,18 +3,18 @@ ghost use Rattle.core_machine.specs.collector.Copying.{left_half as left_half_of
 ghost use Rattle.core_machine.specs.collector.CopyingTurns.{visited, copying_step, after_copying};
 ghost use Rattle.core_machine.specs.collector.FitsCopying.{FitsVisit, FitsCopying, spine_most};
 ghost use Rattle.core_machine.specs.collector.Turn.{Collector};
-ghost use Rattle.core_machine.specs.table.Decode.{array_length_of};
+ghost use Rattle.heap_words.specs.Loaded.{array_length_of};
 ghost use Rattle.heap_model.specs.Heap.{IsHeap};
 ghost use Rattle.heap_model.specs.Limits.{group_fragments, most_groups};
 ghost use Rattle.heap_words.specs.Control.{next_place_of};
 
 use crate::collector::stage::{ArrayAt, Copying, SpineCopy, Stage, Visit};
 use crate::step::{AccessStep, CopyingStep, SpineStep, Step, TurningStep};
-use crate::table::decode::{array_length, array_words, id_in};
+use crate::table::decode::{array_words, id_in};
 use heap_model::Heap;
 use heap_model::limits::GROUP_FRAGMENTS;
 use heap_model::phase_plan::CYCLE_PHASES;
-use heap_words::{Spot, marked_bits, next_place};
+use heap_words::{Spot, array_length, marked_bits, next_place};
 
 /// The half that the flip of the phase's cycle leaves.
 fn left_half(phase: u64) -> u8

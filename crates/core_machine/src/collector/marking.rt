@@ -3,17 +3,17 @@ ghost use Rattle.heap_model.specs.Heap.{IsHeap};
 ghost use Rattle.core_machine.specs.collector.Marking.{lowest_grey_of, after_last_group, after_group, after_pass, part_after, scan_step, scan_at, array_at, after_first_load, spine_step, spine_scan_at, after_address, after_spread};
 ghost use Rattle.core_machine.specs.collector.FitsTurns.{spine_most};
 ghost use Rattle.core_machine.specs.declared.step.SpineStep.TheVariants.{WordLoad};
-ghost use Rattle.core_machine.specs.table.Decode.{pointer_in, payload_in};
+ghost use Rattle.heap_words.specs.Loaded.{pointer_in, payload_in};
 ghost use Rattle.core_machine.specs.table.Layout.{FitsSpot};
 ghost use Rattle.core_machine.specs.declared.collector.stage.Stage.TheVariants.{Passing, Spreading};
 ghost use Rattle.heap_model.specs.Limits.{group_fragments};
 
 use crate::collector::stage::{Scan, SpineScan, Stage};
 use crate::step::SpineStep;
-use crate::table::decode::{array_length, array_words, is_meta, lead_in, payload};
+use crate::table::decode::array_words;
 use heap_model::Heap;
 use heap_model::limits::GROUP_FRAGMENTS;
-use heap_words::{Spot, lowest_grey};
+use heap_words::{Spot, array_length, is_meta, lead_in, lowest_grey, payload};
 
 /// A pass has seen the last group: another one begins where it found something, else the flip comes.
 fn next_pass(found: bool) -> Stage

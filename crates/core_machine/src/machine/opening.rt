@@ -10,11 +10,10 @@ use crate::collector::CollectorParty;
 use crate::machine::Machine;
 use crate::seat::SeatParty;
 use crate::table::address::Address;
-use crate::table::newborn::Newborn;
 use crate::table::words::store;
 use heap_model::limits::{BOARD_FIELDS, BOARD_FRAGMENTS, MOST_SEATS};
 use heap_model::{Heap, Memory};
-use heap_words::{Group, LEFT, Name, Spot};
+use heap_words::{Group, LEFT, Name, Newborn, Spot};
 use std::alloc::Global;
 
 /// The board's fragments.

@@ -2,7 +2,7 @@ ghost use Rattle.std.specs.Prelude.{◌≡◌, ◌+◌, ◌<◌, ◌^◌, IfSome
 ghost use Rattle.heap_model.specs.Limits.{register_count, most_seats, stamp_limit};
 ghost use Rattle.core_machine.specs.seat.Seat.{with_entries};
 ghost use Rattle.core_machine.specs.seat.Commands.{target_of, source_of};
-ghost use Rattle.core_machine.specs.table.Decode.{head_of};
+ghost use Rattle.heap_words.specs.Loaded.{head_of};
 ghost use Rattle.core_machine.specs.seat.Access.{after_get, after_old, new_place_of};
 ghost use Rattle.core_machine.specs.seat.AccessMoves.{got_adds, name_move, old_move, swap_move, loaded_head_of, new_register_of, new_word_of};
 ghost use Rattle.core_machine.specs.seat.Registers.{register_head, IsSmall};
@@ -13,9 +13,10 @@ use crate::place::{Access, Place};
 use crate::seat::SeatParty;
 use crate::seat::commands::Parts;
 use crate::seat::register::Register;
-use crate::table::decode::{head_in, id_in, plain_in, stamp_in};
+use crate::table::decode::{id_in, plain_in};
 use heap_model::limits::STAMP_LIMIT;
 use heap_model::{Reply, Value};
+use heap_words::{head_in, stamp_in};
 
 /// The new value is shaded where it is an object; then comes the swap.
 fn new_place(register: &Register) -> Access

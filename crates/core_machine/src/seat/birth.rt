@@ -14,10 +14,9 @@ use crate::seat::commands::Parts;
 use crate::seat::register::Register;
 use crate::step::MakingStep;
 use crate::table::fragments::{all_in, last_group, last_run, mask};
-use crate::table::newborn::{Newborn, NewbornArray};
 use heap_model::phase_plan::{BLACK_BIRTHS, CLEARING, CYCLE_PHASES};
 use heap_model::{Command, Entry, Id, Reply};
-use heap_words::Name;
+use heap_words::{Name, Newborn, NewbornArray};
 
 impl SeatParty {
     /// Word `part` of fragment `k` of the object that is made.

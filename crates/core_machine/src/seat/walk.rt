@@ -1,7 +1,7 @@
 ghost use Rattle.std.specs.Prelude.{◌≡◌, ◌*◌, ◌<◌, ◌≤◌, ◌^◌, IfSome};
 ghost use Rattle.heap_model.specs.Limits.{last_index, register_count};
 ghost use Rattle.core_machine.specs.seat.Commands.{field_of};
-ghost use Rattle.core_machine.specs.table.Decode.{pointer_in, array_length_of, payload_in};
+ghost use Rattle.heap_words.specs.Loaded.{pointer_in, array_length_of, payload_in};
 ghost use Rattle.core_machine.specs.seat.Access.{row_of, part_of, has_barrier_of, field_place_of, way_place_of, access_start, with_field_place, after_walk, after_length, after_index, field_reply_of, meta_reply_of};
 ghost use Rattle.core_machine.specs.seat.AccessMoves.{open_move};
 ghost use Rattle.core_machine.specs.seat.Registers.{register_in};
@@ -12,10 +12,9 @@ use crate::place::{Access, Place};
 use crate::seat::SeatParty;
 use crate::seat::commands::Parts;
 use crate::seat::register::Register;
-use crate::table::decode::{array_length, link_in, payload};
 use heap_model::phase_plan::{BARRIERS, CLEARING, CYCLE_PHASES};
 use heap_model::{Command, Reply};
-use heap_words::Meta;
+use heap_words::{Meta, array_length, link_in, payload};
 
 /// The row in which a field stands: 0 is the object's first fragment, 1 its second.
 fn row(field: u32) -> u16

@@ -8,8 +8,9 @@ use Rattle.core_machine.specs.declared.table.address.Address.TheVariants.{Word}
 use Rattle.core_machine.specs.seat.Fits.{HandFits, HasBody}
 use Rattle.core_machine.specs.table.Fragments.{part_in, part_out, tally}
 use Rattle.core_machine.specs.table.Layout.{at, spine_place, FitsSpot}
-use Rattle.core_machine.specs.table.Newborn.{spine_word}
-use Rattle.core_machine.specs.table.Decode.{pointer_in, spine_words_in}
+use Rattle.heap_words.specs.Newborn.{spine_word}
+use Rattle.heap_words.specs.Loaded.{pointer_in}
+use Rattle.core_machine.specs.table.Decode.{spine_words_in}
 use Rattle.core_machine.specs.seat.Making.{newborn_word_of, next_name}
 use Rattle.core_machine.specs.seat.Seat.{Seat, spine_need}
 use Rattle.core_rule.specs.Book.{Colour, White, Black, fragment_at}

@@ -8,7 +8,8 @@ use Rattle.heap_model.specs.declared.heap.Heap.{Heap}
 use Rattle.core_machine.specs.declared.table.address.Address.{Address}
 use Rattle.core_machine.specs.declared.table.address.Address.TheVariants.{Control, Word}
 use Rattle.core_machine.specs.table.Layout.{at, put, index_of, table_length, spine_place}
-use Rattle.core_machine.specs.table.Decode.{pointer_in, payload_in, spine_words_in}
+use Rattle.heap_words.specs.Loaded.{pointer_in, payload_in}
+use Rattle.core_machine.specs.table.Decode.{spine_words_in}
 use Rattle.core_rule.specs.Colours.{WordPointsTo}
 use Rattle.core_rule.specs.Sources.{spine_pointer, source_pointer}
 use Rattle.core_rule.proofs.colours.SourceCases.{TellsNoSpine, source_cases, word_source, word_leads, lead_of_word, word_alone}

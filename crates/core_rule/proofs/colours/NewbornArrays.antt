@@ -6,9 +6,10 @@ use Rattle.heap_words.specs.declared.spot.Spot.{Spot}
 use Rattle.heap_model.specs.Needs.{array_words}
 use Rattle.heap_model.specs.declared.heap.Heap.{Heap}
 use Rattle.core_machine.specs.declared.table.address.Address.TheVariants.{Word}
-use Rattle.core_machine.specs.table.Decode.{pointer_in, payload_in, spine_words_in}
+use Rattle.heap_words.specs.Loaded.{pointer_in, payload_in}
+use Rattle.core_machine.specs.table.Decode.{spine_words_in}
 use Rattle.core_machine.specs.table.Layout.{at, spine_place, FitsSpot}
-use Rattle.core_machine.specs.table.Newborn.{array_word_of, spine_word}
+use Rattle.heap_words.specs.Newborn.{array_word_of, spine_word}
 use Rattle.core_rule.specs.Book.{fragment_at}
 use Rattle.core_rule.specs.Colours.{WordPointsTo}
 use Rattle.core_rule.specs.Sources.{spine_pointer}

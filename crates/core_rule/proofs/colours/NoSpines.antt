@@ -11,8 +11,9 @@ use Rattle.heap_model.specs.Needs.{array_words}
 use Rattle.heap_model.specs.declared.id.Id.{Id}
 use Rattle.heap_model.specs.declared.id.Value.{Value}
 use Rattle.heap_model.specs.declared.id.Value.TheVariants as values
-use Rattle.core_machine.specs.table.Decode.{array_length_in, spine_words_in}
-use Rattle.core_machine.specs.table.Newborn.{record_meta, link_after, record_word_of}
+use Rattle.heap_words.specs.Loaded.{array_length_in}
+use Rattle.core_machine.specs.table.Decode.{spine_words_in}
+use Rattle.heap_words.specs.Newborn.{record_meta, link_after, record_word_of}
 use Rattle.core_machine.proofs.table_lemmas.CellWords.{cell_of-cell_word}
 use Rattle.core_rule.specs.Objects.{value_word}
 use Rattle.core_rule.proofs.ways.Told.{HasRoom}

@@ -7,7 +7,8 @@ use Rattle.heap_words.specs.Spot.{spot_in}
 use Rattle.heap_model.specs.declared.heap.Heap.{Heap}
 use Rattle.core_machine.specs.declared.table.address.Address.TheVariants.{Word}
 use Rattle.core_machine.specs.table.Layout.{at, spine_place}
-use Rattle.core_machine.specs.table.Decode.{pointer_in, payload_in, spine_words_in}
+use Rattle.heap_words.specs.Loaded.{pointer_in, payload_in}
+use Rattle.core_machine.specs.table.Decode.{spine_words_in}
 use Rattle.core_rule.specs.Colours.{WordPointsTo}
 pub use Rattle.core_rule.specs.Sources.{TellsNoSpine}
 use Rattle.core_rule.specs.Sources.{spine_pointer, source_pointer}

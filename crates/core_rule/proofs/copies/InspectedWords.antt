@@ -25,10 +25,10 @@ use Rattle.core_machine.specs.seat.Commands.{MakesObject, IsArrayCall}
 use Rattle.core_machine.specs.seat.Fits.{Fits, FitsPlace, HasBody, SpineIsListed}
 use Rattle.core_machine.specs.seat.Making.{newborn_word, newborn_word_of, next_name}
 use Rattle.core_machine.specs.seat.Seat.{Seat}
-use Rattle.core_machine.specs.table.Decode.{array_length_in, array_length_of, is_fixed, is_meta}
+use Rattle.heap_words.specs.Loaded.{array_length_in, array_length_of, is_fixed, is_meta}
 use Rattle.core_machine.specs.table.Fragments.{tally}
 use Rattle.core_machine.specs.table.Layout.{at}
-use Rattle.core_machine.specs.table.Newborn.{link_after, record_word_of}
+use Rattle.heap_words.specs.Newborn.{link_after, record_word_of}
 use Rattle.core_machine.proofs.table_lemmas.CellWords.{cell_of-cell_word}
 use Rattle.core_rule.specs.Book.{Book, fragment_at, id_at, object_head}
 use Rattle.core_rule.specs.Colours.{IsMarked}

@@ -11,7 +11,7 @@ use Rattle.heap_model.specs.graph.Graph.{Graph, Node}
 use Rattle.heap_model.specs.graph.Sizes.{spine_words_of}
 use Rattle.core_machine.specs.declared.table.address.Address.TheVariants.{Word}
 use Rattle.core_machine.specs.table.Layout.{at, put, table_length, spine_place}
-use Rattle.core_machine.specs.table.Newborn.{spine_word}
+use Rattle.heap_words.specs.Newborn.{spine_word}
 use Rattle.core_rule.specs.Book.{fragment_at, id_at, object_head}
 use Rattle.core_rule.specs.Objects.{Objects, KeptObject, IsKept, name_of, node_at, array_object_word, object_word}
 use Rattle.core_rule.specs.Owners.{Owner, Kept}

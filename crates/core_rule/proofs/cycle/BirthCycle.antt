@@ -8,7 +8,7 @@ use Rattle.core_machine.specs.declared.place.Place.TheVariants as places
 use Rattle.core_machine.specs.seat.Fits.{HasBody, SpineIsListed}
 use Rattle.core_machine.specs.table.Fragments.{part_in, part_out, mask_of, tally}
 use Rattle.core_machine.specs.table.Layout.{at, put, spine_place}
-use Rattle.core_machine.specs.table.Newborn.{spine_word}
+use Rattle.heap_words.specs.Newborn.{spine_word}
 use Rattle.core_machine.specs.machine.Machine.{State, seat_at}
 use Rattle.core_machine.specs.seat.Making.{last_group_of, before_run, newborn_word_of}
 use Rattle.core_machine.specs.Moves.{bears_black_of, last_part}

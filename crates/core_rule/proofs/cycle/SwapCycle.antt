@@ -9,7 +9,8 @@ use Rattle.core_machine.specs.declared.place.Place.TheVariants as places
 use Rattle.core_machine.specs.declared.place.Access.TheVariants.{Swapping}
 use Rattle.core_machine.specs.seat.FitsAccess.{FitsAccess}
 use Rattle.core_machine.specs.table.Layout.{at, put}
-use Rattle.core_machine.specs.table.Decode.{head_of, pointer_in, is_meta, spine_words_in}
+use Rattle.heap_words.specs.Loaded.{head_of, pointer_in, is_meta}
+use Rattle.core_machine.specs.table.Decode.{spine_words_in}
 use Rattle.core_machine.specs.machine.Machine.{State, seat_at}
 use Rattle.core_machine.specs.seat.AccessMoves.{new_register_of}
 use Rattle.core_machine.specs.seat.Registers.{register_head as head_of_register}

@@ -21,7 +21,7 @@ use Rattle.core_machine.specs.machine.Sums.{sum_upto}
 use Rattle.core_machine.specs.seat.Access.{has_barrier_of}
 use Rattle.core_machine.specs.seat.FitsAccess.{SeatIsAtSet}
 use Rattle.core_machine.specs.seat.Seat.{Seat}
-use Rattle.core_machine.specs.table.Decode.{head_of}
+use Rattle.heap_words.specs.Loaded.{head_of}
 use Rattle.core_rule.specs.Book.{Book, id_at}
 use Rattle.core_rule.specs.Colours.{IsMarked}
 use Rattle.core_rule.specs.Footprint.{StageStandsInside, is_inside, inside_bit}

@@ -18,7 +18,8 @@ use Rattle.core_machine.specs.declared.collector.stage.Stage.{Stage}
 use Rattle.core_machine.specs.declared.collector.stage.Stage.TheVariants as stages
 use Rattle.core_machine.specs.declared.table.address.Address.TheVariants.{Control, Word}
 use Rattle.core_machine.specs.machine.Machine.{State, found_by}
-use Rattle.core_machine.specs.table.Decode.{pointer_in, payload_in, spine_words_in}
+use Rattle.heap_words.specs.Loaded.{pointer_in, payload_in}
+use Rattle.core_machine.specs.table.Decode.{spine_words_in}
 use Rattle.core_machine.specs.table.Layout.{at, spine_place}
 use Rattle.core_machine.proofs.collector_lemmas.SpineTurns.{spine_cases}
 use Rattle.core_rule.specs.Book.{Book, Grey, id_at}

@@ -16,7 +16,7 @@ use Rattle.core_machine.specs.seat.Making.{last_group_of, first_group_of, newbor
 use Rattle.core_machine.specs.Moves.{bears_black_of}
 use Rattle.core_machine.specs.seat.Seat.{Seat, spine_need}
 use Rattle.core_machine.specs.table.Layout.{at, spine_place}
-use Rattle.core_machine.specs.table.Newborn.{spine_word}
+use Rattle.heap_words.specs.Newborn.{spine_word}
 use Rattle.core_machine.proofs.table_lemmas.Owned.{group_within}
 use Rattle.core_rule.specs.Book.{Book, fragment_at}
 use Rattle.core_rule.specs.Objects.{IsSized}

@@ -20,7 +20,7 @@ use Rattle.core_machine.specs.seat.Making.{newborn_word, newborn_word_of, next_n
 use Rattle.core_machine.specs.seat.Seat.{Seat, spine_need}
 use Rattle.core_machine.specs.table.Decode.{spine_words_in}
 use Rattle.core_machine.specs.table.Layout.{at}
-use Rattle.core_machine.specs.table.Newborn.{array_meta, array_word_of}
+use Rattle.heap_words.specs.Newborn.{array_meta, array_word_of}
 use Rattle.core_rule.specs.Book.{Book, fragment_at}
 use Rattle.core_rule.specs.HeldWords.{IsAmong, IsInHandOf, IsLoadedBy, IsInCopy, IsOfHeld, IsHeldWord}
 use Rattle.core_rule.specs.Objects.{IsKept, node_at}

@@ -20,7 +20,7 @@ use Rattle.core_machine.specs.declared.place.Polling.TheVariants.{Asking, Shadin
 use Rattle.core_machine.specs.machine.Machine.{State, seat_at, found_by}
 use Rattle.core_machine.specs.Moves.{Move, move_at, is_last_birth, last_birth_move, birth_move, seat_after, takes_some}
 use Rattle.core_machine.specs.declared.table.address.Address.TheVariants.{Word}
-use Rattle.core_machine.specs.table.Decode.{head_of, array_length_of}
+use Rattle.heap_words.specs.Loaded.{head_of, array_length_of}
 use Rattle.core_machine.specs.table.Layout.{at}
 use Rattle.core_machine.specs.seat.Access.{meta_reply_of, after_meta, after_get, after_old_load}
 use Rattle.core_machine.specs.seat.AccessMoves.{got_shows, reply_entries_if}

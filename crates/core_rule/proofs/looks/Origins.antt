@@ -22,7 +22,7 @@ use Rattle.core_machine.specs.seat.Commands.{source_of}
 use Rattle.core_machine.specs.seat.Access.{has_barrier_of, field_place_of, way_place_of, after_link, after_walk, at_access, with_field_place, after_length, after_meta, at_payload, after_index, meta_reply_of, after_get, new_place_of, after_old, after_old_load, access_start}
 use Rattle.core_machine.specs.seat.Handshake.{answer_next, after_phase_load, polling_over}
 use Rattle.core_machine.specs.seat.Making.{gather_next, next_group_of, after_claim, after_budget, after_give_back, after_listing, store_place, after_store}
-use Rattle.core_machine.specs.table.Decode.{head_of, array_length_of}
+use Rattle.heap_words.specs.Loaded.{head_of, array_length_of}
 use Rattle.core_machine.specs.table.Fragments.{clear_in}
 use Rattle.core_machine.specs.seat.Registers.{register_in, register_head}
 use Rattle.core_machine.specs.seat.Seat.{Seat, spine_need}

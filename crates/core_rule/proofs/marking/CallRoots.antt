@@ -18,7 +18,7 @@ use Rattle.core_machine.specs.seat.Fits.{IsLocal}
 use Rattle.core_machine.specs.seat.Local.{local_registers}
 use Rattle.core_machine.specs.seat.Registers.{register_in, register_head}
 use Rattle.core_machine.specs.seat.Seat.{Seat}
-use Rattle.core_machine.specs.table.Decode.{head_of, link_of, is_meta}
+use Rattle.heap_words.specs.Loaded.{head_of, link_of, is_meta}
 use Rattle.core_machine.specs.table.Layout.{at}
 use Rattle.core_machine.specs.machine.Machine.{State, seat_at, call_start}
 use Rattle.core_rule.specs.Book.{Book, fragment_at}

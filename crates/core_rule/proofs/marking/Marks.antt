@@ -13,7 +13,7 @@ use Rattle.core_machine.specs.declared.place.Place.TheVariants as places
 use Rattle.core_machine.specs.machine.Machine.{State, seat_at}
 use Rattle.core_machine.specs.seat.Registers.{register_in, register_head}
 use Rattle.core_machine.specs.seat.Seat.{Seat}
-use Rattle.core_machine.specs.table.Decode.{head_of}
+use Rattle.heap_words.specs.Loaded.{head_of}
 use Rattle.core_rule.specs.Book.{Book, Colour, Grey}
 use Rattle.core_rule.specs.Colours.{WordPointsTo, IsBetween}
 use Rattle.core_rule.specs.Flight.{WhileAccess}

@@ -12,8 +12,9 @@ use Rattle.heap_model.specs.graph.Sizes.{spine_words_of}
 use Rattle.core_machine.specs.declared.table.address.Address.TheVariants.{Word}
 use Rattle.core_machine.specs.machine.Machine.{State}
 use Rattle.core_machine.specs.table.Layout.{at, spine_place, FitsSpot}
-use Rattle.core_machine.specs.table.Decode.{pointer_in, payload_in, is_meta, spine_words_in}
-use Rattle.core_machine.specs.table.Newborn.{record_word_of, sentinel_word_of}
+use Rattle.heap_words.specs.Loaded.{pointer_in, payload_in, is_meta}
+use Rattle.core_machine.specs.table.Decode.{spine_words_in}
+use Rattle.heap_words.specs.Newborn.{record_word_of, sentinel_word_of}
 use Rattle.core_rule.specs.Book.{Book, fragment_at, id_at, object_head}
 use Rattle.core_rule.specs.Colours.{WordPointsTo}
 use Rattle.core_rule.specs.ControlWords.{Bits}

@@ -10,7 +10,7 @@ use Rattle.heap_model.specs.account.Cycles.{graph_of}
 use Rattle.heap_model.specs.account.PhaseCounts.{phase}
 use Rattle.heap_model.specs.graph.Graph.{Node}
 use Rattle.core_machine.specs.machine.Machine.{State}
-use Rattle.core_machine.specs.table.Decode.{pointer_in}
+use Rattle.heap_words.specs.Loaded.{pointer_in}
 use Rattle.core_rule.specs.Book.{Book, Colour, Grey, fragment_at, id_at, object_head, object_number}
 use Rattle.core_rule.specs.Colours.{IsMarked, WordPointsTo}
 use Rattle.core_rule.specs.Objects.{Objects, KeptObject, NamesKept, IsKept, node_at, value_word}

@@ -13,7 +13,7 @@ use Rattle.core_machine.specs.declared.seat.register.Register.TheVariants as reg
 use Rattle.core_machine.specs.seat.Commands.{object_of}
 use Rattle.core_machine.specs.seat.Registers.{register_in, register_head}
 use Rattle.core_machine.specs.seat.Seat.{Seat}
-use Rattle.core_machine.specs.table.Decode.{head_of}
+use Rattle.heap_words.specs.Loaded.{head_of}
 use Rattle.core_rule.specs.Book.{Colour, fragment_at}
 use Rattle.core_rule.specs.Colours.{IsMarked}
 use Rattle.core_rule.specs.Counts.{Awaits}

@@ -18,8 +18,8 @@ use Rattle.heap_model.specs.graph.Changes.{with_cell}
 use Rattle.heap_model.specs.graph.Graph.{Node}
 use Rattle.core_machine.specs.declared.seat.register.Register.{Register}
 use Rattle.core_machine.specs.declared.seat.register.Register.TheVariants as registers
-use Rattle.core_machine.specs.table.Decode.{stamp_of}
-use Rattle.core_machine.specs.table.Newborn.{record_word_of, sentinel_word_of}
+use Rattle.heap_words.specs.Loaded.{stamp_of}
+use Rattle.heap_words.specs.Newborn.{record_word_of, sentinel_word_of}
 use Rattle.core_machine.specs.seat.Access.{row_of, part_of}
 use Rattle.core_machine.specs.seat.Registers.{register_word}
 use Rattle.core_rule.specs.Book.{object_head}

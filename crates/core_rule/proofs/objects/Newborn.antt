@@ -7,7 +7,7 @@ use Rattle.heap_words.specs.declared.name.Name.{Name}
 use Rattle.heap_words.specs.declared.spot.Spot.{Spot}
 use Rattle.heap_model.specs.declared.id.Id.{Id}
 use Rattle.heap_model.specs.graph.Graph.{fresh, unset}
-use Rattle.core_machine.specs.table.Newborn.{record_word_of, array_word_of}
+use Rattle.heap_words.specs.Newborn.{record_word_of, array_word_of}
 use Rattle.core_rule.specs.Objects.{field_word, is_cell, record_object_word, array_object_word, object_word}
 
 -- the words of a record or an array of so many cells that were never set

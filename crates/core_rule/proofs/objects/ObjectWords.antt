@@ -9,7 +9,7 @@ use Rattle.heap_words.specs.Spot.{spot_word}
 use Rattle.heap_model.specs.declared.graph.cell.Cell.{Cell}
 use Rattle.heap_model.specs.declared.id.Id.{Id}
 use Rattle.heap_model.specs.graph.Graph.{Node}
-use Rattle.core_machine.specs.table.Newborn.{record_meta, link_after, record_word_of, array_meta, sentinel_word_of}
+use Rattle.heap_words.specs.Newborn.{record_meta, link_after, record_word_of, array_meta, sentinel_word_of}
 use Rattle.core_machine.specs.seat.Access.{row_of, part_of}
 use Rattle.core_rule.specs.Objects.{value_word, field_word, is_cell, record_object_word, array_object_word, object_word}
 use Rattle.core_rule.specs.Ways.{row_in, field_part}

@@ -15,7 +15,7 @@ use Rattle.heap_model.specs.graph.Graph.{Graph, Node, fresh, unset}
 use Rattle.core_machine.specs.declared.table.address.Address.TheVariants.{Word}
 use Rattle.core_machine.specs.table.Fragments.{tally}
 use Rattle.core_machine.specs.table.Layout.{at, spine_place}
-use Rattle.core_machine.specs.table.Newborn.{spine_word}
+use Rattle.heap_words.specs.Newborn.{spine_word}
 use Rattle.core_rule.specs.Book.{fragment_at, id_at, object_head}
 use Rattle.core_rule.specs.Objects.{AreMade, IsKept, IsSized, NamesKept, KeptObject, Objects, node_in, node_at, cells_at, name_of}
 use Rattle.core_rule.specs.Owners.{Owner, Kept}

@@ -32,7 +32,7 @@ use Rattle.core_machine.specs.declared.seat.register.Register.{Register}
 use Rattle.core_machine.specs.seat.Fits.{SeatIsRefusing}
 use Rattle.core_machine.specs.table.Fragments.{in_group}
 use Rattle.core_machine.specs.table.Layout.{at}
-use Rattle.core_machine.specs.table.Decode.{head_of}
+use Rattle.heap_words.specs.Loaded.{head_of}
 use Rattle.core_machine.specs.machine.Machine.{State, seat_at, entries_shown, found_by}
 use Rattle.core_machine.specs.seat.Making.{last_group_of, next_object_id}
 use Rattle.core_machine.specs.Moves.{move_at, takes_some, full_entry, spine_full_entry, last_birth_move, birth_move}

@@ -10,7 +10,7 @@ use Rattle.core_machine.specs.declared.collector.stage.Copying.TheVariants as co
 use Rattle.core_machine.specs.declared.collector.stage.Stage.{Stage}
 use Rattle.core_machine.specs.declared.collector.stage.Stage.TheVariants as stages
 use Rattle.core_machine.specs.declared.collector.stage.Visit.{Visit}
-use Rattle.core_machine.specs.table.Newborn.{spine_word}
+use Rattle.heap_words.specs.Newborn.{spine_word}
 use Rattle.core_rule.specs.Book.{Colour, fragment_at, id_at}
 use Rattle.core_rule.specs.Colours.{IsMarked}
 use Rattle.core_rule.specs.Halves.{WhileCopying}

@@ -8,7 +8,7 @@ use Rattle.heap_model.specs.graph.Sizes.{spine_words_of}
 use Rattle.core_machine.specs.declared.table.address.Address.TheVariants as addresses
 use Rattle.core_machine.specs.seat.Seat.{Seat, spine_need}
 use Rattle.core_machine.specs.table.Layout.{at, put, spine_place, table_length}
-use Rattle.core_machine.specs.table.Newborn.{spine_word}
+use Rattle.heap_words.specs.Newborn.{spine_word}
 use Rattle.core_machine.proofs.table_lemmas.Addresses.{at-put_same}
 use Rattle.core_rule.specs.Book.{fragment_at}
 use Rattle.core_rule.specs.Objects.{IsKept}

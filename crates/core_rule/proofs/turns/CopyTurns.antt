@@ -16,7 +16,7 @@ use Rattle.core_machine.specs.declared.collector.stage.Stage.{Stage}
 use Rattle.core_machine.specs.declared.collector.stage.Stage.TheVariants as stages
 use Rattle.core_machine.specs.declared.collector.stage.Visit.{Visit}
 use Rattle.core_machine.specs.machine.Machine.{found_by}
-use Rattle.core_machine.specs.table.Decode.{array_length_of}
+use Rattle.heap_words.specs.Loaded.{array_length_of}
 use Rattle.core_machine.specs.table.Layout.{put}
 use Rattle.core_machine.specs.table.Operation.{address_of, word_after}
 use Rattle.core_rule.specs.Marking.{IsFewCopied}

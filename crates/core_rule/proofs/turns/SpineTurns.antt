@@ -8,7 +8,7 @@ use Rattle.core_machine.specs.declared.collector.stage.Scan.{Scan}
 use Rattle.core_machine.specs.declared.collector.stage.SpineScan.{SpineScan}
 use Rattle.core_machine.specs.declared.collector.stage.Stage.TheVariants as stages
 use Rattle.core_machine.specs.declared.table.address.Address.TheVariants.{Control, Word, Spine}
-use Rattle.core_machine.specs.table.Decode.{payload_in}
+use Rattle.heap_words.specs.Loaded.{payload_in}
 use Rattle.core_machine.specs.table.Layout.{at, put}
 use Rattle.core_machine.proofs.collector_lemmas.SpineTurns.{spine_cases}
 use Rattle.core_machine.proofs.table_lemmas.Addresses.{put-at}

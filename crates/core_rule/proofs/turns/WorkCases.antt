@@ -15,7 +15,7 @@ use Rattle.core_machine.specs.declared.collector.stage.SpineCopy.{SpineCopy}
 use Rattle.core_machine.specs.declared.collector.stage.Stage.{Stage}
 use Rattle.core_machine.specs.declared.collector.stage.Stage.TheVariants as stages
 use Rattle.core_machine.specs.declared.collector.stage.Visit.{Visit}
-use Rattle.core_machine.specs.table.Decode.{array_length_of}
+use Rattle.heap_words.specs.Loaded.{array_length_of}
 use Rattle.core_rule.specs.TurnsLeft.{fragment_most, visit_most, sweep_most, work_most}
 
 module _ (P : Stage → ℕ → Type 0) (groups phase : ℕ) where

@@ -9,7 +9,8 @@ use Rattle.heap_model.specs.graph.Graph.{Graph}
 use Rattle.heap_model.specs.graph.Sizes.{spine_words_of}
 use Rattle.core_machine.specs.declared.table.address.Address.TheVariants.{Word}
 use Rattle.core_machine.specs.table.Layout.{at, spine_place, FitsSpot}
-use Rattle.core_machine.specs.table.Decode.{pointer_in, payload_in, spine_words_in}
+use Rattle.heap_words.specs.Loaded.{pointer_in, payload_in}
+use Rattle.core_machine.specs.table.Decode.{spine_words_in}
 use Rattle.core_rule.specs.Book.{fragment_at}
 use Rattle.core_rule.specs.Colours.{WordPointsTo}
 use Rattle.core_rule.specs.ControlWords.{Bits}

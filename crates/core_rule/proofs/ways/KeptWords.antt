@@ -16,8 +16,9 @@ use Rattle.heap_model.specs.graph.Graph.{Graph, Node}
 use Rattle.heap_model.specs.graph.Sizes.{fragments_of, fragments_at, spine_words_of}
 use Rattle.core_machine.specs.declared.table.address.Address.TheVariants.{Word}
 use Rattle.core_machine.specs.table.Layout.{at, spine_place, FitsSpot}
-use Rattle.core_machine.specs.table.Decode.{link_of, length_of, id_of, array_length_of, spine_words_in, payload_in}
-use Rattle.core_machine.specs.table.Newborn.{record_meta, array_meta}
+use Rattle.heap_words.specs.Loaded.{link_of, length_of, array_length_of, payload_in}
+use Rattle.core_machine.specs.table.Decode.{id_of, spine_words_in}
+use Rattle.heap_words.specs.Newborn.{record_meta, array_meta}
 use Rattle.core_machine.specs.seat.Commands.{field_of}
 use Rattle.core_machine.specs.seat.Seat.{Seat}
 use Rattle.core_rule.specs.Book.{fragment_at, id_at, object_head}

@@ -15,7 +15,7 @@ use Rattle.core_machine.specs.declared.seat.register.Register.{Register}
 use Rattle.core_machine.specs.declared.seat.register.Register.TheVariants as registers
 use Rattle.core_machine.specs.seat.Commands.{field_of}
 use Rattle.core_machine.specs.table.Layout.{at}
-use Rattle.core_machine.specs.table.Decode.{head_of, is_meta}
+use Rattle.heap_words.specs.Loaded.{head_of, is_meta}
 use Rattle.core_machine.specs.seat.Registers.{register_head as head_of_register, heads_of}
 use Rattle.core_machine.specs.seat.Seat.{Seat}
 use Rattle.core_rule.specs.Book.{fragment_at, object_number, object_head}

@@ -14,8 +14,8 @@ use Rattle.core_machine.specs.declared.place.Place.TheVariants as places
 use Rattle.core_machine.specs.declared.place.Access.{Access}
 use Rattle.core_machine.specs.declared.place.Access.TheVariants.{Walking, Getting, Indexing, Swapping, LoadingOld}
 use Rattle.core_machine.specs.table.Layout.{at, spine_place}
-use Rattle.core_machine.specs.table.Decode.{head_of, link_of, payload_in}
-use Rattle.core_machine.specs.table.Newborn.{spine_word}
+use Rattle.heap_words.specs.Loaded.{head_of, link_of, payload_in}
+use Rattle.heap_words.specs.Newborn.{spine_word}
 use Rattle.core_machine.specs.seat.Access.{has_barrier_of, way_place_of, after_link, after_walk, at_access}
 use Rattle.core_machine.specs.seat.Commands.{field_of}
 use Rattle.core_machine.specs.seat.Seat.{Seat}

@@ -12,8 +12,9 @@ use Rattle.heap_model.specs.declared.id.Value.{Value}
 use Rattle.heap_model.specs.declared.id.Value.TheVariants as values
 use Rattle.core_machine.specs.declared.seat.register.Register.{Register}
 use Rattle.core_machine.specs.declared.seat.register.Register.TheVariants as registers
-use Rattle.core_machine.specs.table.Decode.{head_of, link_of, length_of, array_length_in, array_length_of, id_of, id_of_owner, stamp_of, plain_of, first_pointer, reference_of, plain_register}
-use Rattle.core_machine.specs.table.Newborn.{record_meta, link_after}
+use Rattle.heap_words.specs.Loaded.{head_of, link_of, length_of, array_length_in, array_length_of, stamp_of, first_pointer, reference_of}
+use Rattle.core_machine.specs.table.Decode.{id_of, id_of_owner, plain_of, plain_register}
+use Rattle.heap_words.specs.Newborn.{record_meta, link_after}
 use Rattle.core_machine.proofs.table_lemmas.CellWords.{cell_of-cell_word}
 use Rattle.core_rule.specs.Objects.{FitsName, name_of, value_word}
 

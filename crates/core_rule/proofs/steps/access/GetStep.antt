@@ -26,7 +26,8 @@ use Rattle.core_machine.specs.declared.seat.register.Register.TheVariants as reg
 use Rattle.core_machine.specs.seat.Commands.{target_of, field_of}
 use Rattle.core_machine.specs.seat.FitsAccess.{SeatIsAtGet, IsGet}
 use Rattle.core_machine.specs.table.Layout.{at}
-use Rattle.core_machine.specs.table.Decode.{head_of, id_of, is_meta, stamp_of, plain_of}
+use Rattle.heap_words.specs.Loaded.{head_of, is_meta, stamp_of}
+use Rattle.core_machine.specs.table.Decode.{id_of, plain_of}
 use Rattle.core_machine.specs.machine.Machine.{State, seat_at}
 use Rattle.core_machine.specs.seat.Access.{after_get}
 use Rattle.core_machine.specs.seat.AccessMoves.{get_move, got_adds, got_shows, reply_entries}

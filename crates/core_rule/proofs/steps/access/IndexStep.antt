@@ -11,7 +11,7 @@ use Rattle.core_machine.specs.seat.Commands.{field_of}
 use Rattle.core_machine.specs.seat.FitsAccess.{SeatIsAtSentinel}
 use Rattle.core_machine.specs.seat.Seat.{Seat}
 use Rattle.core_machine.specs.machine.Machine.{seat_at}
-use Rattle.core_machine.specs.table.Decode.{payload_in}
+use Rattle.heap_words.specs.Loaded.{payload_in}
 use Rattle.core_machine.specs.table.Layout.{at, spine_place}
 use Rattle.core_machine.proofs.seat_lemmas.FieldPlaces.{field_cases}
 use Rattle.core_rule.specs.Replicas.{ReadsSpine}

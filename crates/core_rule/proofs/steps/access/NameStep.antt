@@ -17,7 +17,8 @@ use Rattle.core_machine.specs.declared.seat.register.Register.TheVariants as reg
 use Rattle.core_machine.specs.seat.Commands.{target_of}
 use Rattle.core_machine.specs.seat.FitsAccess.{SeatIsAtGet}
 use Rattle.core_machine.specs.table.Layout.{at}
-use Rattle.core_machine.specs.table.Decode.{head_of, id_of, stamp_of}
+use Rattle.heap_words.specs.Loaded.{head_of, stamp_of}
+use Rattle.core_machine.specs.table.Decode.{id_of}
 use Rattle.core_machine.specs.machine.Machine.{seat_at}
 use Rattle.core_machine.specs.seat.AccessMoves.{name_move, loaded_head_of, reply_entries}
 use Rattle.core_machine.specs.seat.Seat.{Seat, no_spot}

@@ -8,7 +8,7 @@ use Rattle.core_machine.specs.declared.place.Access.{Access}
 use Rattle.core_machine.specs.declared.place.Access.TheVariants.{LoadingOld, ShadingOld, ShadingNew, Swapping}
 use Rattle.core_machine.specs.seat.FitsAccess.{SeatIsAtSet}
 use Rattle.core_machine.specs.table.Layout.{at}
-use Rattle.core_machine.specs.table.Decode.{head_of, is_meta}
+use Rattle.heap_words.specs.Loaded.{head_of, is_meta}
 use Rattle.core_machine.specs.machine.Machine.{seat_at}
 use Rattle.core_machine.specs.seat.Access.{has_barrier_of, after_old_load}
 use Rattle.core_machine.specs.seat.AccessMoves.{old_move, new_register_of}

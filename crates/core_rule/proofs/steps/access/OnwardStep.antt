@@ -9,7 +9,7 @@ use Rattle.core_machine.specs.declared.place.Access.{Access}
 use Rattle.core_machine.specs.declared.place.Access.TheVariants.{Walking}
 use Rattle.core_machine.specs.seat.FitsAccess.{SeatIsOnWay}
 use Rattle.core_machine.specs.table.Layout.{at}
-use Rattle.core_machine.specs.table.Decode.{link_of}
+use Rattle.heap_words.specs.Loaded.{link_of}
 use Rattle.core_machine.specs.machine.Machine.{State, seat_at}
 use Rattle.core_machine.specs.seat.Access.{has_barrier_of, way_place_of, after_link, after_walk}
 use Rattle.core_machine.specs.seat.AccessMoves.{walk_move}

@@ -24,7 +24,7 @@ use Rattle.core_machine.specs.declared.place.Access.TheVariants.{LoadingMeta, Lo
 use Rattle.core_machine.specs.seat.Commands.{target_of, field_of}
 use Rattle.core_machine.specs.seat.FitsAccess.{NamesObject, NamesField, SeatIsAtHead}
 use Rattle.core_machine.specs.table.Layout.{at}
-use Rattle.core_machine.specs.table.Decode.{length_of, array_length_of}
+use Rattle.heap_words.specs.Loaded.{length_of, array_length_of}
 use Rattle.core_machine.specs.machine.Machine.{State, seat_at}
 use Rattle.core_machine.specs.seat.Access.{row_of, part_of, meta_reply_of, after_meta, after_length}
 use Rattle.core_machine.specs.seat.AccessMoves.{open_move, reply_entries, reply_entries_if}

@@ -9,7 +9,7 @@ use Rattle.core_machine.specs.declared.place.Place.TheVariants as places
 use Rattle.core_machine.specs.declared.place.Access.TheVariants.{ShadingNew, Swapping}
 use Rattle.core_machine.specs.seat.Commands.{source_of}
 use Rattle.core_machine.specs.seat.FitsAccess.{SeatIsAtSet}
-use Rattle.core_machine.specs.table.Decode.{head_of}
+use Rattle.heap_words.specs.Loaded.{head_of}
 use Rattle.core_machine.specs.machine.Machine.{seat_at}
 use Rattle.core_machine.specs.seat.Access.{has_barrier_of}
 use Rattle.core_machine.specs.seat.AccessMoves.{shade_new_move, new_register_of}

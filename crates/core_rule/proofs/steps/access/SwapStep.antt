@@ -30,7 +30,7 @@ use Rattle.core_machine.specs.seat.Commands.{object_of, source_of, field_of, tar
 use Rattle.core_machine.specs.seat.Fits.{IsAtRest, IsSilent}
 use Rattle.core_machine.specs.seat.FitsAccess.{IsSet, SeatIsAtSet as FitsSets}
 use Rattle.core_machine.specs.table.Layout.{at, put, InTable}
-use Rattle.core_machine.specs.table.Decode.{stamp_of}
+use Rattle.heap_words.specs.Loaded.{stamp_of}
 use Rattle.core_machine.specs.machine.Machine.{seat_at}
 use Rattle.core_machine.specs.Move.{seat_after}
 use Rattle.core_machine.specs.seat.Access.{has_barrier_of}

@@ -10,7 +10,7 @@ use Rattle.core_machine.specs.declared.table.address.Address.TheVariants.{Spine}
 use Rattle.core_machine.specs.collector.CopyingTurns.{sentinel_at}
 use Rattle.core_machine.specs.machine.Machine.{State}
 use Rattle.core_machine.specs.table.Layout.{at, spine_place}
-use Rattle.core_machine.specs.table.Newborn.{spine_word}
+use Rattle.heap_words.specs.Newborn.{spine_word}
 use Rattle.core_rule.specs.Book.{Book, fragment_at}
 use Rattle.core_rule.specs.Budgets.{copying_words}
 use Rattle.core_rule.specs.Objects.{node_at}

@@ -12,7 +12,7 @@ use Rattle.core_machine.specs.declared.collector.stage.Stage.{Stage}
 use Rattle.core_machine.specs.declared.collector.stage.Stage.TheVariants as stages
 use Rattle.core_machine.specs.declared.table.address.Address.TheVariants.{Word}
 use Rattle.core_machine.specs.machine.Machine.{State}
-use Rattle.core_machine.specs.table.Decode.{pointer_in, array_length_of}
+use Rattle.heap_words.specs.Loaded.{pointer_in, array_length_of}
 use Rattle.core_machine.specs.table.Layout.{at}
 use Rattle.core_rule.specs.Book.{Book}
 use Rattle.core_rule.specs.Colours.{WordPointsTo, IsBetween}

@@ -21,7 +21,7 @@ use Rattle.core_machine.specs.seat.Fits.{FitsPlace, SpineIsListed, HasArrayBody}
 use Rattle.core_machine.specs.seat.Making.{list_place}
 use Rattle.core_machine.specs.seat.Seat.{Seat, spine_need}
 use Rattle.core_machine.specs.table.Layout.{at, put, spine_place}
-use Rattle.core_machine.specs.table.Newborn.{spine_word}
+use Rattle.heap_words.specs.Newborn.{spine_word}
 use Rattle.core_rule.specs.Book.{fragment_at}
 use Rattle.core_rule.specs.Budgets.{UsedStands}
 use Rattle.core_rule.specs.Objects.{node_at}

@@ -1,7 +1,11 @@
 ghost use Rattle.std.specs.Prelude.{◌≡◌, ◌<◌, ◌≤◌, ◌^◌, length};
-ghost use Rattle.core_machine.specs.table.Newborn.{record_word_of, link_after, head_word_of, record_meta, spine_word as spine_word_of, array_meta, sentinel_word_of, array_word_of};
+ghost use Rattle.heap_words.specs.Newborn.{record_word_of, link_after, head_word_of, record_meta, spine_word as spine_word_of, array_meta, sentinel_word_of, array_word_of};
 
-use heap_words::{Cell, Kind, Meta, Name, Spot};
+use crate::cell::Cell;
+use crate::kind::Kind;
+use crate::meta::Meta;
+use crate::name::Name;
+use crate::spot::Spot;
 
 /// The spine word that names a fragment.
 pub fn spine_word(fragment: u16) -> u64
