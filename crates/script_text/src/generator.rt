@@ -11,7 +11,7 @@ const INCREMENT: u64 = 12_345;
 const MODULUS: u64 = 1 << 31;
 
 /// Numbers that look drawn by chance, and are the same each time from the same start.
-#[derive(Debug, Drop)]
+#[derive(Drop)]
 pub struct Generator {
     state: u32,
 }

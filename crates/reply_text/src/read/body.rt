@@ -15,7 +15,7 @@ use script_text::{Cause, Form, ScriptFault, Sequence};
 use std::alloc::Global;
 
 /// What was read of the lines after a heap line.
-#[derive(Debug, Drop)]
+#[derive(Drop)]
 pub struct Body {
     pub entries: Sequence<Entry>,
     pub mark: Option<SpaceMark>,

@@ -1,3 +1,3 @@
 /// A line, or a part of it, that is none of a history.
-#[derive(Clone, Copy, Debug, PartialEq, Eq)]
+#[derive(Clone, Copy)]
 pub struct Misspelled;

@@ -1,5 +1,5 @@
 /// Which lines may follow: the space line is still to come, or the end line is, or none.
-#[derive(Clone, Copy, Debug, PartialEq, Eq)]
+#[derive(Clone, Copy, PartialEq, Eq)]
 pub enum Stage {
     Unmarked,
     Marked,
