@@ -1,8 +1,11 @@
+//! Paces of the collector, and the turns that are made by them.
+
 ghost use Rattle.slack_pace.specs.Slack.{most_slack_turns};
 
-use crate::{MOST_SLACK_TURNS, Pace, Paces, SlackDone, Steady, slack};
+use super::comparing::same;
 use heap_model::{CollectorCalls, Turn};
 use short::Short;
+use slack_pace::{MOST_SLACK_TURNS, Pace, Paces, SlackDone, Steady, slack};
 use std::test::Fail;
 
 mod short;
@@ -41,9 +44,9 @@ fn makes_what_is_asked_for_or_waits(rt: HostRuntime) -> Result<(), Fail> {
         collector.room(4098)?;
         let mut pace: Box<dyn Pace> = Box::new(alloc, Fixed(asked))?;
         let done = slack(&mut pace, &mut collector, 7);
-        assert_eq!(rt; done, SlackDone { asked, made, last });
-        assert_eq!(rt; collector.turns(), made);
-        assert_eq!(rt; collector.phase(), made.min(1));
+        same(&rt, &done, &SlackDone { asked, made, last }, &asked);
+        same(&rt, &collector.turns(), &made, &asked);
+        same(&rt, &collector.phase(), &made.min(1), &asked);
     }
     Ok(())
 }
@@ -61,7 +64,7 @@ fn asks_steadily(rt: HostRuntime) -> Result<(), Fail> {
         (511, 4096),
         (u64::MAX, 4096),
     ] {
-        assert_eq!(rt; paces.steady.turns(claimed), asked);
+        same(&rt, &paces.steady.turns(claimed), &asked, &claimed);
     }
     Ok(())
 }

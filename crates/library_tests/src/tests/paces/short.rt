@@ -1,3 +1,5 @@
+//! A collector that soon waits.
+
 ghost use Rattle.std.specs.Prelude.{◌≡◌, ◌+◌, ◌<◌, ◌≤◌, [], ◌∷◌, ◌++◌, vec_len, vec_capacity};
 
 use heap_model::{CollectorCalls, Entry, Memory, Turn};

@@ -1,4 +1,8 @@
-use super::*;
+//! A sink in memory that fails as planned.
+
+use super::super::comparing::same;
+use super::counts;
+use io_edge::{Failed, MemSink, Sink};
 use std::test::Fail;
 
 #[test]
@@ -13,9 +17,9 @@ fn takes_pieces_and_fails_as_planned(rt: HostRuntime) -> Result<(), Fail> {
         (Ok(1), "ababa", 1),
         (Err(Failed), "ababa", 2),
     ] {
-        assert_eq!(rt; sink.write(b"abc"), want, "at {taken}");
-        assert_eq!(rt; sink.bytes(), taken.as_bytes());
-        assert_eq!(rt; sink.faults, faults, "at {taken}");
+        same(&rt, &sink.write(b"abc"), &want, &taken);
+        same(&rt, &sink.bytes(), &taken.as_bytes(), &taken);
+        counts(&rt, &sink, faults)?;
     }
     Ok(())
 }

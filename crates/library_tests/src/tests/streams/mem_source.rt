@@ -1,4 +1,8 @@
-use super::*;
+//! A source in memory that fails as planned.
+
+use super::super::comparing::same;
+use super::counts;
+use io_edge::{Failed, MemSource, Source};
 use std::test::Fail;
 
 #[test]
@@ -8,16 +12,16 @@ fn gives_pieces_and_fails_as_planned(rt: HostRuntime) -> Result<(), Fail> {
     let mut source = MemSource::new(bytes, 2, fails);
     let mut into = [b'-'; 3];
     for (want, after, faults) in [
-        (Err(Failed), b"---", 1),
-        (Ok(2), b"ab-", 1),
-        (Err(Failed), b"ab-", 2),
-        (Ok(2), b"cd-", 2),
-        (Ok(1), b"ed-", 2),
-        (Ok(0), b"ed-", 2),
+        (Err(Failed), "---", 1),
+        (Ok(2), "ab-", 1),
+        (Err(Failed), "ab-", 2),
+        (Ok(2), "cd-", 2),
+        (Ok(1), "ed-", 2),
+        (Ok(0), "ed-", 2),
     ] {
-        assert_eq!(rt; source.read(&mut into), want);
-        assert_eq!(rt; &into, after);
-        assert_eq!(rt; source.faults, faults);
+        same(&rt, &source.read(&mut into), &want, &after);
+        same(&rt, &into.as_slice(), &after.as_bytes(), &after);
+        counts(&rt, &source, faults)?;
     }
     Ok(())
 }

@@ -1,4 +1,7 @@
-use super::*;
+//! A sink that never fails.
+
+use super::super::comparing::same;
+use io_edge::{NeverSink, Sink};
 use std::test::Fail;
 
 #[test]
@@ -11,12 +14,9 @@ fn tells_what_it_took_until_a_piece_does_not_fit(rt: HostRuntime) -> Result<(), 
         ("ef", None),
         ("", None),
     ] {
-        assert_eq!(rt; sink.write(piece.as_bytes()), Ok(piece.len()), "at {piece}");
-        assert_eq!(rt;
-            sink.bytes(),
-            told.map(|text| text.as_bytes()),
-            "at {piece}"
-        );
+        same(&rt, &sink.write(piece.as_bytes()), &Ok(piece.len()), &piece);
+        let told = told.map(|text| text.as_bytes());
+        same(&rt, &sink.bytes(), &told, &piece);
     }
     Ok(())
 }

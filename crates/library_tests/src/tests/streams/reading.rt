@@ -1,8 +1,11 @@
-use super::*;
-use crate::{MemSource, NeverSource};
+//! Sources that are read to their end, or to a limit.
+
+use super::super::comparing::{holds, same};
+use io_edge::{MemSource, NeverSource, ReadAllFault, Source, read_all};
+use std::alloc::{AllocError, Global};
 use std::test::Fail;
 
-// Gives two bytes a call, and fails at one call.
+/// Gives two bytes a call, and fails at one call.
 fn source(alloc: Global, text: &str, fail: u64) -> Result<MemSource, AllocError> {
     let bytes = Vec::from_slice(alloc, text.as_bytes())?;
     let fails = Vec::from_slice(alloc, &[fail])?;
@@ -24,25 +27,31 @@ fn reads_to_the_end_or_the_limit(rt: HostRuntime) -> Result<(), Fail> {
     ] {
         let mut source = source(rt.alloc(), text, fail)?;
         match (read_all(rt.alloc(), &mut source, limit), want) {
-            (Ok(bytes), Ok(text)) => assert_eq!(rt; bytes.as_slice(), text.as_bytes()),
-            (Err(fault), Err(want)) => assert_eq!(rt; fault, want, "{text} within {limit}"),
-            _ => panic!(rt; "{text} within {limit}"),
+            (Ok(bytes), Ok(text)) => same(&rt, &bytes.as_slice(), &text.as_bytes(), &limit),
+            (Err(fault), Err(want)) => same(&rt, &fault, &want, &limit),
+            _ => holds(&rt, false, &limit),
         }
         let mut piece = [0; 2];
         let n = source.read(&mut piece)?;
-        assert_eq!(rt; &piece[..n], next.as_bytes(), "{text} within {limit}");
+        same(&rt, &&piece[..n], &next.as_bytes(), &limit);
     }
     Ok(())
 }
 
+// Two pieces of 4,096 bytes, and a byte.
 #[test]
 fn reads_more_than_a_piece(rt: HostRuntime) -> Result<(), Fail> {
-    let text = vec![in rt.alloc(); b'a'; 2 * PIECE + 1]?;
+    let text = vec![in rt.alloc(); b'a'; 8193]?;
     let mut source = NeverSource::new(text);
-    let bytes = read_all(rt.alloc(), &mut source, 2 * PIECE + 1)?;
-    assert_eq!(rt; bytes.len(), 8193);
+    let bytes = read_all(rt.alloc(), &mut source, 8193)?;
+    same(&rt, &bytes.len(), &8193, &"as many as the limit");
     let mut source = NeverSource::new(bytes);
-    let short = read_all(rt.alloc(), &mut source, 2 * PIECE);
-    assert_eq!(rt; short.err(), Some(ReadAllFault::TooLong));
+    let short = read_all(rt.alloc(), &mut source, 8192);
+    same(
+        &rt,
+        &short.err(),
+        &Some(ReadAllFault::TooLong),
+        &"one more than the limit",
+    );
     Ok(())
 }

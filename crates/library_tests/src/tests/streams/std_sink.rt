@@ -1,7 +1,13 @@
-use super::*;
-use std::io;
+//! A sink over a writer of the standard library.
 
-#[derive(Drop)]
+use super::super::comparing::same;
+use super::counts;
+use io_edge::{Failed, Sink, StdSink};
+use std::io;
+use std::io::Write;
+use std::test::Fail;
+
+#[derive(Debug, Drop)]
 struct Broken;
 
 impl Write for Broken {
@@ -15,7 +21,7 @@ impl Write for Broken {
 }
 
 #[test]
-fn counts_a_full_writer(rt: HostRuntime) {
+fn counts_a_full_writer(rt: HostRuntime) -> Result<(), Fail> {
     let mut page = [b'-'; 3];
     let mut sink = StdSink::new(page.as_mut_slice());
     for (piece, want, faults) in [
@@ -25,17 +31,19 @@ fn counts_a_full_writer(rt: HostRuntime) {
         ("", Ok(0), 1),
         ("e", Err(Failed), 2),
     ] {
-        assert_eq!(rt; sink.write(piece.as_bytes()), want, "at {piece}");
-        assert_eq!(rt; sink.faults, faults, "at {piece}");
+        same(&rt, &sink.write(piece.as_bytes()), &want, &piece);
+        counts(&rt, &sink, faults)?;
     }
-    assert_eq!(rt; &page, b"abc");
+    same(&rt, &page.as_slice(), &b"abc".as_slice(), &"the page");
+    Ok(())
 }
 
 #[test]
-fn counts_a_broken_writer(rt: HostRuntime) {
+fn counts_a_broken_writer(rt: HostRuntime) -> Result<(), Fail> {
     let mut sink = StdSink::new(Broken);
     for faults in [1, 2] {
-        assert_eq!(rt; sink.write(b"a"), Err(Failed));
-        assert_eq!(rt; sink.faults, faults);
+        same(&rt, &sink.write(b"a"), &Err(Failed), &faults);
+        counts(&rt, &sink, faults)?;
     }
+    Ok(())
 }

@@ -1,7 +1,13 @@
-use super::*;
-use std::io;
+//! A source over a reader of the standard library.
 
-#[derive(Drop)]
+use super::super::comparing::same;
+use super::counts;
+use io_edge::{Failed, Source, StdSource};
+use std::io;
+use std::io::Read;
+use std::test::Fail;
+
+#[derive(Debug, Drop)]
 struct Broken;
 
 impl Read for Broken {
@@ -11,27 +17,29 @@ impl Read for Broken {
 }
 
 #[test]
-fn passes_bytes_and_counts_faults(rt: HostRuntime) {
+fn passes_bytes_and_counts_faults(rt: HostRuntime) -> Result<(), Fail> {
     let mut source = StdSource::new(b"abc".as_slice().chain(Broken));
     let mut into = [b'-'; 2];
-    for (want, bytes, faults) in [
-        (Ok(2), b"ab", 0),
-        (Ok(1), b"cb", 0),
-        (Err(Failed), b"cb", 1),
-        (Err(Failed), b"cb", 2),
+    for (want, after, faults) in [
+        (Ok(2), "ab", 0),
+        (Ok(1), "cb", 0),
+        (Err(Failed), "cb", 1),
+        (Err(Failed), "cb", 2),
     ] {
-        assert_eq!(rt; source.read(&mut into), want);
-        assert_eq!(rt; &into, bytes);
-        assert_eq!(rt; source.faults, faults);
+        same(&rt, &source.read(&mut into), &want, &faults);
+        same(&rt, &into.as_slice(), &after.as_bytes(), &faults);
+        counts(&rt, &source, faults)?;
     }
+    Ok(())
 }
 
 #[test]
-fn tells_the_end_as_no_fault(rt: HostRuntime) {
+fn tells_the_end_as_no_fault(rt: HostRuntime) -> Result<(), Fail> {
     let mut source = StdSource::new(b"abc".as_slice());
     let mut into = [b'-'; 2];
     for want in [2, 1, 0, 0] {
-        assert_eq!(rt; source.read(&mut into), Ok(want));
-        assert_eq!(rt; source.faults, 0);
+        same(&rt, &source.read(&mut into), &Ok(want), &want);
+        counts(&rt, &source, 0)?;
     }
+    Ok(())
 }

@@ -1,5 +1,7 @@
-use super::*;
-use crate::MemSink;
+//! Bytes that are all written to a sink, or a front of them.
+
+use super::super::comparing::same;
+use io_edge::{MemSink, WriteFault, write_all};
 use std::test::Fail;
 
 #[test]
@@ -14,12 +16,8 @@ fn writes_all_or_a_front(rt: HostRuntime) -> Result<(), Fail> {
     ] {
         let bytes = Vec::with_capacity(rt.alloc(), room)?;
         let mut sink = MemSink::new(bytes, 2, Vec::from_slice(rt.alloc(), &[fail])?);
-        assert_eq!(rt;
-            write_all(&mut sink, text.as_bytes()),
-            want,
-            "{text} into {room}"
-        );
-        assert_eq!(rt; sink.bytes(), taken.as_bytes(), "{text} into {room}");
+        same(&rt, &write_all(&mut sink, text.as_bytes()), &want, &taken);
+        same(&rt, &sink.bytes(), &taken.as_bytes(), &taken);
     }
     Ok(())
 }
