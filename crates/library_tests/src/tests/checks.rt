@@ -1,11 +1,14 @@
+//! Histories that a check judges, and the graph, the account and the traits of calls by which it judges.
+
 mod account;
 mod collector_calls;
 mod graph;
 mod note;
 mod seat_calls;
 
-use crate::{CheckFault, check};
+use super::comparing::same;
 use heap_model::Entry;
+use log_merge::{CheckFault, check};
 use reply_text::read_history;
 use script_text::ScriptFault;
 use std::alloc::Global;
@@ -59,7 +62,7 @@ fn judges_plays_in_full(rt: HostRuntime) -> Result<(), Fail> {
             illegal(4),
         ),
     ] {
-        assert_eq!(rt; checked(rt.alloc(), text)?, answer, "{text}");
+        same(&rt, &checked(rt.alloc(), text)?, &answer, &text);
     }
     Ok(())
 }
@@ -96,7 +99,7 @@ fn judges_runs_for_objects_and_the_last_line(rt: HostRuntime) -> Result<(), Fail
             Ok(2),
         ),
     ] {
-        assert_eq!(rt; checked(rt.alloc(), text)?, answer, "{text}");
+        same(&rt, &checked(rt.alloc(), text)?, &answer, &text);
     }
     Ok(())
 }

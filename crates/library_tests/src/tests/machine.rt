@@ -1,3 +1,5 @@
+//! The machine, tested by its public calls: what is done on it, step by step, with the words found.
+
 mod arrays;
 mod barrier;
 mod calls;
@@ -5,6 +7,7 @@ mod copying;
 mod fields;
 mod making;
 mod marking;
+mod reading;
 mod sweeping;
 mod texts;
 mod trial;

@@ -1,4 +1,7 @@
+//! Entries that an account accepts or refuses, in a play and in a run.
+
 use super::entry_of;
+use crate::tests::comparing::{holds, same};
 use heap_model::{Account, ApplyFault, Graph, Heap};
 use std::test::Fail;
 
@@ -121,17 +124,17 @@ fn accepts_what_keeps_the_rules(rt: HostRuntime) -> Result<(), Fail> {
         } else {
             Err(ApplyFault::NotLegal)
         };
-        assert!(rt; account.entries() < 1 << 32);
-        assert!(rt; account.has_seat(&entry));
+        holds(&rt, account.entries() < 1 << 32, &line);
+        holds(&rt, account.has_seat(&entry), &line);
         let given = account.apply(&graph, &entry, verdict.starts_with("play"));
-        assert_eq!(rt; given, wanted, "{line}");
+        same(&rt, &given, &wanted, &line);
         if wanted.is_ok() {
             graph.apply(&entry)?;
         }
     }
-    assert_eq!(rt; account.used(), 11);
-    assert_eq!(rt; account.spine(), 0);
-    assert_eq!(rt; account.phase(), 14);
-    assert_eq!(rt; account.is_overdrawn(), false);
+    same(&rt, &account.used(), &11, &"the fragments in use");
+    same(&rt, &account.spine(), &0, &"the spine words in use");
+    same(&rt, &account.phase(), &14, &"the phase");
+    holds(&rt, !account.is_overdrawn(), &"the end");
     Ok(())
 }

@@ -1,9 +1,12 @@
+//! The calls of a collector by their trait, on a small collector that goes through a cycle.
+
 ghost use Rattle.std.specs.Prelude.{◌≡◌, ◌-◌, ◌≤◌, [], IfSome};
 ghost use Rattle.heap_model.specs.declared.calls.collector_calls.Turn.TheVariants.{Waits};
 ghost use Rattle.heap_model.specs.calls.CollectorCalls.{StepsTo};
 
 use super::entry_of;
 use super::note::note;
+use crate::tests::comparing::same;
 use heap_model::{CollectorCalls, Entry, Id, Memory, Turn};
 use std::alloc::Global;
 use std::marker::Model;
@@ -154,15 +157,20 @@ fn turns_through_a_cycle(rt: HostRuntime) -> Result<(), Fail> {
     for number in ANSWERS {
         collector.room(2)?;
         let turn = next_turn(&mut collector);
-        assert_eq!(rt; turn, answer_of(number), "turn {}", collector.turns());
+        same(&rt, &turn, &answer_of(number), &collector.turns());
     }
     let mut log = Vec::new(alloc);
     for line in FIRST_CYCLE {
         log.push(entry_of(alloc, line)?)?;
     }
-    assert_eq!(rt; collector.log.as_slice(), log.as_slice());
-    assert_eq!(rt; collector.turns(), 24);
-    assert_eq!(rt; collector.phase(), 7);
+    same(
+        &rt,
+        &collector.log.as_slice(),
+        &log.as_slice(),
+        &"the entries",
+    );
+    same(&rt, &collector.turns(), &24, &"the turns");
+    same(&rt, &collector.phase(), &7, &"the phase");
     Ok(())
 }
 

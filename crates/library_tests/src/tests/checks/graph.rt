@@ -1,4 +1,7 @@
+//! Entries that a graph accepts or refuses as it grows.
+
 use super::entry_of;
+use crate::tests::comparing::same;
 use heap_model::Command::{self, Array, Collect, Get, Leave, Len, New, Num, Poll, Set};
 use heap_model::Reply::{self, Cycle, Done, Got, Made, NoObject, SpineFull, Was, Yes};
 use heap_model::{ApplyFault, Entry, Graph, Heap, Id, Value};
@@ -117,15 +120,17 @@ const ENTRIES: &[&str] = &[
 
 #[test]
 fn accepts_no_other_commands_and_replies(rt: HostRuntime) -> Result<(), Fail> {
+    let alloc = rt.alloc();
     let heap = Heap::make(1, 0, 2).ok_or("the limits")?;
-    let mut graph = Graph::new(rt.alloc(), heap)?;
+    let mut graph = Graph::new(alloc, heap)?;
     for (command, reply) in UNWRITTEN {
         let given = graph.apply(&Entry::Said {
             seat: 0,
             command,
             reply,
         });
-        assert_eq!(rt; given, Err(ApplyFault::NotLegal), "{command:?} = {reply:?}");
+        let at = format!(in alloc; "{command:?} = {reply:?}")?;
+        same(&rt, &given, &Err(ApplyFault::NotLegal), &at);
     }
     Ok(())
 }
@@ -143,16 +148,16 @@ fn accepts_what_a_growing_heap_says(rt: HostRuntime) -> Result<(), Fail> {
             Err(ApplyFault::NotLegal)
         };
         let given = graph.apply(&entry_of(alloc, line)?);
-        assert_eq!(rt; given, wanted, "{line}");
+        same(&rt, &given, &wanted, &line);
     }
-    assert_eq!(rt; graph.seats(), 2);
+    same(&rt, &graph.seats(), &2, &"the seats");
     for (seat, register, value) in [
         (0, 0, Value::Nil),
         (1, 0, Value::Object(Id::Board)),
         (1, 1, Value::Nil),
         (1, 2, Value::Object(FIRST)),
     ] {
-        assert_eq!(rt; graph.value(seat, register), value);
+        same(&rt, &graph.value(seat, register), &value, &seat);
     }
     Ok(())
 }

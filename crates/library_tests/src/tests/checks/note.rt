@@ -1,3 +1,5 @@
+//! Items added to a list that has room.
+
 ghost use Rattle.std.specs.Prelude.{◌≡◌, ◌+◌, ◌<◌, ◌≤◌, [], ◌∷◌, ◌++◌, vec_len, vec_capacity};
 
 /// Adds an item, for which there is room.

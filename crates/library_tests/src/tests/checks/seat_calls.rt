@@ -1,7 +1,10 @@
+//! The calls of a seat by their trait, on a small seat that is alone on its heap.
+
 ghost use Rattle.std.specs.Prelude.{◌≡◌, ◌+◌, ◌*◌, ◌<◌, ◌≤◌, ◌^◌, false, length, IsTrue};
 ghost use Rattle.heap_model.specs.calls.SeatCalls.{IsReady};
 ghost use Rattle.heap_model.specs.calls.SeatState.{own_graph_seat};
 
+use crate::tests::comparing::{holds, same};
 use heap_model::{Command, Entry, SeatCalls, seat_laws};
 use lone::Lone;
 use reply_text::read_history;
@@ -146,13 +149,13 @@ fn does_as_told(rt: HostRuntime) -> Result<(), Fail> {
                 continue;
             };
             seat.room(100)?;
-            assert!(rt; may_call(&seat, &command));
+            holds(&rt, may_call(&seat, &command), &story);
             call(&mut seat, command);
         }
-        assert_eq!(rt; seat.log(), wanted.as_slice());
-        assert_eq!(rt; seat.names_left(), u32::MAX - made);
-        assert_eq!(rt; seat.stamps_left(), 67108863 - sets);
-        assert!(rt; super::checked(alloc, &text)?.is_ok());
+        same(&rt, &seat.log(), &wanted.as_slice(), &story);
+        same(&rt, &seat.names_left(), &(u32::MAX - made), &story);
+        same(&rt, &seat.stamps_left(), &(67108863 - sets), &story);
+        holds(&rt, super::checked(alloc, &text)?.is_ok(), &story);
     }
     Ok(())
 }
@@ -185,10 +188,10 @@ fn make_and_poll<S: SeatCalls>(seat: &mut S)
 fn finds_its_room(rt: HostRuntime) -> Result<(), Fail> {
     let mut seat = Lone::new(rt.alloc())?;
     seat.room(16)?;
-    assert!(rt; !seat.left() && seat.names_left() > 0);
+    holds(&rt, !seat.left() && seat.names_left() > 0, &"the beginning");
     make_and_poll(&mut seat);
     seat.room(16)?;
     poll_often(&mut seat, 7);
-    assert_eq!(rt; seat.log().len(), 14);
+    same(&rt, &seat.log().len(), &14, &"the end");
     Ok(())
 }

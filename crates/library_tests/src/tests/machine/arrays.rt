@@ -1,3 +1,5 @@
+//! Arrays that are made, taken back and scanned, step by step.
+
 use super::trial::tries;
 use std::test::Fail;
 

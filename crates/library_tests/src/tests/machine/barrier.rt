@@ -1,3 +1,5 @@
+//! The barrier of a set beside the marking of the collector, step by step.
+
 use super::trial::tries;
 use std::test::Fail;
 

@@ -1,3 +1,5 @@
+//! The calls of a machine by which a trial is tried.
+
 ghost use Rattle.std.specs.Prelude.{◌↔◌, ◌+◌, ◌*◌, ◌≤◌, IsTrue};
 ghost use Rattle.heap_model.specs.Needs.{need_of};
 ghost use Rattle.core_machine.specs.table.Layout.{InTable};

@@ -1,3 +1,5 @@
+//! Spines that are copied while seats read them, step by step.
+
 use super::trial::tries;
 use std::test::Fail;
 

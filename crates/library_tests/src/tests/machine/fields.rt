@@ -1,3 +1,5 @@
+//! Fields that are got and set, step by step.
+
 use super::trial::tries;
 use std::test::Fail;
 

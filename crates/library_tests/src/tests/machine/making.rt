@@ -1,3 +1,5 @@
+//! The words of the opening, and records that are made, step by step.
+
 use super::trial::tries;
 use std::test::Fail;
 

@@ -1,3 +1,5 @@
+//! The marking of the collector, step by step.
+
 use super::trial::tries;
 use std::test::Fail;
 

@@ -1,3 +1,5 @@
+//! The sweep and the clearing of the collector, step by step.
+
 use super::trial::tries;
 use std::test::Fail;
 

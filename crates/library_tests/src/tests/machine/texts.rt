@@ -1,3 +1,5 @@
+//! The texts of steps and of turns.
+
 use core_machine::{
     AccessStep, CopyingStep, HandshakeStep, MakingStep, SpineStep, Step, TurningStep,
 };

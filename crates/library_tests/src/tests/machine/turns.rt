@@ -1,3 +1,5 @@
+//! The turns of the collector and the answers of the seats up to the third phase, step by step.
+
 use super::trial::tries;
 use std::test::Fail;
 

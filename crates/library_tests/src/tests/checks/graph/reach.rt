@@ -1,4 +1,7 @@
+//! What a graph reaches, and the fragments of its objects.
+
 use crate::tests::checks::entry_of;
+use crate::tests::comparing::same;
 use heap_model::{Graph, Heap, Id};
 use std::test::Fail;
 
@@ -74,17 +77,22 @@ fn reaches_what_a_path_leads_to(rt: HostRuntime) -> Result<(), Fail> {
     let alloc = rt.alloc();
     let heap = Heap::make(256, 1024, 3).ok_or("the limits")?;
     let mut graph = Graph::new(alloc, heap)?;
-    assert_eq!(rt; graph.reach()?.as_slice(), [Id::Board].as_slice());
-    for (lines, reached) in [
-        (BUILT, ALL),
-        (DROPPED, KEPT),
-        (SHARED, HELD_TWICE),
-        (EMPTY, &[]),
+    same(
+        &rt,
+        &graph.reach()?.as_slice(),
+        &[Id::Board].as_slice(),
+        &"the beginning",
+    );
+    for (name, lines, reached) in [
+        ("built", BUILT, ALL),
+        ("dropped", DROPPED, KEPT),
+        ("shared", SHARED, HELD_TWICE),
+        ("empty", EMPTY, &[]),
     ] {
         for line in lines {
             graph.apply(&entry_of(alloc, line)?)?;
         }
-        assert_eq!(rt; graph.reach()?.as_slice(), reached);
+        same(&rt, &graph.reach()?.as_slice(), &reached, &name);
     }
     Ok(())
 }
@@ -112,7 +120,8 @@ fn counts_fragments(rt: HostRuntime) -> Result<(), Fail> {
         graph.apply(&entry_of(alloc, line)?)?;
     }
     for (id, fragments) in FRAGMENTS {
-        assert_eq!(rt; graph.frags(id), fragments, "{id:?}");
+        let at = format!(in alloc; "{id:?}")?;
+        same(&rt, &graph.frags(id), &fragments, &at);
     }
     Ok(())
 }

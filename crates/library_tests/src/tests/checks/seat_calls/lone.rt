@@ -1,3 +1,5 @@
+//! The small seat: what it has, and the replies that it adds.
+
 ghost use Rattle.std.specs.Prelude.{◌≡◌, ◌+◌, ◌≤◌, ◌<◌, ◌^◌, ◌↔◌, ℕ, [], length, IfOk, IfErr, IfSome};
 ghost use Rattle.heap_model.specs.Command.{IsCommand};
 ghost use Rattle.heap_model.specs.Needs.{made_by, need_of};

@@ -1,3 +1,5 @@
+//! The calls of the small seat.
+
 use super::Lone;
 use super::places::{length_of, reply_of};
 use super::say::say;

@@ -1,3 +1,5 @@
+//! The places that the small seat reaches.
+
 ghost use Rattle.std.specs.Prelude.{◌≡◌, ◌≤◌, ◌↔◌, IfSome};
 ghost use Rattle.heap_model.specs.calls.SeatState.{IsNoObject};
 ghost use Rattle.heap_model.specs.calls.SeatReplies.{refusal_reply};

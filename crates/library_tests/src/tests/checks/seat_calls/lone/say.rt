@@ -1,3 +1,5 @@
+//! Replies added to the entries of the small seat.
+
 ghost use Rattle.std.specs.Prelude.{◌≡◌, ◌+◌, ◌<◌, ◌≤◌, [], ◌∷◌, ◌++◌, vec_len, vec_capacity};
 ghost use Rattle.heap_model.specs.declared.entry.Entry.TheVariants.{Said};
 

@@ -1,3 +1,5 @@
+//! The fragments that the small seat takes and gives back.
+
 ghost use Rattle.std.specs.Prelude.{◌≡◌, ◌+◌, ◌<◌, ◌≤◌, ◌++◌, vec_len, vec_capacity, IfOk, IfErr};
 ghost use Rattle.heap_model.specs.calls.SeatCalls.{takes_of, gives_of};
 ghost use Rattle.library_tests.specs.LoneSeat.{claim_of, TakesEnough, TakesTooLittle};
