@@ -6,18 +6,18 @@ use Rattle.heap_model.specs.Command.{IsWithin}
 use Rattle.schism_program.specs.declared.setting.Setting.{Setting}
 use Rattle.schism_program.specs.declared.setting.Setting.TheVariants.{Steady, Brief, Locked, Patience}
 use Rattle.schism_program.specs.declared.setting.Settings.{Settings}
-use Rattle.schism_program.specs.Settings.{has, most_patience, no_settings, with_setting, setting_words, IsSetting, AddSettings, GiveSettings}
+use Rattle.schism_program.specs.Settings.{has, most_patience, no_settings, with_setting, setting_words, IsKnownSetting, AddSettings, GiveSettings}
 use Rattle.schism_program.proofs.RangeNumbers.{same_number}
 
 -- words that begin with no setting give none
-pub none_begins : (before all : Settings) (words : List (List ℕ)) → words ≢ [] → ((setting : Setting) (rest : List (List ℕ)) → IsSetting setting → words ≢ setting_words setting ++ rest) → ¬ GiveSettings before words all
+pub none_begins : (before all : Settings) (words : List (List ℕ)) → words ≢ [] → ((setting : Setting) (rest : List (List ℕ)) → IsKnownSetting setting → words ≢ setting_words setting ++ rest) → ¬ GiveSettings before words all
 none_begins before all words some none gives = by gives.given gives.adds gives.spelled where
   by : (given : List Setting) → AddSettings before given all → words ≢ flat_map setting_words given
   by [] adds spelled = some spelled
   by (setting ∷ more) adds spelled = none setting (flat_map setting_words more) adds.0 spelled
 
 -- a setting's words are no other's, whatever stands behind them
-same_setting : (one other : Setting) (rest more : List (List ℕ)) → IsSetting one → IsSetting other → setting_words one ++ rest ≡ setting_words other ++ more → (one ≡ other) × (rest ≡ more)
+same_setting : (one other : Setting) (rest more : List (List ℕ)) → IsKnownSetting one → IsKnownSetting other → setting_words one ++ rest ≡ setting_words other ++ more → (one ≡ other) × (rest ≡ more)
 same_setting Steady Steady rest more fits fits' same = (refl, cc)
 same_setting Steady Brief rest more fits fits' same = absurd cc
 same_setting Steady Locked rest more fits fits' same = absurd cc
@@ -45,7 +45,7 @@ never_nothing Locked rest same = cc
 never_nothing (Patience n) rest same = cc
 
 -- words that begin with a setting give it first
-pub first_given : (before all : Settings) (setting : Setting) (words rest : List (List ℕ)) → IsSetting setting → words ≡ setting_words setting ++ rest → GiveSettings before words all
+pub first_given : (before all : Settings) (setting : Setting) (words rest : List (List ℕ)) → IsKnownSetting setting → words ≡ setting_words setting ++ rest → GiveSettings before words all
     → (has before setting ≡ false) × GiveSettings (with_setting before setting) rest all
 first_given before all setting words rest fits begins gives = by gives.given gives.spelled gives.adds where
   by : (given : List Setting) → words ≡ flat_map setting_words given → AddSettings before given all → (has before setting ≡ false) × GiveSettings (with_setting before setting) rest all
@@ -56,18 +56,18 @@ first_given before all setting words rest fits begins gives = by gives.given giv
       (goes.1, record { given = more; spelled = sym same.1; adds = goes.2 })
 
 -- and so they do where the rest gives the others
-pub given_first : (before all : Settings) (setting : Setting) (words rest : List (List ℕ)) → IsSetting setting → words ≡ setting_words setting ++ rest → has before setting ≡ false
+pub given_first : (before all : Settings) (setting : Setting) (words rest : List (List ℕ)) → IsKnownSetting setting → words ≡ setting_words setting ++ rest → has before setting ≡ false
     → GiveSettings (with_setting before setting) rest all → GiveSettings before words all
 given_first before all setting words rest fits begins new gives =
     record { given = setting ∷ gives.given; spelled = begins ∙ ap (λ ws. setting_words setting ++ ws) gives.spelled; adds = (fits, new, gives.adds) }
 
 -- so what is found of the rest is found of the words
-pub some_given : (before : Settings) (setting : Setting) (words rest : List (List ℕ)) (found : Option Settings) → IsSetting setting → words ≡ setting_words setting ++ rest → has before setting ≡ false
+pub some_given : (before : Settings) (setting : Setting) (words rest : List (List ℕ)) (found : Option Settings) → IsKnownSetting setting → words ≡ setting_words setting ++ rest → has before setting ≡ false
     → IfSome found (GiveSettings (with_setting before setting) rest) → IfSome found (GiveSettings before words)
 some_given before setting words rest None fits begins new gives = tt
 some_given before setting words rest (Some all) fits begins new gives = given_first before all setting words rest fits begins new gives
 
-pub none_given : (before : Settings) (setting : Setting) (words rest : List (List ℕ)) (found : Option Settings) → IsSetting setting → words ≡ setting_words setting ++ rest
+pub none_given : (before : Settings) (setting : Setting) (words rest : List (List ℕ)) (found : Option Settings) → IsKnownSetting setting → words ≡ setting_words setting ++ rest
     → IfNone found ((all : Settings) → ¬ GiveSettings (with_setting before setting) rest all) → IfNone found ((all : Settings) → ¬ GiveSettings before words all)
 none_given before setting words rest None fits begins none = λ all gives. none all (first_given before all setting words rest fits begins gives).1
 none_given before setting words rest (Some all) fits begins none = tt

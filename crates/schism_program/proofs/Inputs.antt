@@ -1,21 +1,12 @@
 -- How much of a source is read for the input of a work.
-use Rattle.std.proofs.Common.{◌≡◌, ℕ, ◌+◌, ◌≤◌, List, [], length, Option, None, Some, refl, sym, subst, ◌∙◌, arith}
-use Rattle.std.proofs.lemmas.List.{append-nil}
-use Rattle.std.specs.Io.KnownBytes.{Consumes}
+use Rattle.std.proofs.Common.{◌≡◌, ℕ, ◌+◌, List, Option, refl, arith}
 use Rattle.io_edge.specs.declared.reading.ReadAllFault.{ReadAllFault}
 use Rattle.io_edge.specs.declared.reading.ReadAllFault.TheVariants.{ReadFault, TooLong, Memory}
-use Rattle.io_edge.specs.Left.{GivesAll, LosesNext, LosesUpTo}
+use Rattle.io_edge.specs.Left.{LosesNext, LosesUpTo}
 use Rattle.schism_program.specs.declared.work.Work.{Work}
 use Rattle.schism_program.specs.declared.work.Work.TheVariants.{Play, Run, Check, Make}
 use Rattle.schism_program.specs.Outcome.{IsReadUpTo}
 use Rattle.schism_program.specs.Works.{most_bytes, HasInput}
-
--- all that was left is no more than its length
-pub all_up_to : (old new : Option (List ℕ)) (bytes : List ℕ) (most : ℕ) → GivesAll old new bytes → length bytes ≤ most → LosesUpTo old new (most + 1)
-all_up_to None new bytes most all within = (0, omega arith, ([], tt, refl))
-all_up_to (Some left) new bytes most all within =
-    let next : Consumes (Some left) new bytes = subst (λ n. Consumes (Some left) n bytes) (sym all.1) (sym all.0 ∙ sym (append-nil bytes)) in
-    (length bytes, omega (arith, within), (bytes, next, refl))
 
 -- so much is read at most where it fails
 pub fault_up_to : (fault : ReadAllFault) (old new : Option (List ℕ)) (most : ℕ) → (fault ≡ TooLong → LosesNext old new (most + 1)) → (fault ≡ ReadFault → LosesUpTo old new most)

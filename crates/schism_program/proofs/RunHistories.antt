@@ -8,11 +8,11 @@ use Rattle.locked_heap.specs.declared.ran.LockedRan.{LockedRan}
 use Rattle.locked_heap.specs.Given.{Given, script_of}
 use Rattle.locked_heap.specs.Ran.{EndsEmpty, IsRun}
 use Rattle.script_text.specs.declared.script.Script.{Script}
-use Rattle.schism_program.specs.Running.{commands_of, run_history, IsRunOf, Runs}
+use Rattle.schism_program.specs.Running.{seat_commands, run_history, IsRunOf}
 
 -- a run of what the seats are handed is one of the script
 pub run_of_script : (given : Given) (ran : LockedRan) (script : Script) → given.heap ≡ script.heap
-    → ((number : ℕ) → number < script.heap.seats → script_of given number ≡ commands_of number script.lines) → IsRun given ran → IsRunOf true script (run_history script.heap ran)
+    → ((number : ℕ) → number < script.heap.seats → script_of given number ≡ seat_commands number script.lines) → IsRun given ran → IsRunOf true script (run_history script.heap ran)
 run_of_script given ran script same handed run =
     let whole : IsLegal script.heap false ran.history.items = subst (λ (h : Heap). IsLegal h false ran.history.items) same run.legal in
     record {
@@ -27,23 +27,3 @@ run_of_script given ran script same handed run =
       none_used = run.none_used;
       all_returned = run.all_returned;
     }
-
--- what is legal in its own order is so in some order that keeps each log's
-pub one_order : (input text : List ℕ) → Runs true input text → Runs false input text
-one_order input text runs = record {
-  script = runs.script;
-  history = runs.history;
-  spelled = runs.spelled;
-  ran = record {
-    form = runs.ran.form;
-    heap = runs.ran.heap;
-    unmarked = runs.ran.unmarked;
-    legal = runs.ran.legal;
-    whole = (runs.history.entries, record { seats = λ number. refl; collector = refl }, runs.ran.whole);
-    commands = runs.ran.commands;
-    last_cycle = runs.ran.last_cycle;
-    none_used = runs.ran.none_used;
-    all_returned = runs.ran.all_returned;
-  };
-  rendered = runs.rendered;
-}

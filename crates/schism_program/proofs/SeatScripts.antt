@@ -16,11 +16,11 @@ use Rattle.script_text.specs.declared.script.Line.TheVariants as lines
 use Rattle.script_text.specs.declared.script.Script.{Script}
 use Rattle.script_text.specs.Grammar.{IsLine, IsScripted}
 use Rattle.script_text.specs.Writing.{IsOfForm}
-use Rattle.schism_program.specs.Running.{commands_of, line_commands}
+use Rattle.schism_program.specs.Running.{seat_commands, line_commands}
 
 -- the script of each seat, in the order of their numbers
 abbrev pub scripts_by_seat : Script → List (List Command)
-scripts_by_seat script = map (λ number. commands_of number script.lines) (range_with_len 0 script.heap.seats)
+scripts_by_seat script = map (λ number. seat_commands number script.lines) (range_with_len 0 script.heap.seats)
 
 -- the commands in a list of them
 abbrev pub items : Vec Command Global → List Command
@@ -47,9 +47,9 @@ few_more true command rest n few = omega (arith, few)
 few_more false command rest n few = omega (arith, few)
 
 -- a seat has no more commands than there are lines
-few_commands : (number : ℕ) (script : List Line) → length (commands_of number script) ≤ length script
+few_commands : (number : ℕ) (script : List Line) → length (seat_commands number script) ≤ length script
 few_commands number [] = omega arith
-few_commands number (lines.Seat other command ∷ more) = omega (arith, few_more (other == number) command (commands_of number more) (length more) (few_commands number more))
+few_commands number (lines.Seat other command ∷ more) = omega (arith, few_more (other == number) command (seat_commands number more) (length more) (few_commands number more))
 few_commands number (lines.Turns command ∷ more) = omega (arith, few_commands number more)
 
 -- it is one of a seat's script, as the others are
@@ -57,31 +57,31 @@ all_more : (own : Bool) (command : Command) (rest : List Command) → IsOfScript
 all_more true command rest is all = (is, all)
 all_more false command rest is all = all
 
-all_commands : (seats number : ℕ) (script : List Line) → AllByRecursion (IsLine Run seats) script → AllByRecursion IsOfScript (commands_of number script)
+all_commands : (seats number : ℕ) (script : List Line) → AllByRecursion (IsLine Run seats) script → AllByRecursion IsOfScript (seat_commands number script)
 all_commands seats number [] all = tt
-all_commands seats number (lines.Seat other command ∷ more) all = all_more (other == number) command (commands_of number more) (of_script command all.0.1) (all_commands seats number more all.1)
+all_commands seats number (lines.Seat other command ∷ more) all = all_more (other == number) command (seat_commands number more) (of_script command all.0.1) (all_commands seats number more all.1)
 all_commands seats number (lines.Turns command ∷ more) all = absurd all.0
 
 -- so what each seat is handed is a script
-pub seat_script : (number : ℕ) (script : Script) → IsOfForm Run script → IsSeatScript (commands_of number script.lines)
+pub seat_script : (number : ℕ) (script : Script) → IsOfForm Run script → IsSeatScript (seat_commands number script.lines)
 seat_script number script of_form = record {
   few = omega (arith, few_commands number script.lines, of_form.short);
-  each = All-from_recursion IsOfScript (commands_of number script.lines) (all_commands script.heap.seats number script.lines of_form.lines);
+  each = All-from_recursion IsOfScript (seat_commands number script.lines) (all_commands script.heap.seats number script.lines of_form.lines);
 }
 
 -- there is one for each seat
 pub seated : (scripts : List (Vec Command Global)) (script : Script) → map items scripts ≡ scripts_by_seat script → length scripts ≡ script.heap.seats
-seated scripts script same = sym (length-map scripts items) ∙ ap (length {A = List Command}) same ∙ length-map-range_with_len (λ number. commands_of number script.lines) 0 script.heap.seats
+seated scripts script same = sym (length-map scripts items) ∙ ap (length {A = List Command}) same ∙ length-map-range_with_len (λ number. seat_commands number script.lines) 0 script.heap.seats
 
 -- each of them is
 pub seat_scripts : (scripts : List (Vec Command Global)) (script : Script) → IsOfForm Run script → map items scripts ≡ scripts_by_seat script → All (λ (s : Vec Command Global). IsSeatScript s.items) scripts
 seat_scripts scripts script of_form same k d below =
-    let commands = λ (number : ℕ). commands_of number script.lines in
+    let commands = λ (number : ℕ). seat_commands number script.lines in
     let found : commands k ≡ (slice_index_or scripts k d).items
     = sym (get_or-map-range_with_len commands 0 script.heap.seats k k d.items (omega (arith, below, seated scripts script same)) (omega arith)) ∙ ap (λ l. slice_index_or l k d.items) (sym same) ∙ get_or-map items scripts k d in
     subst IsSeatScript found (seat_script k script of_form)
 
 -- and it is what the seat of its number is handed
-pub handed_script : (scripts : List (Vec Command Global)) (script : Script) (number : ℕ) → number < script.heap.seats → map items scripts ≡ scripts_by_seat script → slice_index_or (map items scripts) number [] ≡ commands_of number script.lines
+pub handed_script : (scripts : List (Vec Command Global)) (script : Script) (number : ℕ) → number < script.heap.seats → map items scripts ≡ scripts_by_seat script → slice_index_or (map items scripts) number [] ≡ seat_commands number script.lines
 handed_script scripts script number within same =
-    ap (λ l. slice_index_or l number []) same ∙ get_or-map-range_with_len (λ n. commands_of n script.lines) 0 script.heap.seats number number [] within (omega arith)
+    ap (λ l. slice_index_or l number []) same ∙ get_or-map-range_with_len (λ n. seat_commands n script.lines) 0 script.heap.seats number number [] within (omega arith)

@@ -28,8 +28,8 @@ line_commands number (lines.Seat other command) = if other == number then comman
 line_commands number (lines.Turns command) = []
 
 -- the commands of the seat's lines, in their order
-abbrev pub commands_of : ℕ → List Line → List Command
-commands_of number script = flat_map (line_commands number) script
+abbrev pub seat_commands : ℕ → List Line → List Command
+seat_commands number script = flat_map (line_commands number) script
 
 -- in both orders each seat's own entries stand in the same order, and so do the collector's
 pub record KeepsLogs (one other : List Entry) : Type 0 where
@@ -49,7 +49,7 @@ pub record IsRunOf (locked : Bool) (script : Script) (history : History) : Type 
   pub legal : IsLegalHistory history
   pub whole : IsLegalRun locked history.heap history.entries
   -- the lines of a seat are answered in their order, each once, and behind them it leaves
-  pub commands : (number : ℕ) → number < script.heap.seats → commands_told number history.entries ≡ commands_of number script.lines ++ Leave ∷ []
+  pub commands : (number : ℕ) → number < script.heap.seats → commands_told number history.entries ≡ seat_commands number script.lines ++ Leave ∷ []
   -- the last cycle began behind every leave
   pub last_cycle : EndsEmpty script.heap history.entries
   pub none_used : history.end_used ≡ 0

@@ -18,9 +18,9 @@ setting_words Locked = codes "--locked" ∷ []
 setting_words (Patience n) = codes "--patience" ∷ decimal n ∷ []
 
 -- the setting's number is in its range, where it has one
-abbrev pub IsSetting : Setting → Type 0
-IsSetting (Patience n) = IsWithin 1 most_patience n
-IsSetting _ = Unit {0}
+abbrev pub IsKnownSetting : Setting → Type 0
+IsKnownSetting (Patience n) = IsWithin 1 most_patience n
+IsKnownSetting _ = Unit {0}
 
 -- nothing was given
 abbrev pub no_settings : Settings
@@ -43,7 +43,7 @@ with_setting settings (Patience n) = record settings { patience = Some n }
 -- beside those from before these were given, each kind for the first time and in its range, and then all are those
 abbrev pub AddSettings : Settings → List Setting → Settings → Type 0
 AddSettings before [] all = all ≡ before
-AddSettings before (setting ∷ more) all = IsSetting setting × (has before setting ≡ false) × AddSettings (with_setting before setting) more all
+AddSettings before (setting ∷ more) all = IsKnownSetting setting × (has before setting ≡ false) × AddSettings (with_setting before setting) more all
 
 -- beside those from before the words give settings, in any order, and then all are those
 pub record GiveSettings (before : Settings) (words : List (List ℕ)) (all : Settings) : Type 0 where

@@ -2,7 +2,7 @@ ghost use Rattle.std.specs.Prelude.{◌≡◌, ◌≤◌, ℕ, Err, IfOk, map, t
 ghost use Rattle.std.specs.List.{range_with_len};
 ghost use Rattle.script_text.specs.declared.cause.LineFault.{LineFault as ALineFault};
 ghost use Rattle.script_text.specs.declared.script.Form.TheVariants.{Run};
-ghost use Rattle.schism_program.specs.Running.{commands_of, run_history, Runs};
+ghost use Rattle.schism_program.specs.Running.{seat_commands, run_history, Runs};
 ghost use Rattle.schism_program.specs.Serving.{FailsAsScript};
 
 use crate::fault::WorkFault;
@@ -18,8 +18,8 @@ use std::sync::Wait;
 use std::thread::Threads;
 
 /// The commands of the seat's lines, in their order.
-fn commands_of(alloc: Global, lines: &[Line], seat: u8) -> Result<Vec<Command>, Memory>
-    ensures { IfOk result (λ commands. commands.items ≡ commands_of seat lines.now) }
+fn seat_commands(alloc: Global, lines: &[Line], seat: u8) -> Result<Vec<Command>, Memory>
+    ensures { IfOk result (λ commands. commands.items ≡ seat_commands seat lines.now) }
 {
     let mut commands = Vec::new(alloc);
     for line in lines {
@@ -38,11 +38,11 @@ fn commands_of(alloc: Global, lines: &[Line], seat: u8) -> Result<Vec<Command>, 
 
 /// The script of each seat, in the order of their numbers.
 fn scripts_of(alloc: Global, script: &Script) -> Result<Vec<Vec<Command>>, Memory>
-    ensures { IfOk result (λ scripts. map (λ s. s.items) scripts.items ≡ map (λ number. commands_of number script.now.lines) (range_with_len 0 script.now.heap.seats)) }
+    ensures { IfOk result (λ scripts. map (λ s. s.items) scripts.items ≡ map (λ number. seat_commands number script.now.lines) (range_with_len 0 script.now.heap.seats)) }
 {
     let mut scripts = Vec::new(alloc);
     for seat in 0..script.heap.seats {
-        scripts.push(commands_of(alloc, script.lines.as_slice(), seat)?)?;
+        scripts.push(seat_commands(alloc, script.lines.as_slice(), seat)?)?;
     }
     Ok(scripts)
 }

@@ -1,7 +1,7 @@
 ghost use Rattle.std.specs.Prelude.{◌≡◌, ◌≢◌, ◌∷◌, [], ◌++◌, ℕ, List, map, IfSome, IfNone};
 ghost use Rattle.schism_program.specs.declared.setting.Setting.{Setting as ASetting};
 ghost use Rattle.schism_program.specs.declared.setting.Settings.{Settings as AreGiven};
-ghost use Rattle.schism_program.specs.Settings.{has, with_setting, setting_words, no_settings, GiveSettings, IsSetting};
+ghost use Rattle.schism_program.specs.Settings.{has, with_setting, setting_words, no_settings, GiveSettings, IsKnownSetting};
 
 use crate::range::number_in;
 
@@ -96,7 +96,7 @@ pub fn first_word<'a, 'b>(words: &'a [&'b str]) -> Option<(&'b str, &'a [&'b str
 
 /// The setting that the word is by itself.
 fn plain_setting(word: &str) -> Option<Setting>
-    ensures some { IfSome result (λ setting. IsSetting setting × (setting_words setting ≡ word.now ∷ [])) }
+    ensures some { IfSome result (λ setting. IsKnownSetting setting × (setting_words setting ≡ word.now ∷ [])) }
     ensures none { IfNone result ((setting : ASetting) → setting_words setting ≢ word.now ∷ []) }
 {
     match word {
@@ -108,8 +108,8 @@ fn plain_setting(word: &str) -> Option<Setting>
 
 /// The setting that the word is together with its value, which stands behind it.
 fn valued_setting(word: &str, value: &str) -> Option<Setting>
-    ensures some { IfSome result (λ setting. IsSetting setting × (setting_words setting ≡ word.now ∷ value.now ∷ [])) }
-    ensures none { IfNone result ((setting : ASetting) → IsSetting setting → setting_words setting ≢ word.now ∷ value.now ∷ []) }
+    ensures some { IfSome result (λ setting. IsKnownSetting setting × (setting_words setting ≡ word.now ∷ value.now ∷ [])) }
+    ensures none { IfNone result ((setting : ASetting) → IsKnownSetting setting → setting_words setting ≢ word.now ∷ value.now ∷ []) }
 {
     match word {
         "--pace" => {
@@ -127,8 +127,8 @@ fn valued_setting(word: &str, value: &str) -> Option<Setting>
 /// The setting that the first words are, and the words behind it.
 fn first_setting<'a, 'b>(words: &'a [&'b str]) -> Option<(Setting, &'a [&'b str])>
     ensures some { IfSome result (λ r. map (λ w. w.now) words.now ≡ setting_words r.0 ++ map (λ w. w.now) r.1.now) }
-    ensures range { IfSome result (λ r. IsSetting r.0) }
-    ensures none { IfNone result ((setting : ASetting) (rest : List (List ℕ)) → IsSetting setting → map (λ w. w.now) words.now ≢ setting_words setting ++ rest) }
+    ensures range { IfSome result (λ r. IsKnownSetting r.0) }
+    ensures none { IfNone result ((setting : ASetting) (rest : List (List ℕ)) → IsKnownSetting setting → map (λ w. w.now) words.now ≢ setting_words setting ++ rest) }
 {
     let (word, rest) = first_word(words)?;
     if let Some(setting) = plain_setting(word) {

@@ -20,8 +20,8 @@ use std::sync::Wait;
 use std::thread::Threads;
 
 /// Plays or runs the script that the source gives, or checks the history, or makes a script, as the words ask, and writes what comes
-/// of it to the sink. The whole text stands before the first byte is written. A run's seats work on threads of their own, and each passes the
-/// gate before each of its commands; no other form starts a thread or waits for one.
+/// of it to the sink. The whole text stands before the first byte is written. The runtime and the gate are for a run alone: what the other forms
+/// call to make their text (`played_text`, `verdict`, `made_script_text`) takes neither, and has no bound by which it may start a thread or wait.
 pub fn schism<S: Source, K: Sink, G: Gate, R: Threads + Wait + Sync>(
     rt: &R,
     alloc: Global,

@@ -1,9 +1,11 @@
 //! The forms of the words after the program's name: plays at a steady pace, briefs, and scripts that are made.
 
-use super::{FIRST, ended, told};
+use super::comparing::same;
+use super::{FIRST, ended, written};
 use crate::status::Status;
 use heap_model::OpenGate;
 use std::alloc::{AllocError, Global};
+use std::process::Abort;
 use std::sync::Wait;
 use std::test::Fail;
 use std::thread::Threads;
@@ -56,45 +58,48 @@ const NO_FORMS: [&str; 44] = [
     "make 1 1 +1",
 ];
 
-/// The status that the words come to where the first call of each side would fail: so neither side is touched where it is Usage.
-fn ended_by(
-    rt: &(impl Threads + Wait + Sync),
+/// Words that read a script or a history at first.
+const READERS: [&str; 12] = [
+    "play",
+    "play --brief",
+    "play --pace steady",
+    "play --brief --pace steady",
+    "play --pace steady --brief",
+    "run",
+    "run --locked",
+    "run --pace steady",
+    "run --patience 1",
+    "run --patience 1000000 --pace steady --locked",
+    "run --locked --patience 1000 --pace steady",
+    "check",
+];
+
+/// Words that read nothing and write a script.
+const MAKERS: [&str; 2] = ["make 2147483647 16 32768", "make 0 1 0"];
+
+/// The words of each line come to the status where the first call of each side would fail: so neither side is touched where it is Usage.
+fn all_end(
+    rt: &(impl Abort + Threads + Wait + Sync),
     alloc: Global,
-    line: &str,
-) -> Result<Status, AllocError> {
-    let words: Vec<&str> = line.split(' ').collect(alloc)?;
-    Ok(ended(rt, alloc, &words, FIRST.as_bytes(), &[0], &[0])?.0)
+    lines: &[&str],
+    status: Status,
+) -> Result<(), AllocError> {
+    for line in lines {
+        let words: Vec<&str> = line.split(' ').collect(alloc)?;
+        let (end, _) = ended(rt, alloc, &words, FIRST.as_bytes(), &[0], &[0])?;
+        same(rt, &end, &status, line);
+    }
+    Ok(())
 }
 
 #[test]
 fn says_usage_of_other_words(rt: HostRuntime) -> Result<(), Fail> {
     let alloc = rt.alloc();
-    assert_eq!(rt;
-        ended(&rt, alloc, &[], FIRST.as_bytes(), &[0], &[0])?.0,
-        Status::Usage
-    );
-    for line in NO_FORMS {
-        assert_eq!(rt; ended_by(&rt, alloc, line)?, Status::Usage, "{line}");
-    }
-    for line in [
-        "play",
-        "play --brief",
-        "play --pace steady",
-        "play --brief --pace steady",
-        "play --pace steady --brief",
-        "run",
-        "run --locked",
-        "run --pace steady",
-        "run --patience 1",
-        "run --patience 1000000 --pace steady --locked",
-        "run --locked --patience 1000 --pace steady",
-        "check",
-    ] {
-        assert_eq!(rt; ended_by(&rt, alloc, line)?, Status::ReadFault, "{line}");
-    }
-    for line in ["make 2147483647 16 32768", "make 0 1 0"] {
-        assert_eq!(rt; ended_by(&rt, alloc, line)?, Status::WriteFault, "{line}");
-    }
+    let (end, _) = ended(&rt, alloc, &[], FIRST.as_bytes(), &[0], &[0])?;
+    same(&rt, &end, &Status::Usage, &"no words");
+    all_end(&rt, alloc, &NO_FORMS, Status::Usage)?;
+    all_end(&rt, alloc, &READERS, Status::ReadFault)?;
+    all_end(&rt, alloc, &MAKERS, Status::WriteFault)?;
     Ok(())
 }
 
@@ -103,15 +108,13 @@ fn says_usage_of_other_words(rt: HostRuntime) -> Result<(), Fail> {
 #[test]
 fn makes_a_script_and_plays_it(rt: HostRuntime) -> Result<(), Fail> {
     let alloc = rt.alloc();
-    let (status, script) = told(&rt, alloc, "make 1 1 4", b"", &OpenGate)?;
-    assert_eq!(rt; status, Status::Done);
+    let script = written(&rt, alloc, "make 1 1 4", b"", &OpenGate)?;
     let wanted = "schism 1\nheap 64 256 1\n0 copy 14 1\n0 set 11 3 2\n0 set 4 6 13\n0 poll\n";
-    assert_eq!(rt; script.as_slice(), wanted.as_bytes());
-    let (status, played) = told(&rt, alloc, "play", &script, &OpenGate)?;
-    assert_eq!(rt; status, Status::Done);
+    same(&rt, &script.as_slice(), &wanted.as_bytes(), &"the script");
+    let played = written(&rt, alloc, "play", &script, &OpenGate)?;
     let wanted =
         "history 1 play\nheap 64 256 1\n0 copy 14 1 = ok\n0 set 11 3 2 = no object\n0 set 4 6 13 = no object\n0 poll = 0\nspace used 11 of 1024 spine 0 of 256\n0 leave = ok\nc phase 1\nc phase 2\nc phase 3\nc phase 4\nc phase 5\nc frees 11\nc phase 6\nc ends 0 kept 0\nend used 0\n";
-    assert_eq!(rt; played.as_slice(), wanted.as_bytes());
+    same(&rt, &played.as_slice(), &wanted.as_bytes(), &"the play");
     Ok(())
 }
 
@@ -119,14 +122,12 @@ fn makes_a_script_and_plays_it(rt: HostRuntime) -> Result<(), Fail> {
 #[test]
 fn plays_a_made_script_at_a_steady_pace(rt: HostRuntime) -> Result<(), Fail> {
     let alloc = rt.alloc();
-    let (status, script) = told(&rt, alloc, "make 7 4 2000", b"", &OpenGate)?;
-    assert_eq!(rt; status, Status::Done);
+    let script = written(&rt, alloc, "make 7 4 2000", b"", &OpenGate)?;
     let wanted =
         "brief 1\nheap 64 256 4\ncommands 2000 refused 232\nmade 409 cycles 14 freed 1737 swung 195\nspace used 252 of 1024 spine 108 of 256\nend used 0\n";
     for line in ["play --pace steady --brief", "play --brief --pace steady"] {
-        let (status, brief) = told(&rt, alloc, line, &script, &OpenGate)?;
-        assert_eq!(rt; status, Status::Done);
-        assert_eq!(rt; brief.as_slice(), wanted.as_bytes(), "{line}");
+        let brief = written(&rt, alloc, line, &script, &OpenGate)?;
+        same(&rt, &brief.as_slice(), &wanted.as_bytes(), &line);
     }
     Ok(())
 }
@@ -137,10 +138,9 @@ fn plays_a_made_script_at_a_steady_pace(rt: HostRuntime) -> Result<(), Fail> {
 fn plays_at_a_steady_pace(rt: HostRuntime) -> Result<(), Fail> {
     let alloc = rt.alloc();
     let script = b"schism 1\nheap 1 0 1\n0 new 1 2\nc turns 0\n0 num 2 9\n0 poll\n";
-    let (status, played) = told(&rt, alloc, "play --pace steady", script, &OpenGate)?;
-    assert_eq!(rt; status, Status::Done);
+    let played = written(&rt, alloc, "play --pace steady", script, &OpenGate)?;
     let wanted =
         "history 1 play\nheap 1 0 1\n0 takes 5\n0 new 1 2 = 0.0\nc phase 1\nc turns 0 = done\n0 num 2 9 = ok\n0 answers 1\n0 poll = 1\nc phase 2\nspace used 16 of 16 spine 0 of 0\n0 gives back 4\n0 leave = ok\nc phase 3\nc phase 4\nc phase 5\nc frees 12\nc phase 6\nc ends 0 kept 0\nc phase 8\nc phase 9\nc phase 10\nc phase 11\nc phase 12\nc phase 13\nc ends 1 kept 0\nend used 0\n";
-    assert_eq!(rt; played.as_slice(), wanted.as_bytes());
+    same(&rt, &played.as_slice(), &wanted.as_bytes(), &"the play");
     Ok(())
 }

@@ -1,3 +1,6 @@
+//! Worked histories with their verdicts.
+
+use super::comparing::{holds, same};
 use super::ended;
 use crate::status::{Status, status_text};
 use std::alloc::{AllocError, Global};
@@ -118,10 +121,11 @@ fn judges(
         let (status, taken) = ended(rt, alloc, &["check"], text.as_bytes(), &[], &[])?;
         if status == Status::Done {
             let written = format!(in alloc; "{verdict}\n")?;
-            assert_eq!(rt; taken.as_slice(), written.as_bytes(), "{case}");
+            same(rt, &taken.as_slice(), &written.as_bytes(), case);
         } else {
-            assert_eq!(rt; status_text(&status).as_str(), verdict, "{case}");
-            assert!(rt; taken.is_empty(), "{case}");
+            let said = status_text(&status);
+            same(rt, &said.as_str(), &verdict, case);
+            holds(rt, taken.is_empty(), case);
         }
     }
     Ok(())

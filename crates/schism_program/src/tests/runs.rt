@@ -3,9 +3,9 @@
 mod gates;
 mod judging;
 
+use super::comparing::{holds, same};
 use super::several_seats::text_of;
-use super::{refused, told};
-use crate::status::Status;
+use super::{refused, told, written};
 use gates::{OneAfterTheOther, TwoAtOnce};
 use heap_model::{Gate, OpenGate};
 use judging::{has_line, judge};
@@ -28,12 +28,10 @@ fn ran<G: Gate>(
     gate: &G,
 ) -> Result<Vec<u8>, Fail> {
     let script = text_of(alloc, script)?;
-    let (end, history) = told(rt, alloc, line, script.as_bytes(), gate)?;
-    assert_eq!(rt; end, Status::Done, "{script}");
-    let (end, _) = told(rt, alloc, "check", &history, &OpenGate)?;
-    assert_eq!(rt; end, Status::Done, "{script}");
+    let history = written(rt, alloc, line, script.as_bytes(), gate)?;
+    written(rt, alloc, "check", &history, &OpenGate)?;
     judge(alloc, &history)?;
-    assert!(rt; has_line(&history, b"end used 0"), "{script}");
+    holds(rt, has_line(&history, b"end used 0"), &script);
     Ok(history)
 }
 
@@ -46,12 +44,12 @@ fn shares_a_field(rt: HostRuntime) -> Result<(), Fail> {
     for line in RUNS {
         let gate = TwoAtOnce::new();
         let history = ran(&rt, rt.alloc(), line, script, &gate)?;
-        assert!(rt; gate.met(), "{line}");
+        holds(&rt, gate.met(), &line);
         let first = has_line(&history, b"0 set 0 3 1 = was -")
             && has_line(&history, b"1 set 0 3 1 = was 0:1");
         let second = has_line(&history, b"1 set 0 3 1 = was -")
             && has_line(&history, b"0 set 0 3 1 = was 1:1");
-        assert!(rt; first || second, "{line}");
+        holds(&rt, first || second, &line);
     }
     Ok(())
 }
@@ -62,11 +60,9 @@ fn collects_alone(rt: HostRuntime) -> Result<(), Fail> {
     let script = "schism 1; heap 1 0 1; 0 new 1 2; 0 nil 1; 0 collect";
     for line in RUNS {
         let history = ran(&rt, rt.alloc(), line, script, &OpenGate)?;
-        assert!(rt;
-            has_line(&history, b"0 collect = cycle 0")
-                || has_line(&history, b"0 collect = cycle 1"),
-            "{line}"
-        );
+        let first = has_line(&history, b"0 collect = cycle 0");
+        let second = has_line(&history, b"0 collect = cycle 1");
+        holds(&rt, first || second, &line);
     }
     Ok(())
 }
@@ -82,10 +78,8 @@ fn waits_for_a_seat_that_never_polls(rt: HostRuntime) -> Result<(), Fail> {
     ] {
         let gate = OneAfterTheOther::new();
         let history = ran(&rt, rt.alloc(), line, script, &gate)?;
-        assert!(rt;
-            has_line(&history, b"0 collect = waits 1 answered 0 phase 1"),
-            "{line}"
-        );
+        let waits = has_line(&history, b"0 collect = waits 1 answered 0 phase 1");
+        holds(&rt, waits, &line);
     }
     Ok(())
 }
@@ -94,9 +88,9 @@ fn waits_for_a_seat_that_never_polls(rt: HostRuntime) -> Result<(), Fail> {
 fn refuses_lines_of_the_collector(rt: HostRuntime) -> Result<(), Fail> {
     let script = b"schism 1\nheap 1 0 1\nc turns 2\nc turns 5\n";
     for line in RUNS {
-        let (end, written) = told(&rt, rt.alloc(), line, script, &OpenGate)?;
-        assert_eq!(rt; end, refused(3, Cause::NoSeat), "{line}");
-        assert!(rt; written.is_empty());
+        let (end, taken) = told(&rt, rt.alloc(), line, script, &OpenGate)?;
+        same(&rt, &end, &refused(3, Cause::NoSeat), &line);
+        holds(&rt, taken.is_empty(), &line);
     }
     Ok(())
 }
@@ -105,13 +99,10 @@ fn refuses_lines_of_the_collector(rt: HostRuntime) -> Result<(), Fail> {
 fn runs_made_scripts(rt: HostRuntime) -> Result<(), Fail> {
     let alloc = rt.alloc();
     for made in ["make 7 2 200", "make 7 4 200", "make 7 16 320"] {
-        let (end, script) = told(&rt, alloc, made, b"", &OpenGate)?;
-        assert_eq!(rt; end, Status::Done, "{made}");
+        let script = written(&rt, alloc, made, b"", &OpenGate)?;
         for _ in 0..10 {
-            let (end, history) = told(&rt, alloc, "run --locked", &script, &OpenGate)?;
-            assert_eq!(rt; end, Status::Done, "{made}");
-            let (end, _) = told(&rt, alloc, "check", &history, &OpenGate)?;
-            assert_eq!(rt; end, Status::Done, "{made}");
+            let history = written(&rt, alloc, "run --locked", &script, &OpenGate)?;
+            written(&rt, alloc, "check", &history, &OpenGate)?;
             judge(alloc, &history)?;
         }
     }

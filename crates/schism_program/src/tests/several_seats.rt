@@ -1,5 +1,6 @@
 //! Plays of several seats, which take turns by whole commands.
 
+use super::comparing::same;
 use super::ended;
 use crate::status::Status;
 use std::alloc::{AllocError, Global};
@@ -85,11 +86,12 @@ pub(super) fn plays(
         let script = text_of(alloc, script)?;
         let history = text_of(alloc, history)?;
         let (end, written) = ended(rt, alloc, &["play"], script.as_bytes(), &[], &[])?;
-        assert_eq!(rt; end, Status::Done, "{script}");
-        assert_eq!(rt; written.as_slice(), history.as_bytes(), "{script}");
+        same(rt, &end, &Status::Done, &script);
+        same(rt, &written.as_slice(), &history.as_bytes(), &script);
         let (end, told) = ended(rt, alloc, &["check"], history.as_bytes(), &[], &[])?;
-        assert_eq!(rt; end, Status::Done, "{script}");
-        assert_eq!(rt; told.as_slice(), text_of(alloc, verdict)?.as_bytes());
+        same(rt, &end, &Status::Done, &script);
+        let verdict = text_of(alloc, verdict)?;
+        same(rt, &told.as_slice(), &verdict.as_bytes(), &script);
     }
     Ok(())
 }

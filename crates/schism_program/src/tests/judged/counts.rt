@@ -1,4 +1,5 @@
-// What is taken and given back, phases and their answers, and what the collector swings, frees and returns.
+//! What is taken and given back, phases and their answers, and what the collector swings, frees and returns.
+
 pub const CASES: [&str; 65] = [
     // A seat takes at least one fragment and at most what is free, here 5 of 16.
     "lone; 0 takes 5; end used 16 => legal 1",

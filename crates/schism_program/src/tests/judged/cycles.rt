@@ -1,4 +1,5 @@
-// What a cycle that ends may leave, and who may say that it ended.
+//! What a cycle that ends may leave, and who may say that it ended.
+
 pub const CASES: [&str; 74] = [
     // A cycle ends once, under its number; the next one begins after phase 7 was answered.
     "wide; to sweep; last; c ends 0 kept 11; end used 11 => legal 13",

@@ -1,4 +1,5 @@
-// The space line and the end line.
+//! The space line and the end line.
+
 pub const CASES: [&str; 31] = [
     // The space line shows four counts as they are at its place.
     "bare; space used 11 of 16 spine 0 of 0; end used 11 => legal 0",

@@ -1,4 +1,5 @@
-// What each reply says of ids, stamps, fields and registers, by the graph of objects that only grows.
+//! What each reply says of ids, stamps, fields and registers, by the graph of objects that only grows.
+
 pub const CASES: [&str; 76] = [
     // A seat's objects are counted from 0, each under its own seat.
     "lone; 0 takes 2; 0 new 1 2 = 0.0; 0 new 1 2 = 0.1; end used 13 => legal 3",

@@ -1,4 +1,5 @@
-// What a reply needs of the space and the phases.
+//! What a reply needs of the space and the phases.
+
 pub const CASES: [&str; 80] = [
     // An object has at most its maker's own fragments: up to 2 fields 1 fragment, up to 5 fields 2, up to 8 fields 3.
     "lone; 0 takes 1; 0 new 1 2 = 0.0; end used 12 => legal 2",

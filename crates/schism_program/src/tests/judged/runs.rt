@@ -1,4 +1,5 @@
-// A run is judged for its objects and its end line: what is wrong in a play for its space or its phases alone is legal in a run.
+//! A run is judged for its objects and its end line: what is wrong in a play for its space or its phases alone is legal in a run.
+
 pub const CASES: [&str; 30] = [
     // More than there are, none, and more than its own.
     "pair; 0 takes 99; 1 takes 0; 1 gives back 1; end used 109 => not legal at line 4",

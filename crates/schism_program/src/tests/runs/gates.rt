@@ -1,3 +1,5 @@
+//! Gates that hold a seat back until another one has come on.
+
 use heap_model::Gate;
 use std::sync::atomic::{AtomicU64, Ordering};
 

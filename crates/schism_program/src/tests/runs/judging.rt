@@ -1,3 +1,5 @@
+//! What histories of runs are judged by.
+
 use heap_model::{Account, Graph};
 use reply_text::read_history;
 use std::alloc::Global;

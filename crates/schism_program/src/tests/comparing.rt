@@ -1,0 +1,19 @@
+//! What tests say of what they found, each in a call of its own, since a test whose comparisons are calls is proved several times as fast.
+
+use std::fmt::{Debug, Display};
+use std::process::Abort;
+
+/// What was found is what was wanted, at this place of a test.
+pub(super) fn same<T: PartialEq + Debug>(
+    rt: &impl Abort,
+    found: &T,
+    wanted: &T,
+    at: &impl Display,
+) {
+    assert_eq!(rt; found, wanted, "at {at}");
+}
+
+/// What was wanted holds, at this place of a test.
+pub(super) fn holds(rt: &impl Abort, found: bool, at: &impl Display) {
+    assert!(rt; found, "at {at}");
+}

@@ -1,0 +1,65 @@
+//! Histories that are checked, and texts that are none.
+
+use super::comparing::{holds, same};
+use super::{FIRST, ended, illegal, refused};
+use crate::status::Status;
+use script_text::Cause;
+use std::alloc::{AllocError, Global};
+use std::test::Fail;
+
+/// A text that is no history, and the line and the cause.
+const REFUSED: [(&str, u32, Cause); 5] = [
+    ("history 1 play\nheap 1 0 1\n", 3, Cause::NoEnd),
+    (
+        "history 1 play\nheap 1 0 1\nend used 11\n",
+        3,
+        Cause::BadEntry,
+    ),
+    ("history 1 play\nheap 0 0 1\n", 2, Cause::BadHeap),
+    (FIRST, 1, Cause::NoHeader),
+    ("", 1, Cause::NoHeader),
+];
+
+// The history of a seat that made one record and left, and of the cycle that then freed it with the board. The reply in the
+// fourth line says which object was made.
+fn one_made(alloc: Global, id: &str) -> Result<String, AllocError> {
+    format!(in alloc;
+        "history 1 play\nheap 1 0 1\n0 takes 5\n0 new 1 2 = {id}\nspace used 16 of 16 spine 0 of 0\n0 gives back 4\n0 leave = ok\nc phase 1\nc phase 2\nc phase 3\nc phase 4\nc phase 5\nc frees 12\nc phase 6\nc ends 0 kept 0\nend used 0\n"
+    )
+}
+
+// The history of a seat that dropped its record, collected it while four fragments were its own, and left, and of the cycle
+// that freed the board. The twentieth line says how much the first cycle kept.
+fn one_dropped(alloc: Global, kept: u64) -> Result<String, AllocError> {
+    format!(in alloc;
+        "history 1 play\nheap 1 0 1\n0 takes 5\n0 new 1 2 = 0.0\n0 new 2 47 = full need 16 found 4\n0 nil 1 = ok\nc phase 1\n0 answers 1\nc phase 2\n0 answers 2\nc phase 3\n0 answers 3\nc phase 4\n0 answers 4\nc phase 5\n0 answers 5\nc frees 1\nc phase 6\n0 answers 6\nc ends 0 kept {kept}\n0 collect = cycle 0\nspace used 15 of 16 spine 0 of 0\n0 gives back 4\n0 leave = ok\nc phase 8\nc phase 9\nc phase 10\nc phase 11\nc phase 12\nc frees 11\nc phase 13\nc ends 1 kept 0\nend used 0\n"
+    )
+}
+
+#[test]
+fn checks_histories_of_collections(rt: HostRuntime) -> Result<(), Fail> {
+    let alloc = rt.alloc();
+    for (history, status, verdict) in [
+        (one_made(alloc, "0.0")?, Status::Done, "legal 12\n"),
+        (one_made(alloc, "0.1")?, illegal(4), ""),
+        (one_dropped(alloc, 15)?, Status::Done, "legal 29\n"),
+        (one_dropped(alloc, 11)?, Status::Done, "legal 29\n"),
+        (one_dropped(alloc, 10)?, illegal(20), ""),
+        (one_dropped(alloc, 16)?, illegal(20), ""),
+    ] {
+        let (end, told) = ended(&rt, alloc, &["check"], history.as_bytes(), &[], &[])?;
+        same(&rt, &end, &status, &history);
+        same(&rt, &told.as_slice(), &verdict.as_bytes(), &history);
+    }
+    Ok(())
+}
+
+#[test]
+fn checks_no_other_texts(rt: HostRuntime) -> Result<(), Fail> {
+    for (text, line, cause) in REFUSED {
+        let (end, told) = ended(&rt, rt.alloc(), &["check"], text.as_bytes(), &[], &[])?;
+        same(&rt, &end, &refused(line, cause), &text);
+        holds(&rt, told.is_empty(), &text);
+    }
+    Ok(())
+}
