@@ -1,3 +1,5 @@
+//! What the libraries answer, a module for each library but core_rule and locked_heap.
+
 mod checks;
 mod comparing;
 mod histories;
