@@ -1,4 +1,4 @@
-//! What the libraries answer, a module for each library but core_rule and locked_heap.
+//! What the libraries up to log_merge answer to their public calls.
 
 mod checks;
 mod comparing;
