@@ -1,5 +1,7 @@
 //! What tests say of what they found, each in a call of its own, since a test whose comparisons are calls is proved several times as fast.
 
+ghost use Rattle.std.specs.Prelude.{IsTrue};
+
 use std::fmt::{Debug, Display};
 use std::process::Abort;
 
@@ -14,6 +16,8 @@ pub(super) fn same<T: PartialEq + Debug>(
 }
 
 /// What was wanted holds, at this place of a test.
-pub(super) fn holds(rt: &impl Abort, found: bool, at: &impl Display) {
+pub(super) fn holds(rt: &impl Abort, found: bool, at: &impl Display)
+    ensures { IsTrue found }
+{
     assert!(rt; found, "at {at}");
 }
