@@ -6,6 +6,7 @@ use core_machine::Machine;
 use heap_model::{Effect, Entry};
 
 /// Adds entries, for which there is room.
+#[inline(always)]
 fn note_all(list: &mut Vec<Entry>, entries: &[Entry])
     requires { vec_len list.old + length entries.now ≤ vec_capacity list.old }
     ensures items { list.new.items ≡ list.old.items ++ entries.now }
@@ -18,6 +19,7 @@ fn note_all(list: &mut Vec<Entry>, entries: &[Entry])
 }
 
 /// Adds what the party's log has behind its first `before` entries, for which there is room, and takes it from the spare room.
+#[inline(always)]
 pub fn note_since(
     list: &mut Vec<Entry>,
     spare: &mut usize,

@@ -125,7 +125,8 @@ impl Recorder {
         Ok(())
     }
 
-    /// Makes a turn of the collector, for which there is room.
+    /// Makes a turn of the collector, for which there is room. A cycle has thousands of these, and all that one does is a step and some counts.
+    #[inline(always)]
     pub fn turn(&mut self) -> Turn
         requires room { 2 ≤ self.old.spare }
         ensures makes { MakesTurn self.old self.new result }
