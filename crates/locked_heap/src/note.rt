@@ -13,6 +13,10 @@ fn note_all(list: &mut Vec<Entry>, entries: &[Entry])
     ensures len { vec_len list.new ≡ vec_len list.old + length entries.now }
     ensures capacity { vec_capacity list.old ≤ vec_capacity list.new }
 {
+    // (most turns add none)
+    if entries.is_empty() {
+        return;
+    }
     let Ok(()) = list.extend_from_slice(entries) else {
         unreachable!()
     };
