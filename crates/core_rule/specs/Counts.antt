@@ -54,4 +54,4 @@ pub record CountsAgree (g : Graph) (history : List Entry) (number : ℕ) (seat :
 
 -- as many fragments are taken as the history says are in use
 abbrev pub AreUsed : Heap → (ℕ → Owner) → List Entry → Type 0
-AreUsed heap owner history = sum_upto (16 * heap.groups) (λ f. taken_bit (owner f)) + fragments_lost history ≡ fragments_gained history
+AreUsed heap owner history = sum_upto (16 * heap.groups) (λ f. taken_bit (owner f)) + fragments_lost history ≡ fragments_gained heap history

@@ -91,7 +91,7 @@ WholeCallsPlay = (heap : Heap) (state : State) (events : List Event) → IsHeap 
 -- the fragments whose taken bit isn't set are those that are in no use
 abbrev pub FreeIsUnused : Type 0
 FreeIsUnused = (heap : Heap) (state : State) (book : Book) → Rule heap state book
-    → free_count heap state.words + fragments_gained book.history ≡ 16 * heap.groups + fragments_lost book.history
+    → free_count heap state.words + fragments_gained heap book.history ≡ 16 * heap.groups + fragments_lost book.history
 
 -- between calls the budget word is the spine words that are in use, and these are no more than the heap has
 abbrev pub WordsAreUsed : Type 0

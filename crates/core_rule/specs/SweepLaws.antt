@@ -21,4 +21,4 @@ EachEndLeavesLittle = (heap : Heap) (state : State) (events : List Event) (befor
 abbrev pub EachLastCycleEmpties : Type 0
 EachLastCycleEmpties = (heap : Heap) (play : Bool) (before : List Entry) (cycle kept : ℕ) → IsLegal heap play (before ++ Ends cycle kept ∷ [])
     → ((number : ℕ) → number < heap.seats → has_left number (up_to_cycle before) ≡ true)
-    → (fragments_used (before ++ Ends cycle kept ∷ []) ≡ 0) × (words_used (before ++ Ends cycle kept ∷ []) ≡ 0)
+    → (fragments_used heap (before ++ Ends cycle kept ∷ []) ≡ 0) × (words_used (before ++ Ends cycle kept ∷ []) ≡ 0)

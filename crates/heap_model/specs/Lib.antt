@@ -1,6 +1,7 @@
 pub mod account
 pub mod calls
 pub mod graph
+pub mod Board
 pub mod Command
 pub mod Heap
 pub mod Limits

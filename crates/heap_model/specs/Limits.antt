@@ -17,14 +17,6 @@ most_spine = 16384
 abbrev pub most_seats : ℕ
 most_seats = 16
 
--- the fields of the board
-abbrev pub board_fields : ℕ
-board_fields = 32
-
--- the fragments of the board
-abbrev pub board_fragments : ℕ
-board_fragments = 11
-
 -- the registers of a seat
 abbrev pub register_count : ℕ
 register_count = 16

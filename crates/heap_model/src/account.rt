@@ -11,7 +11,6 @@ use crate::fault::{ApplyFault, Memory};
 use crate::graph::Graph;
 use crate::graph::reach::search::Search;
 use crate::heap::Heap;
-use crate::limits::BOARD_FRAGMENTS;
 use std::alloc::Global;
 use std::marker::Model;
 
@@ -125,9 +124,9 @@ impl Account {
 
     /// The fragments in use; 0 where the account is overdrawn.
     pub fn used(&self) -> u64
-        ensures { (history : List Entries) → Tells self.now history → result ≡ fragments_used history }
+        ensures { (history : List Entries) → Tells self.now history → result ≡ fragments_used self.now.heap history }
     {
-        let gained = BOARD_FRAGMENTS as u64 + self.all.taken;
+        let gained = self.heap.board_fragments() as u64 + self.all.taken;
         gained
             .saturating_sub(self.all.given)
             .saturating_sub(self.all.freed)
@@ -135,7 +134,7 @@ impl Account {
 
     /// Whether more fragments were given back and freed than the board has and were taken, so that no count is right.
     pub fn is_overdrawn(&self) -> bool
-        ensures { (history : List Entries) → Tells self.now history → (IsTrue result ↔ (fragments_gained history < fragments_lost history)) }
+        ensures { (history : List Entries) → Tells self.now history → (IsTrue result ↔ (fragments_gained self.now.heap history < fragments_lost history)) }
     {
         self.gained() < self.lost()
     }

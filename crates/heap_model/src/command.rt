@@ -1,6 +1,6 @@
 ghost use Rattle.std.specs.Prelude.{◌≡◌, ◌<◌, ◌^◌, ◌↔◌, IsTrue};
 ghost use Rattle.heap_model.specs.Command.{IsTarget, IsRegister, IsCommand};
-ghost use Rattle.heap_model.specs.Needs.{need_of, spine_need_of};
+ghost use Rattle.heap_model.specs.Needs.{record_fragments, need_of, spine_need_of};
 
 use crate::limits::{LAST_INDEX, LAST_REGISTER, MOST_CELLS, MOST_FIELDS, NUMBER_LIMIT};
 
@@ -46,7 +46,7 @@ impl Command {
         ensures { result ≡ need_of self.now }
     {
         match *self {
-            Command::New { fields, .. } => 1 + (fields.saturating_sub(2) as u32 + 2) / 3,
+            Command::New { fields, .. } => record_fragments(fields),
             Command::Array { cells, .. } => 1 + (cells as u32 + 3) / 4,
             _ => 0,
         }
@@ -61,6 +61,13 @@ impl Command {
             _ => 0,
         }
     }
+}
+
+/// The fragments of a record.
+pub(crate) fn record_fragments(fields: u16) -> u32
+    ensures { result ≡ record_fragments fields }
+{
+    1 + (fields.saturating_sub(2) as u32 + 2) / 3
 }
 
 /// Whether a command may write this register.

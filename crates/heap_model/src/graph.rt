@@ -7,7 +7,6 @@ use crate::graph::object::Object;
 use crate::graph::seat::Seat;
 use crate::heap::Heap;
 use crate::id::Value;
-use crate::limits::BOARD_FIELDS;
 use std::alloc::Global;
 use std::marker::Model;
 
@@ -52,7 +51,7 @@ impl Graph {
         requires { IsHeap heap }
         ensures { IfOk result (λ graph. graph ≡ opening heap) }
     {
-        let board = Object::new(alloc, false, BOARD_FIELDS)?;
+        let board = Object::new(alloc, false, heap.board_fields())?;
         let mut seats = Vec::with_capacity(alloc, heap.seats as usize)?;
         for _seat in 0..heap.seats {
             seats.push(Seat::new(alloc))?;

@@ -1,7 +1,9 @@
 ghost use Rattle.std.specs.Prelude.{◌≡◌, ◌<◌, ◌≤◌};
 ghost use Rattle.std.specs.Option.{SomeIff};
+ghost use Rattle.heap_model.specs.Board.{board_fields, board_fragments};
 ghost use Rattle.heap_model.specs.Heap.{IsHeap};
 
+use crate::command::record_fragments;
 use crate::limits::{MOST_GROUPS, MOST_SEATS, MOST_SPINE};
 
 /// The sizes of a heap: groups of fragments, granted spine words, and seats.
@@ -27,5 +29,19 @@ impl Heap {
         } else {
             None
         }
+    }
+
+    /// The fields of the board.
+    pub fn board_fields(&self) -> u16
+        ensures { result ≡ board_fields self.now }
+    {
+        32
+    }
+
+    /// The fragments of the board.
+    pub fn board_fragments(&self) -> u32
+        ensures { result ≡ board_fragments self.now }
+    {
+        record_fragments(self.board_fields())
     }
 }

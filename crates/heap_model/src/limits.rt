@@ -13,12 +13,6 @@ pub const MOST_SEATS: u8 = 16;
 /// The last seat that a heap may have.
 pub const LAST_SEAT: u8 = 15;
 
-/// The fields of the board.
-pub const BOARD_FIELDS: u16 = 32;
-
-/// The fragments of the board.
-pub const BOARD_FRAGMENTS: u16 = 11;
-
 /// The registers of a seat.
 pub const REGISTER_COUNT: usize = 16;
 

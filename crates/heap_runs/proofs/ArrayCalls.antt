@@ -46,7 +46,7 @@ answers_one_way state number command reply (inr (inr full)) = record {
 module _ (old : Recorded) (new : State) (number : ℕ) (command : Command) (reply : Reply) (answer : AnswersArray old.machine.heap old.machine.state new number command reply) (limits : IsHeap old.machine.heap)
     (used : (at old.machine.heap old.machine.state.words Budget + words_returned old.history ≡ words_granted old.history) × (at old.machine.heap old.machine.state.words Budget ≤ old.machine.heap.spine))
     (had : spent_of number old.history + length (seat_at old.machine.state number).reserve ≡ taken_of number old.history)
-    (free : free_count old.machine.heap old.machine.state.words + fragments_gained old.history ≡ 16 * old.machine.heap.groups + fragments_lost old.history)
+    (free : free_count old.machine.heap old.machine.state.words + fragments_gained old.machine.heap old.history ≡ 16 * old.machine.heap.groups + fragments_lost old.history)
     (next : next_object_id number (seat_at old.machine.state number) ≡ next_id (seat_state_of (play_state_of old) number)) where
   abbrev here : PlayState
   here = play_state_of old

@@ -11,16 +11,16 @@ use Rattle.heap_model.proofs.Histories.{total-more}
 
 module _ (heap : Heap) where
   -- no more fragments are gained than there are and were lost
-  taken_within : (before : List Entry) (entry : Entry) → TakesAndGives heap before entry → fragments_gained before ≤ 16 * heap.groups + fragments_lost before
-      → fragments_gained before + (effect_of entry).taken ≤ 16 * heap.groups + fragments_lost before
+  taken_within : (before : List Entry) (entry : Entry) → TakesAndGives heap before entry → fragments_gained heap before ≤ 16 * heap.groups + fragments_lost before
+      → fragments_gained heap before + (effect_of entry).taken ≤ 16 * heap.groups + fragments_lost before
   taken_within before (entries.Takes number count) takes within = takes.1
   taken_within before _ takes within = omega (arith, within)
 
-  gained_after : (before history : List Entry) → KeepsSpaceAfter heap true before history → fragments_gained before ≤ 16 * heap.groups + fragments_lost before
-      → fragments_gained (before ++ history) ≤ 16 * heap.groups + fragments_lost (before ++ history)
-  gained_after before [] keeps within = subst (λ es. fragments_gained es ≤ 16 * heap.groups + fragments_lost es) (sym (append-nil before)) within
+  gained_after : (before history : List Entry) → KeepsSpaceAfter heap true before history → fragments_gained heap before ≤ 16 * heap.groups + fragments_lost before
+      → fragments_gained heap (before ++ history) ≤ 16 * heap.groups + fragments_lost (before ++ history)
+  gained_after before [] keeps within = subst (λ es. fragments_gained heap es ≤ 16 * heap.groups + fragments_lost es) (sym (append-nil before)) within
   gained_after before (entry ∷ history) keeps within =
-      subst (λ es. fragments_gained es ≤ 16 * heap.groups + fragments_lost es) (append_assoc before (entry ∷ []) history)
+      subst (λ es. fragments_gained heap es ≤ 16 * heap.groups + fragments_lost es) (append_assoc before (entry ∷ []) history)
       (gained_after (before ++ entry ∷ []) history keeps.1 (omega (
         arith,
         taken_within before entry keeps.0.takes within,
@@ -29,7 +29,7 @@ module _ (heap : Heap) where
         total-more (λ e. e.freed) before entry,
       )))
 
-  pub gained_within : (history : List Entry) → 1 ≤ heap.groups → IsLegal heap true history → fragments_gained history ≤ 16 * heap.groups + fragments_lost history
+  pub gained_within : (history : List Entry) → 1 ≤ heap.groups → IsLegal heap true history → fragments_gained heap history ≤ 16 * heap.groups + fragments_lost history
   gained_within history some legal = gained_after [] history legal.space (omega (arith, some))
 
   -- no more spine words are returned than were granted

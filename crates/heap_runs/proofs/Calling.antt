@@ -67,8 +67,8 @@ answers_call unused words old new number command reply s between may calls =
     let present : seat.left ≡ false = sym (gone_is heap state old.history s number may.within idle) ∙ may.present in
     let had = own_reserve heap state old.history s number may.within idle in
     let last_is = answered_last heap state old.history s number may.within idle in
-    let free : free_count heap state.words + fragments_gained old.history ≡ 16 * heap.groups + fragments_lost old.history
-    = subst (λ es. free_count heap state.words + fragments_gained es ≡ 16 * heap.groups + fragments_lost es) s.grown (unused heap state s.book s.stands.rule) in
+    let free : free_count heap state.words + fragments_gained heap old.history ≡ 16 * heap.groups + fragments_lost old.history
+    = subst (λ es. free_count heap state.words + fragments_gained heap es ≡ 16 * heap.groups + fragments_lost es) s.grown (unused heap state s.book s.stands.rule) in
     let next : next_object_id number seat ≡ next_id (seat_state_of (play_state_of old) number) = ap (heap_ids.Made number) (made_is heap state old.history s number may.within idle) in
     record {
       adds = record {
@@ -101,7 +101,7 @@ answers_call unused words old new number command reply s between may calls =
 
     enough_where_made : AnswersNew old.machine.heap old.machine.state new.machine.state number command reply → reply ≡ Made (next_id (seat_state_of (play_state_of old) number))
         → spent_of number old.history + length (seat_at old.machine.state number).reserve ≡ taken_of number old.history
-        → free_count old.machine.heap old.machine.state.words + fragments_gained old.history ≡ 16 * old.machine.heap.groups + fragments_lost old.history
+        → free_count old.machine.heap old.machine.state.words + fragments_gained old.machine.heap old.history ≡ 16 * old.machine.heap.groups + fragments_lost old.history
         → IsEnough (play_state_of old) number command
     enough_where_made answer made had free = elim (leb_tells (need_of command) (within_reach old.machine.heap old.machine.state number)) [
       | inl enough ↦ (let e = enough.1 in omega (arith, e, had, free))

@@ -25,15 +25,15 @@ use Rattle.heap_runs.proofs.Bounds.{returned_within}
 use Rattle.heap_runs.proofs.Following.{follows_cycle}
 
 -- what is in use by the heap's entries is so by the history
-shows_use : TurnedCountNothing → (heap : Heap) (state : PlayState) (history : List Entry) (used : ℕ) → Follows heap state history → ShowsUse state.entries used → ShowsUse history used
+shows_use : TurnedCountNothing → (heap : Heap) (state : PlayState) (history : List Entry) (used : ℕ) → Follows heap state history → ShowsUse heap state.entries used → ShowsUse heap history used
 shows_use counts heap state history used follows shows =
     let stay = counts history in
-    let same = subst (λ es. ShowsUse es used) (sym follows.same) shows in
-    omega (arith, same, stay.gained_stay, stay.lost_stay)
+    let same = subst (λ es. ShowsUse heap es used) (sym follows.same) shows in
+    omega (arith, same, stay.gained_stay heap, stay.lost_stay)
 
 -- no fragment and no spine word is in use where the last cycle began after every seat had left
 none_used : EachLastCycleEmpties → (heap : Heap) (told turned : List Entry) → IsPlayed heap (told ++ turned) → ((number : ℕ) → number < heap.seats → has_left number told ≡ true) → IsLastCycle turned
-    → (fragments_lost (told ++ turned) ≡ fragments_gained (told ++ turned)) × (words_returned (told ++ turned) ≡ words_granted (told ++ turned))
+    → (fragments_lost (told ++ turned) ≡ fragments_gained heap (told ++ turned)) × (words_returned (told ++ turned) ≡ words_granted (told ++ turned))
 none_used empties heap told turned played gone cycle =
     let last = cycle.last in
     let ending : List Entry = Ends last.cycle last.kept ∷ [] in
@@ -44,13 +44,13 @@ none_used empties heap told turned played gone cycle =
     = λ number under. ap (has_left number) (up_to_last_later begins_cycle before last.steps last.begins)
     ∙ left_still number before (up_to_cycle last.steps) (left_still number told cycle.under_way (gone number under)) in
     let empty = empties heap true (before ++ last.steps) last.cycle last.kept (subst (IsLegal heap true) all played.legal) left in
-    (omega (arith, ap fragments_used all, empty.0, played.none_short), omega (arith, ap words_used all, empty.1, returned_within heap (told ++ turned) played.legal))
+    (omega (arith, ap (fragments_used heap) all, empty.0, played.none_short), omega (arith, ap words_used all, empty.1, returned_within heap (told ++ turned) played.legal))
 
 -- the whole play: the script was answered, the seats have left, and a last cycle was made
 pub whole_play : TurnedMayStand → TurnedCountNothing → EachLastCycleEmpties → (paced : Bool) (script : Script) (middle gone last : PlayState) (front between entries : List Entry) (mark : SpaceMark) (used : ℕ) (told : History)
     → HasAnsweredLines script.heap middle front script.lines → EndsAtLine paced front → HaveLeft script.heap gone front between script.heap.seats → NotesLastCycle gone last between entries → IsPlayed script.heap middle.entries → IsPlayed script.heap last.entries
-    → mark.before ≡ length front → ShowsUse middle.entries mark.used → mark.total ≡ 16 * script.heap.groups → mark.spine + words_returned middle.entries ≡ words_granted middle.entries → mark.budget ≡ script.heap.spine
-    → ShowsUse last.entries used → told ≡ record { form = forms.Play; heap = script.heap; entries = entries; mark = Some mark; end_used = used } → IsPlay paced script told
+    → mark.before ≡ length front → ShowsUse script.heap middle.entries mark.used → mark.total ≡ 16 * script.heap.groups → mark.spine + words_returned middle.entries ≡ words_granted middle.entries → mark.budget ≡ script.heap.spine
+    → ShowsUse script.heap last.entries used → told ≡ record { form = forms.Play; heap = script.heap; entries = entries; mark = Some mark; end_used = used } → IsPlay paced script told
 whole_play stand counts empties paced script middle gone last front between entries mark used told answered at_line left notes played_middle played_last before in_use total spine budget at_end is =
     let leaving : List Entry = flat_map (λ number. leave_entries number (left.left number)) (range_with_len 0 script.heap.seats) in
     let all : entries ≡ front ++ (leaving ++ notes.turned) = notes.noted ∙ ap (λ es. es ++ notes.turned) left.leaves ∙ append_assoc front leaving notes.turned in
@@ -76,7 +76,7 @@ whole_play stand counts empties paced script middle gone last front between entr
         mark = rw front_is shown;
         end_used = end_shown;
       };
-      none_used = omega (arith, at_end, ap fragments_lost notes.told, ap fragments_gained notes.told, empty.0);
+      none_used = omega (arith, at_end, ap fragments_lost notes.told, ap (fragments_gained script.heap) notes.told, empty.0);
       all_returned = sym last_counts.returned_stay ∙ ap words_returned follows.same ∙ ap words_returned notes.told ∙ empty.1 ∙ sym (ap words_granted notes.told) ∙ sym (ap words_granted follows.same) ∙ last_counts.granted_stay;
       parted = record {
         commands = ap (flat_map lines_answered) front_is ∙ answered.commands;

@@ -39,7 +39,7 @@ pub record PlayState : Type 0 where
 -- the entries are legal as a play; no more fragments were lost than gained, and no more spine words are in use than the heap has
 pub record IsPlayed (heap : Heap) (entries : List Entry) : Type 0 where
   pub legal : IsLegal heap true entries
-  pub none_short : fragments_lost entries ≤ fragments_gained entries
+  pub none_short : fragments_lost entries ≤ fragments_gained heap entries
   pub words_fit : words_granted entries ≤ heap.spine + words_returned entries
 
 -- what contracts see of a seat of it, by the entries of all
@@ -66,7 +66,7 @@ pub record MayCall (state : PlayState) (number : ℕ) (command : Command) : Type
 -- what is in no use and what the seat has of its own is enough for the command
 abbrev pub IsEnough : PlayState → ℕ → Command → Type 0
 IsEnough state number command =
-    need_of command + fragments_gained state.entries + spent_of number state.entries ≤ group_fragments * state.heap.groups + fragments_lost state.entries + taken_of number state.entries
+    need_of command + fragments_gained state.heap state.entries + spent_of number state.entries ≤ group_fragments * state.heap.groups + fragments_lost state.entries + taken_of number state.entries
 
 -- the array's spine words are more than the heap has beside those in use
 abbrev pub LacksWords : PlayState → Command → Type 0

@@ -1,5 +1,5 @@
 -- A run all of whose seats have left, and whose last cycle has ended.
-use Rattle.std.proofs.Common.{◌≡◌, ℕ, ◌<◌, true, false, List, [], ◌∷◌, ◌++◌, map, take, sym, ap, subst, ◌∙◌, append_assoc, arith}
+use Rattle.std.proofs.Common.{◌≡◌, ℕ, ◌<◌, ◌≤◌, true, false, List, [], ◌∷◌, ◌++◌, map, take, sym, ap, subst, ◌∙◌, append_assoc, arith}
 use Rattle.std.specs.List.{range_with_len}
 use Rattle.std.proofs.lemmas.List.{take_all}
 use Rattle.heap_model.specs.declared.command.Command.{Command}
@@ -62,21 +62,21 @@ ends_empty runs given old new run all gone ends legal =
     }
 
 -- nothing is in use
-record NoneUsed (told : List Entry) : Type 0 where
-  pub fragments : fragments_lost told ≡ fragments_gained told
+record NoneUsed (heap : Heap) (told : List Entry) : Type 0 where
+  pub fragments : fragments_lost told ≡ fragments_gained heap told
   pub words : words_returned told ≡ words_granted told
 
 none_used : EveryRunKeeps → WordsAreUsed → EachLastCycleEmpties → (given : Given) (locked : LockedValue) → IsRunFrom given locked.recorded
-    → IsLegal given.heap false locked.recorded.history → EndsEmpty given.heap locked.recorded.history → NoneUsed locked.recorded.history
+    → IsLegal given.heap false locked.recorded.history → EndsEmpty given.heap locked.recorded.history → NoneUsed given.heap locked.recorded.history
 none_used runs words empties given locked run legal ends =
     let told = locked.recorded.history in
     let heap = locked.recorded.machine.heap in
     let state = locked.recorded.machine.state in
     let s = run_stands given locked.recorded run runs in
-    let short = none_short heap state told s in
+    let short = subst (λ (h : Heap). fragments_lost told ≤ fragments_gained h told) run.of_heap (none_short heap state told s) in
     let granted = words_told heap state told s words run.led.all_idle in
     let none = empties given.heap false ends.before ends.cycle ends.kept (subst (IsLegal given.heap false) ends.last legal) ends.left in
-    let none_left : fragments_used told ≡ 0 = ap fragments_used ends.last ∙ none.0 in
+    let none_left : fragments_used given.heap told ≡ 0 = ap (fragments_used given.heap) ends.last ∙ none.0 in
     let no_words : words_used told ≡ 0 = ap words_used ends.last ∙ none.1 in
     record { fragments = omega (arith, short, none_left); words = omega (arith, granted.0, no_words) }
 

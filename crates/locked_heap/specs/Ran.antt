@@ -33,7 +33,7 @@ pub record IsRun (given : Given) (ran : LockedRan) : Type 0 where
   pub legal : IsLegal given.heap false ran.history.items
   pub commands : (number : ℕ) → number < given.heap.seats → commands_told number ran.history.items ≡ script_of given number ++ Leave ∷ []
   pub last_cycle : EndsEmpty given.heap ran.history.items
-  pub used : ran.end_used + fragments_lost ran.history.items ≡ fragments_gained ran.history.items
+  pub used : ran.end_used + fragments_lost ran.history.items ≡ fragments_gained given.heap ran.history.items
   pub none_used : ran.end_used ≡ 0
   pub all_returned : words_returned ran.history.items ≡ words_granted ran.history.items
   pub counts : ran.waits.items ≡ map (λ number. (seat_at (state_after_all given.heap given.opening events) number).looks.waits) (range_with_len 0 given.heap.seats)

@@ -132,7 +132,7 @@ lines-from_IsLegalHistory history legal =
     (rw (entries_of-marked history.mark history.entries) legal.end_used, tt)
 
 -- and so is a history whose lines before the last are right, and whose last shows what is in use
-pub IsLegalHistory-from_lines : (history : History) → KeepLines history.form history.heap [] (lines_with_mark history.mark history.entries) → ShowsUse history.entries history.end_used → IsLegalHistory history
+pub IsLegalHistory-from_lines : (history : History) → KeepLines history.form history.heap [] (lines_with_mark history.mark history.entries) → ShowsUse history.heap history.entries history.end_used → IsLegalHistory history
 IsLegalHistory-from_lines history kept shows = record {
   entries = AreLegal-from_marked history.form history.heap history.mark history.entries kept;
   mark = ShowsAtMark-from_marked history.form history.heap history.mark history.entries kept;

@@ -17,12 +17,12 @@ AreLegal Play heap entries = IsLegal heap true entries
 AreLegal Run heap entries = IsObjectLegal heap entries
 
 -- so many fragments are in use after these entries; there is no such number where more were lost than gained
-abbrev pub ShowsUse : List Entry → ℕ → Type 0
-ShowsUse entries used = used + fragments_lost entries ≡ fragments_gained entries
+abbrev pub ShowsUse : Heap → List Entry → ℕ → Type 0
+ShowsUse heap entries used = used + fragments_lost entries ≡ fragments_gained heap entries
 
 -- the mark shows the counts after these entries
 pub record ShowsCounts (heap : Heap) (entries : List Entry) (mark : SpaceMark) : Type 0 where
-  pub used : ShowsUse entries mark.used
+  pub used : ShowsUse heap entries mark.used
   pub total : mark.total ≡ group_fragments * heap.groups
   pub spine : mark.spine + words_returned entries ≡ words_granted entries
   pub budget : mark.budget ≡ heap.spine
@@ -36,4 +36,4 @@ ShowsAtMark heap entries (Some mark) = ShowsCounts heap (take mark.before entrie
 pub record IsLegalHistory (history : History) : Type 0 where
   pub entries : AreLegal history.form history.heap history.entries
   pub mark : ShowsAtMark history.heap history.entries history.mark
-  pub end_used : ShowsUse history.entries history.end_used
+  pub end_used : ShowsUse history.heap history.entries history.end_used

@@ -37,7 +37,7 @@ abbrev pub KeepsLine : Form → Heap → List Entry → HistoryLine → Type 0
 KeepsLine form heap before (lines.Entry entry) = KeepsEntry form heap before entry
 KeepsLine form heap before (lines.Space used total spine budget) =
     ShowsCounts heap before (record { before = length before; used = used; total = total; spine = spine; budget = budget })
-KeepsLine form heap before (lines.End used) = ShowsUse before used
+KeepsLine form heap before (lines.End used) = ShowsUse heap before used
 
 -- each line is right after these entries and the lines before it
 abbrev pub KeepLines : Form → Heap → List Entry → List HistoryLine → Type 0

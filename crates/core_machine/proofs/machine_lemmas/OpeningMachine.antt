@@ -58,19 +58,19 @@ addressed heap i within = elim (eqb_tells i 0) [
   ]
 ]
 
-board_small : (i : ℕ) → get_or board i 0 < 2 ^ 16
-board_small zero = omega arith
-board_small (suc zero) = omega arith
-board_small (suc (suc zero)) = omega arith
-board_small (suc (suc (suc zero))) = omega arith
-board_small (suc (suc (suc (suc zero)))) = omega arith
-board_small (suc (suc (suc (suc (suc zero))))) = omega arith
-board_small (suc (suc (suc (suc (suc (suc zero)))))) = omega arith
-board_small (suc (suc (suc (suc (suc (suc (suc zero))))))) = omega arith
-board_small (suc (suc (suc (suc (suc (suc (suc (suc zero)))))))) = omega arith
-board_small (suc (suc (suc (suc (suc (suc (suc (suc (suc zero))))))))) = omega arith
-board_small (suc (suc (suc (suc (suc (suc (suc (suc (suc (suc zero)))))))))) = omega arith
-board_small (suc (suc (suc (suc (suc (suc (suc (suc (suc (suc (suc i))))))))))) = omega arith
+board_small : (heap : Heap) (i : ℕ) → get_or (board heap) i 0 < 2 ^ 16
+board_small heap zero = omega arith
+board_small heap (suc zero) = omega arith
+board_small heap (suc (suc zero)) = omega arith
+board_small heap (suc (suc (suc zero))) = omega arith
+board_small heap (suc (suc (suc (suc zero)))) = omega arith
+board_small heap (suc (suc (suc (suc (suc zero))))) = omega arith
+board_small heap (suc (suc (suc (suc (suc (suc zero)))))) = omega arith
+board_small heap (suc (suc (suc (suc (suc (suc (suc zero))))))) = omega arith
+board_small heap (suc (suc (suc (suc (suc (suc (suc (suc zero)))))))) = omega arith
+board_small heap (suc (suc (suc (suc (suc (suc (suc (suc (suc zero))))))))) = omega arith
+board_small heap (suc (suc (suc (suc (suc (suc (suc (suc (suc (suc zero)))))))))) = omega arith
+board_small heap (suc (suc (suc (suc (suc (suc (suc (suc (suc (suc (suc i))))))))))) = omega arith
 
 -- each word at the opening is a word
 opening_wide : (heap : Heap) (a : Address) → opening_word heap a < 2 ^ 64
@@ -80,7 +80,7 @@ opening_wide heap Budget = omega arith
 opening_wide heap Spot = omega arith
 opening_wide heap (Control group) = elim (eqb_tells group 0) as (λ _. opening_word heap (Control group) < 2 ^ 64) [ inl first ↦ rw first.0 (omega arith) | inr later ↦ rw later.0 (omega arith) ]
 opening_wide heap (Word fragment part) = elim (leb_tells (suc fragment) 11) as (λ _. opening_word heap (Word fragment part) < 2 ^ 64) [
-  | inl of_board ↦ rw of_board.0 (record_wide board_name 32 board fragment part (omega arith) (omega arith) (omega arith) board_small)
+  | inl of_board ↦ rw of_board.0 (record_wide board_name 32 (board heap) fragment part (omega arith) (omega arith) (omega arith) (board_small heap))
   | inr free ↦ rw free.0 (omega arith)
 ]
 opening_wide heap (Spine half offset) = omega arith

@@ -14,7 +14,7 @@ use Rattle.core_machine.specs.declared.table.address.Address.{Address}
 use Rattle.core_machine.specs.declared.table.address.Address.TheVariants.{Phase, Answer, Budget, Spot, Control, Word, Spine}
 use Rattle.core_machine.specs.table.Layout.{table_length, index_of, InTable, at, put}
 use Rattle.heap_words.specs.Newborn.{record_word_of}
-use Rattle.core_machine.specs.machine.Opening.{board, board_name, board_group, opening_word, opening_seat, with_left, with_board}
+use Rattle.core_machine.specs.machine.Opening.{board, board_name, board_word, board_group, opening_word, opening_seat, with_left, with_board}
 use Rattle.core_machine.specs.seat.Seat.{Seat, absent_seat}
 use Rattle.core_machine.specs.declared.seat.register.Register.TheVariants.{Nil, Object}
 use Rattle.heap_model.specs.declared.id.Id.TheVariants.{Board}
@@ -55,39 +55,39 @@ with_left-more heap words n (Word fragment part) word table past within there is
 with_left-more heap words n (Spine half offset) word table past within there is = at-put_other heap words (Answer n) (Spine half offset) LEFT within there (λ e. cc) ∙ is
 
 -- the next of the board's words
-abbrev pub next_word : ℕ → ℕ
-next_word place = record_word_of board_name 32 board (place / 4) (place % 4)
+abbrev pub next_word : Heap → ℕ → ℕ
+next_word heap place = board_word heap (place / 4) (place % 4)
 
 -- another word isn't
-with_board-other : (fragment part place word : ℕ) → 4 * fragment + part ≢ place
-    → with_board place (Word fragment part) word ≡ with_board (place + 1) (Word fragment part) word
-with_board-other fragment part place word other =
-    elim (leb_tells (suc (4 * fragment + part)) place) as (λ _. with_board place (Word fragment part) word ≡ with_board (place + 1) (Word fragment part) word) [
+with_board-other : (heap : Heap) (fragment part place word : ℕ) → 4 * fragment + part ≢ place
+    → with_board heap place (Word fragment part) word ≡ with_board heap (place + 1) (Word fragment part) word
+with_board-other heap fragment part place word other =
+    elim (leb_tells (suc (4 * fragment + part)) place) as (λ _. with_board heap place (Word fragment part) word ≡ with_board heap (place + 1) (Word fragment part) word) [
       | inl below ↦ rw (below.0, lt-ltb (4 * fragment + part) (place + 1) (omega arith)) refl
       | inr above ↦ rw (above.0, le-ltb (4 * fragment + part) (place + 1) (omega arith)) refl
     ]
 
 pub with_board-more : (heap : Heap) (words : List ℕ) (place : ℕ) (a : Address) (word : ℕ) → length words ≡ table_length heap → 1 ≤ heap.groups → place < 44
-    → InTable heap a → at heap words a ≡ with_board place a word
-    → at heap (put heap words (Word (place / 4) (place % 4)) (next_word place)) a ≡ with_board (place + 1) a word
+    → InTable heap a → at heap words a ≡ with_board heap place a word
+    → at heap (put heap words (Word (place / 4) (place % 4)) (next_word heap place)) a ≡ with_board heap (place + 1) a word
 with_board-more heap words place (Word fragment part) word table some within there is =
-    elim (eqb_tells (4 * fragment + part) place) as (λ _. at heap (put heap words (Word (place / 4) (place % 4)) (next_word place)) (Word fragment part) ≡ with_board (place + 1) (Word fragment part) word) [
+    elim (eqb_tells (4 * fragment + part) place) as (λ _. at heap (put heap words (Word (place / 4) (place % 4)) (next_word heap place)) (Word fragment part) ≡ with_board heap (place + 1) (Word fragment part) word) [
       | inl here ↦
           let f : place / 4 ≡ fragment = omega arith in
           let p : place % 4 ≡ part = omega arith in
           let now : ltb (4 * fragment + part) (place + 1) ≡ true = lt-ltb (4 * fragment + part) (place + 1) (omega arith) in
-          rw (f, p, now) (at-put_same heap words (Word fragment part) (record_word_of board_name 32 board fragment part) table there)
+          rw (f, p, now) (at-put_same heap words (Word fragment part) (board_word heap fragment part) table there)
       | inr other ↦
-          at-put_other heap words (Word (place / 4) (place % 4)) (Word fragment part) (next_word place) (omega arith, omega arith) there
+          at-put_other heap words (Word (place / 4) (place % 4)) (Word fragment part) (next_word heap place) (omega arith, omega arith) there
           (λ same. other.1 (let f : fragment ≡ place / 4 = cc in let p : part ≡ place % 4 = cc in omega arith))
-          ∙ is ∙ with_board-other fragment part place word other.1
+          ∙ is ∙ with_board-other heap fragment part place word other.1
     ]
-with_board-more heap words place (Answer number) word table some within there is = at-put_other heap words (Word (place / 4) (place % 4)) (Answer number) (next_word place) (omega arith, omega arith) there (λ e. cc) ∙ is
-with_board-more heap words place Phase word table some within there is = at-put_other heap words (Word (place / 4) (place % 4)) Phase (next_word place) (omega arith, omega arith) tt (λ e. cc) ∙ is
-with_board-more heap words place Budget word table some within there is = at-put_other heap words (Word (place / 4) (place % 4)) Budget (next_word place) (omega arith, omega arith) tt (λ e. cc) ∙ is
-with_board-more heap words place Spot word table some within there is = at-put_other heap words (Word (place / 4) (place % 4)) Spot (next_word place) (omega arith, omega arith) tt (λ e. cc) ∙ is
-with_board-more heap words place (Control group) word table some within there is = at-put_other heap words (Word (place / 4) (place % 4)) (Control group) (next_word place) (omega arith, omega arith) there (λ e. cc) ∙ is
-with_board-more heap words place (Spine half offset) word table some within there is = at-put_other heap words (Word (place / 4) (place % 4)) (Spine half offset) (next_word place) (omega arith, omega arith) there (λ e. cc) ∙ is
+with_board-more heap words place (Answer number) word table some within there is = at-put_other heap words (Word (place / 4) (place % 4)) (Answer number) (next_word heap place) (omega arith, omega arith) there (λ e. cc) ∙ is
+with_board-more heap words place Phase word table some within there is = at-put_other heap words (Word (place / 4) (place % 4)) Phase (next_word heap place) (omega arith, omega arith) tt (λ e. cc) ∙ is
+with_board-more heap words place Budget word table some within there is = at-put_other heap words (Word (place / 4) (place % 4)) Budget (next_word heap place) (omega arith, omega arith) tt (λ e. cc) ∙ is
+with_board-more heap words place Spot word table some within there is = at-put_other heap words (Word (place / 4) (place % 4)) Spot (next_word heap place) (omega arith, omega arith) tt (λ e. cc) ∙ is
+with_board-more heap words place (Control group) word table some within there is = at-put_other heap words (Word (place / 4) (place % 4)) (Control group) (next_word heap place) (omega arith, omega arith) there (λ e. cc) ∙ is
+with_board-more heap words place (Spine half offset) word table some within there is = at-put_other heap words (Word (place / 4) (place % 4)) (Spine half offset) (next_word heap place) (omega arith, omega arith) there (λ e. cc) ∙ is
 
 -- a list of one number reads as that number, and so it does past its end
 read_same : (n i number : ℕ) → get_or (replicate n number) i number ≡ number
@@ -114,32 +114,32 @@ between heap left a spot group some within apart away =
 module _ (heap : Heap) (zeros left words : List ℕ) (some : 1 ≤ heap.groups) (table : length left ≡ table_length heap) where
   -- the words, once all is written, are those of the opening
   pub opens : (a : Address) → InTable heap a → at heap zeros a ≡ 0 → at heap left a ≡ with_left heap 16 a (at heap zeros a)
-      → at heap words a ≡ with_board 44 a (at heap (put heap (put heap left Spot spot_word_of) (Control 0) board_group) a)
+      → at heap words a ≡ with_board heap 44 a (at heap (put heap (put heap left Spot spot_word_of) (Control 0) (board_group heap)) a)
       → at heap words a ≡ opening_word heap a
-  opens Phase within zero left_is is = is ∙ between heap left Phase spot_word_of board_group some within (λ e. cc) (λ e. cc) ∙ left_is ∙ zero
-  opens Budget within zero left_is is = is ∙ between heap left Budget spot_word_of board_group some within (λ e. cc) (λ e. cc) ∙ left_is ∙ zero
-  opens (Spine half offset) within zero left_is is = is ∙ between heap left (Spine half offset) spot_word_of board_group some within (λ e. cc) (λ e. cc) ∙ left_is ∙ zero
+  opens Phase within zero left_is is = is ∙ between heap left Phase spot_word_of (board_group heap) some within (λ e. cc) (λ e. cc) ∙ left_is ∙ zero
+  opens Budget within zero left_is is = is ∙ between heap left Budget spot_word_of (board_group heap) some within (λ e. cc) (λ e. cc) ∙ left_is ∙ zero
+  opens (Spine half offset) within zero left_is is = is ∙ between heap left (Spine half offset) spot_word_of (board_group heap) some within (λ e. cc) (λ e. cc) ∙ left_is ∙ zero
   opens Spot within zero left_is is =
-      is ∙ at-put_other heap (put heap left Spot spot_word_of) (Control 0) Spot board_group some tt (λ e. cc) ∙ at-put_same heap left Spot spot_word_of table tt
+      is ∙ at-put_other heap (put heap left Spot spot_word_of) (Control 0) Spot (board_group heap) some tt (λ e. cc) ∙ at-put_same heap left Spot spot_word_of table tt
   opens (Answer number) within zero left_is is =
-      is ∙ between heap left (Answer number) spot_word_of board_group some within (λ e. cc) (λ e. cc) ∙ left_is ∙ answers number zero within
+      is ∙ between heap left (Answer number) spot_word_of (board_group heap) some within (λ e. cc) (λ e. cc) ∙ left_is ∙ answers number zero within
     where
       answers : (number : ℕ) → at heap zeros (Answer number) ≡ 0 → number < 16 → with_left heap 16 (Answer number) (at heap zeros (Answer number)) ≡ opening_word heap (Answer number)
       answers number zero within = rw (zero, lt-ltb number 16 within) refl
   opens (Control group) within zero left_is is =
       elim (eqb_tells group 0) as (λ _. at heap words (Control group) ≡ opening_word heap (Control group)) [
-        | inl here ↦ rw here.0 (is ∙ ap (λ (g : ℕ). at heap (put heap (put heap left Spot spot_word_of) (Control 0) board_group) (Control g)) here.1 ∙ at-put_same heap (put heap left Spot spot_word_of) (Control 0) board_group (length-put heap left Spot spot_word_of ∙ table) some)
-        | inr other ↦ rw other.0 (is ∙ between heap left (Control group) spot_word_of board_group some within (λ e. cc) (λ same. other.1 (cc same)) ∙ left_is ∙ zero)
+        | inl here ↦ rw here.0 (is ∙ ap (λ (g : ℕ). at heap (put heap (put heap left Spot spot_word_of) (Control 0) (board_group heap)) (Control g)) here.1 ∙ at-put_same heap (put heap left Spot spot_word_of) (Control 0) (board_group heap) (length-put heap left Spot spot_word_of ∙ table) some)
+        | inr other ↦ rw other.0 (is ∙ between heap left (Control group) spot_word_of (board_group heap) some within (λ e. cc) (λ same. other.1 (cc same)) ∙ left_is ∙ zero)
       ]
   opens (Word fragment part) within zero left_is is =
-      let rest = between heap left (Word fragment part) spot_word_of board_group some within (λ e. cc) (λ e. cc) ∙ left_is ∙ zero in
+      let rest = between heap left (Word fragment part) spot_word_of (board_group heap) some within (λ e. cc) (λ e. cc) ∙ left_is ∙ zero in
       elim (leb_tells (suc fragment) 11) as (λ _. at heap words (Word fragment part) ≡ opening_word heap (Word fragment part)) [
         | inl board_ ↦ rw board_.0 (is ∙ rw (lt-ltb (4 * fragment + part) 44 (omega arith)) refl)
         | inr past ↦ rw past.0 (is ∙ rw (le-ltb (4 * fragment + part) 44 (omega arith)) rest)
       ]
 
 -- the board's fragments are the heap's
-board_within : (heap : Heap) → 1 ≤ heap.groups → AreFragments heap board
+board_within : (heap : Heap) → 1 ≤ heap.groups → AreFragments heap (board heap)
 board_within heap some = list 11 0 (omega arith) where
   list : (n from : ℕ) → from + n ≤ 11 → All (λ fragment. fragment < 16 * heap.groups) (range_with_len from n)
   list Prim.Native.Nat.zero from few = All-nil (λ fragment. fragment < 16 * heap.groups)
@@ -155,7 +155,7 @@ opening_leads heap limits (Control group) there = tt
 opening_leads heap limits (Spine half offset) there = omega (arith, limits.some_group)
 opening_leads heap limits (Word f part) there =
     elim (leb_tells (suc f) 11) as (λ _. IsWithinHeap heap (pointer_in part (opening_word heap (Word f part)))) [
-      | inl board_ ↦ rw board_.0 (record_leads heap board_name 32 board f part (omega arith) (omega arith) (omega arith) (omega (arith, limits.some_group)) (omega (arith, limits.groups_fit)) (board_within heap limits.some_group))
+      | inl board_ ↦ rw board_.0 (record_leads heap board_name 32 (board heap) f part (omega arith) (omega arith) (omega arith) (omega (arith, limits.some_group)) (omega (arith, limits.groups_fit)) (board_within heap limits.some_group))
       | inr past ↦ rw past.0 (zero_leads heap part)
     ]
 

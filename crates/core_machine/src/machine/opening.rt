@@ -1,6 +1,7 @@
 ghost use Rattle.std.specs.Prelude.{◌≡◌, ℕ, ◌+◌, ◌*◌, ◌<◌, ◌≤◌, ◌^◌, length, map, replicate, All, IfOk};
 ghost use Rattle.std.specs.List.{range_with_len};
-ghost use Rattle.heap_model.specs.Limits.{board_fragments, most_seats};
+ghost use Rattle.heap_model.specs.Board.{board_fragments};
+ghost use Rattle.heap_model.specs.Limits.{most_seats};
 ghost use Rattle.core_machine.specs.declared.table.address.Address.{Address};
 ghost use Rattle.heap_model.specs.Heap.{IsHeap};
 ghost use Rattle.core_machine.specs.table.Layout.{at, InTable, table_length};
@@ -11,13 +12,13 @@ use crate::machine::Machine;
 use crate::seat::SeatParty;
 use crate::table::address::Address;
 use crate::table::words::store;
-use heap_model::limits::{BOARD_FIELDS, BOARD_FRAGMENTS, MOST_SEATS};
+use heap_model::limits::MOST_SEATS;
 use heap_model::{Heap, Memory};
 use heap_words::{Group, LEFT, Name, Newborn, Spot};
 use std::alloc::Global;
 
-/// The board's fragments.
-const BOARD: [u16; 11] = [0, 1, 2, 3, 4, 5, 6, 7, 8, 9, 10];
+/// The fragments of the first group, the first of which are the board's.
+const FIRST_GROUP: [u16; 16] = [0, 1, 2, 3, 4, 5, 6, 7, 8, 9, 10, 11, 12, 13, 14, 15];
 
 impl Machine {
     /// The machine of a heap that opens.
@@ -73,9 +74,10 @@ fn write_opening(words: &mut [u64], heap: &Heap)
     leave_without_seats(words, heap);
     let spot = Spot { half: 0, offset: 0 };
     store(words, heap, Address::Spot, spot.pack());
+    let bits = u16::MAX >> (16 - heap.board_fragments());
     let board = Group {
-        taken: 2047,
-        born: 2047,
+        taken: bits,
+        born: bits,
         marked: 0,
         scanned: 0,
     };
@@ -100,14 +102,15 @@ fn store_board(words: &mut [u64], heap: &Heap)
     requires limits { IsHeap heap.now }
     requires table { length words.old ≡ table_length heap.now }
     ensures table { length words.new ≡ table_length heap.now }
-    ensures board { (a : Address) → InTable heap.now a → at heap.now words.new a ≡ with_board (4 * board_fragments) a (at heap.now words.old a) }
+    ensures board { (a : Address) → InTable heap.now a → at heap.now words.new a ≡ with_board heap.now (4 * board_fragments heap.now) a (at heap.now words.old a) }
 {
+    let fragments = heap.board_fragments() as u16;
     let board = Newborn {
         name: Name { owner: 0, count: 0 },
-        fields: BOARD_FIELDS,
-        fragments: &BOARD,
+        fields: heap.board_fields(),
+        fragments: &FIRST_GROUP[..fragments as usize],
     };
-    for place in 0..4 * BOARD_FRAGMENTS {
+    for place in 0..4 * fragments {
         let fragment = place / 4;
         let part = (place % 4) as u8;
         let word = board.word(fragment as usize, part);

@@ -48,7 +48,7 @@ module _ (heap : Heap) (owner : ℕ → Owner) (history : List Entry) (number : 
     claim_none none = omega (arith, used, claim_sum, none)
 
     -- they are no more than what is in no use
-    pub claim_room : fragments_gained history + length fs ≤ 16 * heap.groups + fragments_lost history
+    pub claim_room : fragments_gained heap history + length fs ≤ 16 * heap.groups + fragments_lost history
     claim_room = omega (arith, free_unused heap owner history used, claim_all)
 
   -- fragments of the seat are given back, or born

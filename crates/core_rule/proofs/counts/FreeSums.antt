@@ -48,7 +48,7 @@ module _ (heap : Heap) (words : List ℕ) (owner : ℕ → Owner) (bits : Bits h
       ∙ sum_blocks 16 heap.groups (λ f. free_bit (owner f))
 
 -- what is free is in no use
-pub free_unused : (heap : Heap) (owner : ℕ → Owner) (history : List Entry) → AreUsed heap owner history → free_in_all heap owner + fragments_gained history ≡ 16 * heap.groups + fragments_lost history
+pub free_unused : (heap : Heap) (owner : ℕ → Owner) (history : List Entry) → AreUsed heap owner history → free_in_all heap owner + fragments_gained heap history ≡ 16 * heap.groups + fragments_lost history
 free_unused heap owner history used = omega (arith, used, taken_and_free (16 * heap.groups) owner)
 
 -- so is what is clear in the control words

@@ -62,7 +62,7 @@ keeps_swings heap play before id swings = keeps_rules heap play before (entries.
 
 module _ (heap : Heap) (play : Bool) (before : List Entry) (number : ℕ) where
   -- a seat takes what is in no use
-  pub keeps_takes : (count : ℕ) → 1 ≤ count → fragments_gained before + count ≤ 16 * heap.groups + fragments_lost before → KeepsSpace heap play before (entries.Takes number count)
+  pub keeps_takes : (count : ℕ) → 1 ≤ count → fragments_gained heap before + count ≤ 16 * heap.groups + fragments_lost before → KeepsSpace heap play before (entries.Takes number count)
   keeps_takes count some room = keeps_rules heap play before (entries.Takes number count) (some, room) tt (tt, tt, tt) tt tt (tt, tt)
 
   -- it gives back what it has

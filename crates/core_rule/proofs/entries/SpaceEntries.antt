@@ -21,7 +21,7 @@ module _ (heap : Heap) (history : List Entry) (number k : ℕ) where
 
   module _ (legal : IsLegal heap false history) (present : IsPresent (graph_of heap history) number) (some : 1 ≤ k) where
     -- each may stand where there is enough
-    pub legal_takes : fragments_gained history + k ≤ 16 * heap.groups + fragments_lost history → IsLegal heap false (history ++ entries.Takes number k ∷ [])
+    pub legal_takes : fragments_gained heap history + k ≤ 16 * heap.groups + fragments_lost history → IsLegal heap false (history ++ entries.Takes number k ∷ [])
     legal_takes room = legal_more heap false history (entries.Takes number k) legal present (keeps_takes heap false history number k some room)
 
     pub legal_gives : spent_of number history + k ≤ taken_of number history → IsLegal heap false (history ++ entries.GivesBack number k ∷ [])

@@ -25,7 +25,7 @@ use Rattle.core_rule.proofs.lists.SumLemmas.{sum_le}
 -- where all that is kept is inside, and nothing is to be freed, no more is in use than the bound of what is inside
 pub used_within : (heap : Heap) (made : List Id) (owner : ℕ → Owner) (inside : Id → Bool) → ((f i k : ℕ) → owner f ≡ Kept i k → inside (id_at made i) ≡ true) → ((f i k : ℕ) → owner f ≢ Dead i k)
     → (history : List Entry) (most : ℕ) → AreUsed heap owner history → sum_upto (16 * heap.groups) (λ f. inside_bit inside made (owner f)) ≤ most
-    → fragments_gained history ≤ fragments_lost history + most
+    → fragments_gained heap history ≤ fragments_lost history + most
 used_within heap made owner inside kept_inside none_dead history most used within = omega (arith, used, within, all_inside heap made owner inside kept_inside none_dead)
 
 -- what was counted is within the bound

@@ -15,7 +15,7 @@ use Rattle.core_rule.proofs.footprint.ReachLists.{by_reach}
 
 -- what is in use, fragments and spine words, and what was counted are within the bounds, and no less was counted than what is reached now and was then
 pub record IsCountedRight (heap : Heap) (history : List Entry) (kept : ℕ) (begun : List Id) : Type 0 where
-  pub used : fragments_gained history ≤ fragments_lost history + bound heap begun history
+  pub used : fragments_gained heap history ≤ fragments_lost history + bound heap begun history
   pub spine : words_granted history ≤ words_returned history + spine_bound heap begun history
   pub at_most : kept ≤ bound heap begun history
   pub at_least : (both : List Id) → AllPairs IsBefore both → ((id : Id) → Contains both id → Reaches (graph_of heap history) id × Contains begun id)

@@ -109,7 +109,7 @@ module _ (heap : Heap) (state : State) (book : Book) (rule : Rule heap state boo
     total-more (λ e. e.freed) book.history entry,
   )
 
-  room : fragments_lost book.history + length fs ≤ fragments_gained book.history
+  room : fragments_lost book.history + length fs ≤ fragments_gained heap book.history
   room = omega (arith, rule.heap_stands.used, fewer_taken)
 
   module _ (sweeps : phase book.history % 7 ≡ 5) (some : 1 ≤ length fs) (after : AfterMarking book.owner book.colour) where

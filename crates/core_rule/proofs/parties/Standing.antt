@@ -26,8 +26,8 @@ module _ (heap : Heap) (state : State) (told : List Entry) (s : StandsFor heap s
   word_is = s.stands.rule.heap_stands.cycle.word ∙ ap phase s.grown
 
   -- no more fragments were lost than gained
-  pub none_short : fragments_lost told ≤ fragments_gained told
-  none_short = subst (λ es. fragments_lost es ≤ fragments_gained es) s.grown (omega (arith, s.stands.rule.heap_stands.used))
+  pub none_short : fragments_lost told ≤ fragments_gained heap told
+  none_short = subst (λ es. fragments_lost es ≤ fragments_gained heap es) s.grown (omega (arith, s.stands.rule.heap_stands.used))
 
   -- the budget word is the spine words in use
   pub words_used : WordsAreUsed → AllIdle state → (at heap state.words Budget + words_returned told ≡ words_granted told) × (at heap state.words Budget ≤ heap.spine)

@@ -32,8 +32,8 @@ use Rattle.core_rule.proofs.runs.OpeningOwners.{opening_owner, opening_cases, no
 abbrev pub opening_made : List Id
 opening_made = Board ∷ []
 
-abbrev pub opening_fragments : ℕ → List ℕ
-opening_fragments i = board
+abbrev pub opening_fragments : Heap → ℕ → List ℕ
+opening_fragments heap i = board heap
 
 -- it has no spine
 abbrev pub opening_spines : ℕ → Spot
@@ -63,13 +63,13 @@ opening_ids heap = record {
 module _ (heap : Heap) (words : List ℕ) (some : 1 ≤ heap.groups) (open_words : (address : Address) → InTable heap address → at heap words address ≡ opening_word heap address) where
   group_taken : (f : ℕ) → f < 16 * heap.groups → bit_at (opening_word heap (Control (f / 16))) (f % 16) ≡ taken_bit (opening_owner f)
   group_taken f within = elim (eqb_tells (f / 16) 0) as (λ _. bit_at (opening_word heap (Control (f / 16))) (f % 16) ≡ taken_bit (opening_owner f)) [
-    | inl first ↦ let place : f % 16 ≡ f = omega (arith, first.1) in rw (first.0, place) (board_taken f (omega (arith, first.1)))
+    | inl first ↦ let place : f % 16 ≡ f = omega (arith, first.1) in rw (first.0, place) (board_taken heap f (omega (arith, first.1)))
     | inr later ↦ rw (later.0, nobodys f (omega (arith, later.1))) (bit_at-zero (f % 16))
   ]
 
   group_born : (f : ℕ) → f < 16 * heap.groups → bit_at (opening_word heap (Control (f / 16))) (16 + f % 16) ≡ born_bit (opening_owner f)
   group_born f within = elim (eqb_tells (f / 16) 0) as (λ _. bit_at (opening_word heap (Control (f / 16))) (16 + f % 16) ≡ born_bit (opening_owner f)) [
-    | inl first ↦ let place : f % 16 ≡ f = omega (arith, first.1) in rw (first.0, place) (board_born f (omega (arith, first.1)))
+    | inl first ↦ let place : f % 16 ≡ f = omega (arith, first.1) in rw (first.0, place) (board_born heap f (omega (arith, first.1)))
     | inr later ↦ rw (later.0, nobodys f (omega (arith, later.1))) (bit_at-zero (16 + f % 16))
   ]
 
@@ -84,7 +84,7 @@ module _ (heap : Heap) (words : List ℕ) (some : 1 ≤ heap.groups) (open_words
   -- nothing is marked or scanned
   plain : (g i : ℕ) → 32 ≤ i → bit_at (opening_word heap (Control g)) i ≡ 0
   plain g i past = elim (eqb_tells g 0) as (λ _. bit_at (opening_word heap (Control g)) i ≡ 0) [
-    | inl first ↦ rw first.0 (board_plain i past)
+    | inl first ↦ rw first.0 (board_plain heap i past)
     | inr later ↦ rw later.0 (bit_at-zero i)
   ]
 
@@ -95,31 +95,31 @@ module _ (heap : Heap) (words : List ℕ) (some : 1 ≤ heap.groups) (open_words
     outside = λ f past. refl;
   }
 
-  board_kept : KeptObject heap words opening_owner (object_head opening_made opening_fragments) 0 Board (fresh false 32) board no_spot
+  board_kept : KeptObject heap words opening_owner (object_head opening_made (opening_fragments heap)) 0 Board (fresh false 32) (board heap) no_spot
   board_kept = record {
     sized = (omega arith, omega arith);
     whole = refl;
-    owned = λ k below. let here : k < 11 = omega arith in rw (board_at k here) (opening_cases (λ o. o ≡ Kept 0 k) k (λ less. refl) (λ past. absurd (omega (arith, here, past))));
+    owned = λ k below. let here : k < 11 = omega arith in rw (board_at heap k here) (opening_cases (λ o. o ≡ Kept 0 k) k (λ less. refl) (λ past. absurd (omega (arith, here, past))));
     stored = λ k part below fits.
         let here : k < 11 = omega arith in
-        rw (board_at k here, open_words (Word k part) (omega (arith, here, some), fits))
-        (let newborn = newborn_is (object_head opening_made opening_fragments) board_name false 32 no_spot board k part in
+        rw (board_at heap k here, open_words (Word k part) (omega (arith, here, some), fits))
+        (let newborn = newborn_is (object_head opening_made (opening_fragments heap)) board_name false 32 no_spot (board heap) k part in
         let first : nat_lt k 11 ≡ true = grind (arith, nat_tests, here) in rw first (sym newborn));
     listed = λ j none. absurd (omega (arith, none));
   }
 
   -- it has the words of a record that was never set
-  pub opening_objects : Objects heap words (opening heap) opening_made opening_owner opening_fragments opening_spines
+  pub opening_objects : Objects heap words (opening heap) opening_made opening_owner (opening_fragments heap) opening_spines
   opening_objects = record {
     kept = λ i below is. let none : 0 ≡ i = omega arith in
-        subst (λ x. KeptObject heap words opening_owner (object_head opening_made opening_fragments) x (id_at opening_made x) (node_at (opening heap) opening_made x) (opening_fragments x) (opening_spines x)) none board_kept;
+        subst (λ x. KeptObject heap words opening_owner (object_head opening_made (opening_fragments heap)) x (id_at opening_made x) (node_at (opening heap) opening_made x) (opening_fragments heap x) (opening_spines x)) none board_kept;
     named = λ i j below is cell there. let none : i ≡ 0 = omega arith in
         let blank : cell ≡ unset = unset_cell 32 j cell (subst (λ x. slice_get (cells_at (opening heap) opening_made x) j ≡ Some cell) none there) in
-        subst (λ (c : Cell). NamesKept opening_made opening_owner opening_fragments c.value × (c.stamp < 2 ^ 32)) (sym blank) (tt, omega arith);
-    back = λ f i k. opening_cases (λ o. o ≡ Kept i k → (i < length opening_made) × IsKept opening_owner opening_fragments i × (k < length (opening_fragments i)) × (f ≡ fragment_at (opening_fragments i) k)) f
+        subst (λ (c : Cell). NamesKept opening_made opening_owner (opening_fragments heap) c.value × (c.stamp < 2 ^ 32)) (sym blank) (tt, omega arith);
+    back = λ f i k. opening_cases (λ o. o ≡ Kept i k → (i < length opening_made) × IsKept opening_owner (opening_fragments heap) i × (k < length (opening_fragments heap i)) × (f ≡ fragment_at (opening_fragments heap i) k)) f
         (λ below is. let object : 0 ≡ i = cc in let part : f ≡ k = cc in
-        subst (λ x. (x < length opening_made) × IsKept opening_owner opening_fragments x × (k < length (opening_fragments x)) × (f ≡ fragment_at (opening_fragments x) k)) object
-        (omega arith, refl, omega (arith, part, below), part ∙ sym (board_at k (omega (arith, part, below)))))
+        subst (λ x. (x < length opening_made) × IsKept opening_owner (opening_fragments heap) x × (k < length (opening_fragments heap x)) × (f ≡ fragment_at (opening_fragments heap x) k)) object
+        (omega arith, refl, omega (arith, part, below), part ∙ sym (board_at heap k (omega (arith, part, below)))))
         (λ past is. absurd (cc));
     board = refl;
   }

@@ -54,20 +54,20 @@ first_sixteen : (P : ℕ → Type 0) → ((f : ℕ) → f < 11 → P f) → P 11
 first_sixteen P rest a b c d e =
     below_more P 15 (below_more P 14 (below_more P 13 (below_more P 12 (below_more P 11 rest a) b) c) d) e
 
-pub board_at : (k : ℕ) → k < 11 → fragment_at board k ≡ k
-board_at = first_eleven (λ k. fragment_at board k ≡ k) refl refl refl refl refl refl refl refl refl refl refl
+pub board_at : (heap : Heap) (k : ℕ) → k < 11 → fragment_at (board heap) k ≡ k
+board_at heap = first_eleven (λ k. fragment_at (board heap) k ≡ k) refl refl refl refl refl refl refl refl refl refl refl
 
-pub board_taken : (f : ℕ) → f < 16 → bit_at board_group f ≡ taken_bit (opening_owner f)
-board_taken = first_sixteen (λ f. bit_at board_group f ≡ taken_bit (opening_owner f))
-    (first_eleven (λ f. bit_at board_group f ≡ taken_bit (opening_owner f)) refl refl refl refl refl refl refl refl refl refl refl) refl refl refl refl refl
+pub board_taken : (heap : Heap) (f : ℕ) → f < 16 → bit_at (board_group heap) f ≡ taken_bit (opening_owner f)
+board_taken heap = first_sixteen (λ f. bit_at (board_group heap) f ≡ taken_bit (opening_owner f))
+    (first_eleven (λ f. bit_at (board_group heap) f ≡ taken_bit (opening_owner f)) refl refl refl refl refl refl refl refl refl refl refl) refl refl refl refl refl
 
-pub board_born : (f : ℕ) → f < 16 → bit_at board_group (16 + f) ≡ born_bit (opening_owner f)
-board_born = first_sixteen (λ f. bit_at board_group (16 + f) ≡ born_bit (opening_owner f))
-    (first_eleven (λ f. bit_at board_group (16 + f) ≡ born_bit (opening_owner f)) refl refl refl refl refl refl refl refl refl refl refl) refl refl refl refl refl
+pub board_born : (heap : Heap) (f : ℕ) → f < 16 → bit_at (board_group heap) (16 + f) ≡ born_bit (opening_owner f)
+board_born heap = first_sixteen (λ f. bit_at (board_group heap) (16 + f) ≡ born_bit (opening_owner f))
+    (first_eleven (λ f. bit_at (board_group heap) (16 + f) ≡ born_bit (opening_owner f)) refl refl refl refl refl refl refl refl refl refl refl) refl refl refl refl refl
 
 -- none of the group is marked or scanned
-pub board_plain : (i : ℕ) → 32 ≤ i → bit_at board_group i ≡ 0
-board_plain i past = bit_at_above board_group 32 i (omega arith) past
+pub board_plain : (heap : Heap) (i : ℕ) → 32 ≤ i → bit_at (board_group heap) i ≡ 0
+board_plain heap i past = bit_at_above (board_group heap) 32 i (omega arith) past
 
 -- eleven are in use
 pub opening_used : (heap : Heap) → 1 ≤ heap.groups → AreUsed heap opening_owner []

@@ -40,7 +40,7 @@ module _ (heap : Heap) (words : List ℕ) (spot : at heap words Spot ≡ opening
   opening_next : next_spine heap words ≡ no_spot
   opening_next = ap spot_in spot ∙ spot_in-word no_spot record { half_within = omega arith; offset_within = omega arith }
 
-  pub opening_spines_stand : (seats : ℕ) → SpinesStand heap words seats 1 (node_at (opening heap) opening_made) opening_owner opening_fragments opening_spines opening_spine_owner
+  pub opening_spines_stand : (seats : ℕ) → SpinesStand heap words seats 1 (node_at (opening heap) opening_made) opening_owner (opening_fragments heap) opening_spines opening_spine_owner
   opening_spines_stand seats = record {
     spot = spot ∙ ap spot_word (sym opening_next);
     parties = λ half offset party k is. absurd (cc);
@@ -55,12 +55,12 @@ module _ (heap : Heap) (words : List ℕ) (spot : at heap words Spot ≡ opening
           let none : j < 0 = subst (λ x. j < spine_words_of (node_at (opening heap) opening_made x)) board within in omega (arith, none)
 
 -- the book when a heap opens: nothing has happened, and there is the board alone
-abbrev pub opening_book : Book
-opening_book = record {
+abbrev pub opening_book : Heap → Book
+opening_book heap = record {
   history = [];
   made = opening_made;
   owner = opening_owner;
-  fragments = opening_fragments;
+  fragments = opening_fragments heap;
   spines = opening_spines;
   spine_owner = opening_spine_owner;
   colour = λ f. White;
@@ -86,14 +86,14 @@ module _ (heap : Heap) (state : State) (seats : (number : ℕ) → number < heap
     next = opening_next heap state.words spot
 
     -- so none is granted
-    pub opening_budgets : at heap state.words Budget ≡ 0 → BudgetsStand heap state opening_book
+    pub opening_budgets : at heap state.words Budget ≡ 0 → BudgetsStand heap state (opening_book heap)
     opening_budgets budget =
         let given = none_of_seats granted_at (λ number. refl) in
         let refused = none_of_seats refused_at (λ number. refl) in
         let placed = none_of_seats (placed_at (next_spine heap state.words).half) (λ number. refl) in
-        let kept = none_kept (words_of_object (nodes_in heap opening_book)) refl in
-        let in_half = none_kept (words_in_half (next_spine heap state.words).half (nodes_in heap opening_book) opening_spines) (none_either ((opening_spines 0).half == (next_spine heap state.words).half)) in
-        let dead = none_dead (words_of_object (nodes_in heap opening_book)) in
+        let kept = none_kept (words_of_object (nodes_in heap (opening_book heap))) refl in
+        let in_half = none_kept (words_in_half (next_spine heap state.words).half (nodes_in heap (opening_book heap)) opening_spines) (none_either ((opening_spines 0).half == (next_spine heap state.words).half)) in
+        let dead = none_dead (words_of_object (nodes_in heap (opening_book heap))) in
         let copied : copying_words state.collector.stage ≡ 0 = ap (λ (c : Collector). copying_words c.stage) done in
         let returns : returning state.collector.stage ≡ 0 = ap (λ (c : Collector). returning c.stage) done in
         let first : (next_spine heap state.words).offset ≡ 0 = ap (λ (s : SpinePlace). s.offset) next in
@@ -105,23 +105,23 @@ module _ (heap : Heap) (state : State) (seats : (number : ℕ) → number < heap
           low = omega (arith, given, kept, dead, returns);
           returned = omega (arith, dead, returns);
           early = λ between. refl;
-          counts = subst (λ (c : Collector). SweepCounts (words_of_object (nodes_in heap opening_book)) opening_owner c.stage) (sym done) tt;
+          counts = subst (λ (c : Collector). SweepCounts (words_of_object (nodes_in heap (opening_book heap))) opening_owner c.stage) (sym done) tt;
         }
 
     -- and no spine stands anywhere
-    pub opening_halves : HalvesStand heap state opening_book
+    pub opening_halves : HalvesStand heap state (opening_book heap)
     opening_halves = record {
       half = ap (λ (s : SpinePlace). s.half) next ∙ subst (λ (c : Collector). 0 ≡ half_at c.phase c.stage) (sym done) refl;
       before = λ half offset some. absurd (some refl);
       arrays = λ i below is an_array. absurd (no_array i below an_array);
       hands = λ number below has. absurd (subst (λ (s : Seat). ¬ HasPlace s s.place) (sym (seats number below)) (λ none. none) has);
       swung = λ copies. absurd (subst (λ (c : Collector). c.phase % 7 ≢ 4) (sym done) (λ e. omega (arith, e)) copies);
-      copies = subst (λ (c : Collector). WhileCopying (CopyingStands (nodes_in heap opening_book) opening_made opening_owner (λ f. White) opening_fragments opening_spines (next_spine heap state.words).half) c.stage)
+      copies = subst (λ (c : Collector). WhileCopying (CopyingStands (nodes_in heap (opening_book heap)) opening_made opening_owner (λ f. White) (opening_fragments heap) opening_spines (next_spine heap state.words).half) c.stage)
           (sym done) tt;
       copy = subst (λ (c : Collector). CopyInHand heap state.words opening_spine_owner c.stage) (sym done) record { placed = tt; own = λ half offset j is. absurd (cc); copied = tt };
     }
       where
-        no_array : (i : ℕ) → i < 1 → (nodes_in heap opening_book i).array ≡ true → ⊥
+        no_array : (i : ℕ) → i < 1 → (nodes_in heap (opening_book heap) i).array ≡ true → ⊥
         no_array i below an_array =
             let board : i ≡ 0 = omega (arith, below) in
-            let is : (nodes_in heap opening_book 0).array ≡ true = subst (λ x. (nodes_in heap opening_book x).array ≡ true) board an_array in absurd (cc)
+            let is : (nodes_in heap (opening_book heap) 0).array ≡ true = subst (λ x. (nodes_in heap (opening_book heap) x).array ≡ true) board an_array in absurd (cc)

@@ -38,20 +38,20 @@ pub use Rattle.core_rule.proofs.runs.OpeningSpines.{opening_book}
 use Rattle.core_rule.proofs.runs.OpeningSpines.{opening_in_hand, opening_spines_stand, opening_budgets, opening_halves}
 use Rattle.core_rule.proofs.runs.OpeningOwners.{opening_owner, opening_cases, opening_seated, opening_used}
 
-abbrev Now : Register → Value → Type 0
-Now held value = regs.HoldsValue opening_made opening_owner opening_fragments held value
+abbrev Now : Heap → Register → Value → Type 0
+Now heap held value = regs.HoldsValue opening_made opening_owner (opening_fragments heap) held value
 
-nil_registers : (n r : ℕ) → Now (get_or (replicate n registers.Nil) r registers.Nil) (get_or (replicate n values.Nil) r values.Nil)
-nil_registers zero r = refl
-nil_registers (suc n) zero = refl
-nil_registers (suc n) (suc r) = nil_registers n r
+nil_registers : (heap : Heap) (n r : ℕ) → Now heap (get_or (replicate n registers.Nil) r registers.Nil) (get_or (replicate n values.Nil) r values.Nil)
+nil_registers heap zero r = refl
+nil_registers heap (suc n) zero = refl
+nil_registers heap (suc n) (suc r) = nil_registers heap n r
 
-opening_held : (r : ℕ) → Now (get_or (registers.Object 0 ids.Board ∷ replicate 15 registers.Nil) r registers.Nil) (get_or (values.Object ids.Board ∷ replicate 15 values.Nil) r values.Nil)
-opening_held zero = (refl, (omega arith, refl), refl)
-opening_held (suc r) = nil_registers 15 r
+opening_held : (heap : Heap) (r : ℕ) → Now heap (get_or (registers.Object 0 ids.Board ∷ replicate 15 registers.Nil) r registers.Nil) (get_or (values.Object ids.Board ∷ replicate 15 values.Nil) r values.Nil)
+opening_held heap zero = (refl, (omega arith, refl), refl)
+opening_held heap (suc r) = nil_registers heap 15 r
 
-opening_registers : (heap : Heap) (number : ℕ) → number < heap.seats → Registers (opening heap) opening_made opening_owner opening_fragments number (opening_seat heap number).registers places.Idle 0
-opening_registers heap number below r fresh = subst (λ (p : GraphSeat). Now (get_or (opening_seat heap number).registers r registers.Nil) (get_or p.registers r values.Nil)) (sym (opening_at heap number below)) (opening_held r)
+opening_registers : (heap : Heap) (number : ℕ) → number < heap.seats → Registers (opening heap) opening_made opening_owner (opening_fragments heap) number (opening_seat heap number).registers places.Idle 0
+opening_registers heap number below r fresh = subst (λ (p : GraphSeat). Now heap (get_or (opening_seat heap number).registers r registers.Nil) (get_or p.registers r values.Nil)) (sym (opening_at heap number below)) (opening_held heap r)
 
 -- no seat has answered
 opening_answer : (heap : Heap) (number : ℕ) → number < heap.seats → opening_word heap (Answer number) ≡ 0
@@ -59,7 +59,7 @@ opening_answer heap number below = rw (lt-ltb number heap.seats below) refl
 
 -- a seat stands
 opening_seat_stands : (heap : Heap) (words : List ℕ) (number : ℕ) → number < heap.seats → at heap words (Answer number) ≡ 0
-    → SeatStands heap words opening_book number (opening_seat heap number)
+    → SeatStands heap words (opening_book heap) number (opening_seat heap number)
 opening_seat_stands heap words number below none_answered = record {
   own = record {
     holding = record {
@@ -95,7 +95,7 @@ pub opening_seat_at : (heap : Heap) (state : State) (number : ℕ) → IsOpening
 opening_seat_at heap state number opens below = ap (λ seats. get_or seats number absent_seat) opens.seats_open ∙ get_or-map-range_with_len (opening_seat heap) 0 heap.seats number number absent_seat below (omega arith)
 
 -- the opening book stands for an opening state
-opening_rule : (heap : Heap) (state : State) → IsHeap heap → IsMachine heap state → IsOpening heap state → Rule heap state opening_book
+opening_rule : (heap : Heap) (state : State) → IsHeap heap → IsMachine heap state → IsOpening heap state → Rule heap state (opening_book heap)
 opening_rule heap state fits machine opens = record {
   machine = machine;
   heap_stands = record {
@@ -118,13 +118,13 @@ opening_rule heap state fits machine opens = record {
       };
     };
   };
-  seats_stand = λ number below. subst (λ (s : Seat). SeatStands heap state.words opening_book number s) (sym (opening_seat_at heap state number opens below))
+  seats_stand = λ number below. subst (λ (s : Seat). SeatStands heap state.words (opening_book heap) number s) (sym (opening_seat_at heap state number opens below))
       (opening_seat_stands heap state.words number below
       (opens.words_open (Answer number) (omega (arith, below, fits.seats_fit)) ∙ opening_answer heap number below));
   collector_stands = subst (λ (c : Collector). CollectorAgrees heap c []) (sym opens.nothing_done)
       record { log = refl; phase_told = refl; looked = λ number less. absurd (omega (arith, less)) };
   marks_stand = record {
-    heap_marks = subst (λ (c : Collector). MarkingStands heap state.words opening_owner (λ f. White) opening_fragments c.phase c.stage) (sym opens.nothing_done) record {
+    heap_marks = subst (λ (c : Collector). MarkingStands heap state.words opening_owner (λ f. White) (opening_fragments heap) c.phase c.stage) (sym opens.nothing_done) record {
       grey = λ f grey. absurd (cc);
       scan = tt;
       few = tt;
@@ -148,7 +148,7 @@ opening_rule heap state fits machine opens = record {
 
 pub opening_stands : (heap : Heap) (state : State) → IsHeap heap → IsOpening heap state → StandsFor heap state [] []
 opening_stands heap state fits opens = record {
-  book = opening_book;
+  book = opening_book heap;
   grown = refl;
   stands = record {
     rule = opening_rule heap state fits (opening_machine heap state fits opens) opens;

@@ -17,8 +17,8 @@ use Rattle.heap_model.proofs.account_lemmas.WithoutTurned.{same_sum, same_any, s
 
 -- the counts are the same
 module _ (history : List Entry) where
-  pub gained : fragments_gained (without_turned history) ≡ fragments_gained history
-  gained = omega (arith, same_sum (λ e. (effect_of e).taken) (λ c r. refl) history)
+  pub gained : (heap : Heap) → fragments_gained heap (without_turned history) ≡ fragments_gained heap history
+  gained heap = omega (arith, same_sum (λ e. (effect_of e).taken) (λ c r. refl) history)
 
   pub lost : fragments_lost (without_turned history) ≡ fragments_lost history
   lost = omega (arith, same_sum (λ e. (effect_of e).given) (λ c r. refl) history, same_sum (λ e. (effect_of e).freed) (λ c r. refl) history)

@@ -18,7 +18,7 @@ pub use Rattle.heap_model.specs.account.Refusals.{given_up, FindsSpace, ShowsSpa
 
 -- a seat takes some of what is free, and gives back some of what it has
 abbrev pub TakesAndGives : Heap → List Entry → Entry → Type 0
-TakesAndGives heap before (entries.Takes number count) = (1 ≤ count) × (fragments_gained before + count ≤ group_fragments * heap.groups + fragments_lost before)
+TakesAndGives heap before (entries.Takes number count) = (1 ≤ count) × (fragments_gained heap before + count ≤ group_fragments * heap.groups + fragments_lost before)
 TakesAndGives heap before (entries.GivesBack number count) = (1 ≤ count) × (spent_of number before + count ≤ taken_of number before)
 TakesAndGives heap before _ = Unit {0}
 

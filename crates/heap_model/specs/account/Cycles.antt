@@ -42,7 +42,7 @@ pub record IsReachOfBoth (g h : Graph) (ids : List Id) : Type 0 where
 
 -- what is in use and what was kept are within the bounds
 pub record IsWithinBounds (heap : Heap) (before : List Entry) (kept : ℕ) (begun : List Id) : Type 0 where
-  pub used : fragments_gained before ≤ fragments_lost before + bound heap begun before
+  pub used : fragments_gained heap before ≤ fragments_lost before + bound heap begun before
   pub spine : words_granted before ≤ words_returned before + spine_bound heap begun before
   pub at_most : kept ≤ bound heap begun before
 

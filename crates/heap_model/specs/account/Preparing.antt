@@ -1,7 +1,7 @@
 -- What the account keeps of a cycle that begins, compares where one ends, and prepares for an entry.
 use Rattle.std.specs.Prelude.{◌≡◌, ℕ, ◌+◌, ◌-◌, ◌%◌, ◌≤◌, ◌↔◌, ◌⊎◌, Contains, true, false, sum_by}
 use Rattle.std.specs.List.{range_with_len}
-use Rattle.heap_model.specs.Limits.{board_fragments}
+use Rattle.heap_model.specs.Board.{board_fragments}
 use Rattle.heap_model.specs.PhasePlan.{cycle_phases, barriers}
 use Rattle.heap_model.specs.declared.id.Id.{Id}
 use Rattle.heap_model.specs.declared.entry.Entry.{Entry}
@@ -33,7 +33,7 @@ pub record IsBegun (books : Books) (g : Graph) (cycle : Cycle) : Type 0 where
 -- what is in use and what was kept are within the bounds, by what the account keeps
 abbrev pub IsWithinBy : Books → ℕ → Type 0
 IsWithinBy books kept =
-    (board_fragments + books.all.taken ≤ books.all.given + books.all.freed + (books.cycle.frags + books.cycle.brought + (books.all.taken - books.cycle.taken_then)))
+    (board_fragments books.heap + books.all.taken ≤ books.all.given + books.all.freed + (books.cycle.frags + books.cycle.brought + (books.all.taken - books.cycle.taken_then)))
     × (books.all.words ≤ books.all.returned + books.cycle.words + (books.all.words - books.cycle.words_then))
     × (kept ≤ books.cycle.frags + books.cycle.brought + (books.all.taken - books.cycle.taken_then))
 

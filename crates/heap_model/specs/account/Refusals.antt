@@ -17,10 +17,10 @@ given_up number history = total (λ e. e.freed) history + total_but number (λ e
 
 -- in a play just what is free and the seat's own is found; in a run up to what was given up or others took since its last reply
 abbrev pub FindsSpace : Heap → Bool → List Entry → ℕ → ℕ → Type 0
-FindsSpace heap true before number found = found + fragments_gained before + spent_of number before ≡ group_fragments * heap.groups + fragments_lost before + taken_of number before
+FindsSpace heap true before number found = found + fragments_gained heap before + spent_of number before ≡ group_fragments * heap.groups + fragments_lost before + taken_of number before
 FindsSpace heap false before number found =
-    (group_fragments * heap.groups + fragments_lost before + taken_of number before ≤ found + fragments_gained before + spent_of number before + given_up number (since_reply number before))
-    × (found + fragments_gained before + spent_of number before ≤ group_fragments * heap.groups + fragments_lost before + taken_of number before + total_but number (λ e. e.taken) (since_reply number before))
+    (group_fragments * heap.groups + fragments_lost before + taken_of number before ≤ found + fragments_gained heap before + spent_of number before + given_up number (since_reply number before))
+    × (found + fragments_gained heap before + spent_of number before ≤ group_fragments * heap.groups + fragments_lost before + taken_of number before + total_but number (λ e. e.taken) (since_reply number before))
 
 -- a refusal shows what the command needs, and what was found, which is less
 abbrev pub ShowsSpace : Heap → Bool → List Entry → ℕ → Command → Reply → Type 0

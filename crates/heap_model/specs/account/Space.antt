@@ -1,7 +1,8 @@
 -- The counts of the heap after a history.
 use Rattle.std.specs.Prelude.{ℕ, ◌+◌, ◌-◌, if◌then◌else◌, List, sum_by}
-use Rattle.heap_model.specs.Limits.{board_fragments}
+use Rattle.heap_model.specs.Board.{board_fragments}
 use Rattle.heap_model.specs.declared.entry.Entry.{Entry}
+use Rattle.heap_model.specs.declared.heap.Heap.{Heap}
 use Rattle.heap_model.specs.declared.account.effect.Effect.{Effect}
 pub use Rattle.heap_model.specs.Needs.{need_of, made_by, words_by, record_fragments}
 pub use Rattle.heap_model.specs.account.Effects.{effect_of, is_of}
@@ -19,16 +20,16 @@ abbrev pub total_but : ℕ → (Effect → ℕ) → List Entry → ℕ
 total_but number part history = sum_by (λ e. if is_of number e then 0 else part (effect_of e)) history
 
 -- the board's fragments, and all that were ever taken
-abbrev pub fragments_gained : List Entry → ℕ
-fragments_gained history = board_fragments + total (λ e. e.taken) history
+abbrev pub fragments_gained : Heap → List Entry → ℕ
+fragments_gained heap history = board_fragments heap + total (λ e. e.taken) history
 
 -- all fragments that were ever given back or freed
 abbrev pub fragments_lost : List Entry → ℕ
 fragments_lost history = total (λ e. e.given) history + total (λ e. e.freed) history
 
 -- the fragments in use
-abbrev pub fragments_used : List Entry → ℕ
-fragments_used history = fragments_gained history - fragments_lost history
+abbrev pub fragments_used : Heap → List Entry → ℕ
+fragments_used heap history = fragments_gained heap history - fragments_lost history
 
 -- the spine words of all arrays that were ever made
 abbrev pub words_granted : List Entry → ℕ

@@ -23,7 +23,7 @@ HasSwung id history = Contains (after_last begins_phase history) (entries.Swings
 
 -- the sweep frees and returns some of what there is, and in the phase of copying each array swings at most once
 abbrev pub Sweeps : Heap → List Entry → Entry → Type 0
-Sweeps heap before (entries.Frees count) = (phase before % cycle_phases ≡ sweep) × (1 ≤ count) × (fragments_lost before + count ≤ fragments_gained before)
+Sweeps heap before (entries.Frees count) = (phase before % cycle_phases ≡ sweep) × (1 ≤ count) × (fragments_lost before + count ≤ fragments_gained heap before)
 Sweeps heap before (entries.Returns count) = (phase before % cycle_phases ≡ sweep) × (1 ≤ count) × (words_returned before + count ≤ words_granted before)
 Sweeps heap before (entries.Swings id) = (phase before % cycle_phases ≡ copying) × IsArray (graph_of heap before) id × ¬ HasSwung id before
 Sweeps heap before _ = Unit {0}

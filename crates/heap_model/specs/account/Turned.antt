@@ -33,7 +33,7 @@ TurnedMayStand = (heap : Heap) (history : List Entry) → IsLegal heap true (wit
 
 -- the answers to commands of the collector change no count of fragments or spine words
 pub record CountsStay (history : List Entry) : Type 0 where
-  pub gained_stay : fragments_gained (without_turned history) ≡ fragments_gained history
+  pub gained_stay : (heap : Heap) → fragments_gained heap (without_turned history) ≡ fragments_gained heap history
   pub lost_stay : fragments_lost (without_turned history) ≡ fragments_lost history
   pub granted_stay : words_granted (without_turned history) ≡ words_granted history
   pub returned_stay : words_returned (without_turned history) ≡ words_returned history

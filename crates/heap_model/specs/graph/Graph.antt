@@ -1,6 +1,7 @@
 -- The graph as contracts see it, with its objects and seats, and how these are at the opening.
 use Rattle.std.specs.Prelude.{ℕ, Bool, false, List, [], ◌∷◌, replicate}
-use Rattle.heap_model.specs.Limits.{board_fields, last_register}
+use Rattle.heap_model.specs.Board.{board_fields}
+use Rattle.heap_model.specs.Limits.{last_register}
 use Rattle.heap_model.specs.declared.heap.Heap.{Heap}
 use Rattle.heap_model.specs.declared.id.Id.TheVariants.{Board}
 use Rattle.heap_model.specs.declared.id.Value.{Value}
@@ -38,4 +39,4 @@ opening_graph_seat = record { registers = Object Board ∷ replicate last_regist
 
 -- the graph at the opening
 abbrev pub opening : Heap → Graph
-opening heap = record { board = fresh false board_fields; seats = replicate heap.seats opening_graph_seat }
+opening heap = record { board = fresh false (board_fields heap); seats = replicate heap.seats opening_graph_seat }

@@ -7,11 +7,12 @@ use crate::account::Account;
 use crate::account::effect::Effect;
 use crate::account::seat::SeatAccount;
 use crate::command::Command;
-use crate::limits::{BOARD_FRAGMENTS, GROUP_FRAGMENTS, MOST_RESERVE};
+use crate::limits::{GROUP_FRAGMENTS, MOST_RESERVE};
 use crate::reply::Reply;
 
 impl Account {
-    ghost use Rattle.heap_model.specs.Limits.{board_fragments, group_fragments};
+    ghost use Rattle.heap_model.specs.Board.{board_fragments};
+    ghost use Rattle.heap_model.specs.Limits.{group_fragments};
     ghost use Rattle.heap_model.specs.account.Books.{Tells};
     ghost use Rattle.heap_model.specs.account.SeatBooks.{account_at};
     ghost use Rattle.heap_model.specs.account.Space.{total_but, words_returned};
@@ -146,10 +147,10 @@ impl Account {
     }
 
     pub(super) fn gained(&self) -> u128
-        ensures sum { result ≡ board_fragments + self.now.all.taken }
+        ensures sum { result ≡ board_fragments self.now.heap + self.now.all.taken }
         ensures fits { result < 2 ^ 66 }
     {
-        BOARD_FRAGMENTS as u128 + self.all.taken as u128
+        self.heap.board_fragments() as u128 + self.all.taken as u128
     }
 
     pub(super) fn lost(&self) -> u128

@@ -4,16 +4,15 @@ ghost use Rattle.heap_model.specs.account.Space.{words_granted, words_returned};
 ghost use Rattle.log_merge.specs.Legal.{ShowsUse};
 ghost use Rattle.heap_runs.specs.PlayHeap.{IsPlayed};
 
-use heap_model::limits::BOARD_FRAGMENTS;
 use heap_model::{Effect, Entry, Heap};
 
 /// How many fragments are in use after these entries.
 pub fn in_use(heap: &Heap, entries: &[Entry]) -> u64
     requires limits { IsHeap heap.now }
     requires played { IsPlayed heap.now entries.now }
-    ensures { ShowsUse entries.now result }
+    ensures { ShowsUse heap.now entries.now result }
 {
-    let mut gained = u128::from(BOARD_FRAGMENTS);
+    let mut gained = u128::from(heap.board_fragments());
     let mut lost = 0u128;
     for entry in entries {
         let effect = Effect::of(entry);

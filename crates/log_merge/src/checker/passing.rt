@@ -108,11 +108,11 @@ impl Checker {
     /// Goes over the end line, after the entries.
     fn pass_end(&self, entries: &[Entry], used: u64) -> Result<(), CheckFault>
         requires { length entries.now < 2 ^ 30 }
-        ensures shows { OnOk result (ShowsUse entries.now used) }
+        ensures shows { OnOk result (ShowsUse self.now.heap entries.now used) }
         ensures stops { (form : Form) (passed : List HistoryLine) → entries_of passed ≡ entries.now →
             IfErr result (StopsIn form self.now passed (lines.End used ∷ [])) }
     {
-        if !shows_use(entries, used) {
+        if !shows_use(self.heap, entries, used) {
             return Err(self.illegal());
         }
         Ok(())

@@ -27,8 +27,8 @@ returns g c =
     let played = subst (λ (h : Heap). IsPlayed h middle.entries) answered.follows.of_heap c.entries.ensures.played in
     let played_last = subst (λ (h : Heap). IsPlayed h last.entries) (notes.same_heap ∙ left.follows.of_heap) c.entries-3.ensures.played in
     whole_play laws.turned laws.counts c.law_sweep_exact.ensures.emptied (is_some c.args.pace) script middle gone last c.answer_lines.new.history.items c.leave_all.new.history.items c.make_last_cycle.new.history.items mark c.in_use-2.result _ answered c.in_ok-whole.ensures.last left notes played played_last
-    (search rules) (subst (λ (es : List Entry). ShowsUse es c.in_use.result) c.entries.ensures.entries c.in_use.ensures)
+    (search rules) (subst (λ (es : List Entry). ShowsUse script.heap es c.in_use.result) c.entries.ensures.entries (subst (λ (h : Heap). ShowsUse h c.entries.result.now c.in_use.result) c.requires.heap c.in_use.ensures))
     (rw (c.from.ensures, c.from-2.ensures, c.requires.heap) refl)
     (subst (λ (es : List Entry). c.words_in_use.result + words_returned es ≡ words_granted es) c.entries-2.ensures.entries c.words_in_use.ensures) (c.from-3.ensures ∙ ap (λ (h : Heap). h.spine) c.requires.heap)
-    (subst (λ (es : List Entry). ShowsUse es c.in_use-2.result) c.entries-3.ensures.entries c.in_use-2.ensures)
+    (subst (λ (es : List Entry). ShowsUse script.heap es c.in_use-2.result) c.entries-3.ensures.entries (subst (λ (h : Heap). ShowsUse h c.entries-3.result.now c.in_use-2.result) c.requires.heap c.in_use-2.ensures))
     (rw (c.requires.heap, c.from_vec.ensures) refl)

@@ -7,5 +7,5 @@ use Rattle.core_machine.proofs.machine.opening.store_board.Given as goal
 abbrev pub invariant-loop-place : goal.invariant-loop-place
 invariant-loop-place l = record {
   table : length l.words ≡ table_length l.heap;
-  board : (a : Address) → InTable l.heap a → at l.heap l.words a ≡ with_board l.place a (at l.heap l.fn.words a);
+  board : (a : Address) → InTable l.heap a → at l.heap l.words a ≡ with_board l.heap l.place a (at l.heap l.fn.words a);
 }

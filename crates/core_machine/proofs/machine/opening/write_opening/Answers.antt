@@ -9,8 +9,8 @@ pub returns-clause-open : goal.returns-clause-open
 returns-clause-open c =
     let heap = c.args.heap.now in
     let left = c.leave_without_seats.new.words in
-    let made : c.store-2.new.words ≡ put heap (put heap left Spot spot_word_of) (Control 0) board_group =
-    rw (c.store-2.ensures.put, c.store.ensures.put, c.pack.ensures, c.pack-2.ensures) refl in
+    let made : c.store-2.new.words ≡ put heap (put heap left Spot spot_word_of) (Control 0) (board_group heap) =
+    rw (c.store-2.ensures.put, c.store.ensures.put, c.pack.ensures, c.pack-2.ensures, c.board_fragments.ensures) refl in
     λ a within. opens heap c.args.words.now left c.store_board.new.words c.requires.limits.some_group c.leave_without_seats.ensures.table a within
     (at-zeros heap c.args.words.now a c.requires.zeros) (c.leave_without_seats.ensures.left a within)
-    (c.store_board.ensures.board a within ∙ ap (λ (words : List ℕ). with_board 44 a (at heap words a)) made)
+    (c.store_board.ensures.board a within ∙ ap (λ (words : List ℕ). with_board heap 44 a (at heap words a)) made)

@@ -8,7 +8,7 @@ pub overflow_cast-result : goal.overflow_cast-result
 overflow_cast-result c =
     let entries = c.args.entries.now in
     let all : take c.loop-entry.entry-index entries ≡ entries = take_all c.loop-entry.entry-index entries (omega (arith, c.loop-entry-test.false)) in
-    let gained : c.loop-entry.gained ≡ fragments_gained entries = c.loop-entry.invariant.gained ∙ ap fragments_gained all in
+    let gained : c.loop-entry.gained ≡ fragments_gained c.args.heap.now entries = c.loop-entry.invariant.gained ∙ ap (fragments_gained c.args.heap.now) all in
     let lost : c.loop-entry.lost ≡ fragments_lost entries = c.loop-entry.invariant.lost ∙ ap fragments_lost all in
     let within = gained_within c.args.heap.now entries c.requires.limits.some_group c.requires.played.legal in
     let most = c.requires.limits.groups_fit in
@@ -18,6 +18,6 @@ pub returns : goal.returns
 returns c =
     let entries = c.args.entries.now in
     let all : take c.loop-entry.entry-index entries ≡ entries = take_all c.loop-entry.entry-index entries (omega (arith, c.loop-entry-test.false)) in
-    let gained : c.loop-entry.gained ≡ fragments_gained entries = c.loop-entry.invariant.gained ∙ ap fragments_gained all in
+    let gained : c.loop-entry.gained ≡ fragments_gained c.args.heap.now entries = c.loop-entry.invariant.gained ∙ ap (fragments_gained c.args.heap.now) all in
     let lost : c.loop-entry.lost ≡ fragments_lost entries = c.loop-entry.invariant.lost ∙ ap fragments_lost all in
     omega (arith, gained, lost, c.requires.played.none_short)

@@ -27,7 +27,9 @@ returns-clause-legal c =
     let kept : KeepLines history.form history.heap [] (lines_with_mark history.mark history.entries) =
     rw (sym c.requires.heap, sym c.pass_marked.ensures.heap, sym c.as_slice-entries.ensures) passed.kept in
     on_ok_weaker c.pass_end.result
-    (λ (shows : ShowsUse c.as_slice-entries.result.now history.end_used). IsLegalHistory-from_lines history kept (subst (λ es. ShowsUse es history.end_used) c.as_slice-entries.ensures shows))
+    (λ (shows : ShowsUse c.pass_marked.new.self.heap c.as_slice-entries.result.now history.end_used). IsLegalHistory-from_lines history kept
+    (subst (λ es. ShowsUse history.heap es history.end_used) c.as_slice-entries.ensures
+    (subst (λ h. ShowsUse h c.as_slice-entries.result.now history.end_used) (c.pass_marked.ensures.heap ∙ c.requires.heap) shows)))
     c.pass_end.ensures.shows
 
 pub returns-clause-first : goal.returns-clause-first
