@@ -1,3 +1,4 @@
+mod AccountLemmas
 mod LegalLemmas
 mod LineLemmas
 mod PassingLemmas
