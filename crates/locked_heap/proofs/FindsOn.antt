@@ -15,14 +15,14 @@ use Rattle.core_machine.specs.declared.place.Place.TheVariants as places
 use Rattle.core_machine.specs.declared.place.Polling.TheVariants as polling
 use Rattle.core_machine.specs.machine.Calls.{PlaysCall}
 use Rattle.core_machine.specs.machine.Machine.{State, seat_at, found_by, Steps, Begins, after_begin, state_after_due, state_after, state_after_all}
-use Rattle.core_machine.specs.Moves.{Move, move_at, is_last_birth, last_birth_move, birth_move}
+use Rattle.core_machine.specs.Moves.{Move, move_at, is_last_birth, last_birth_move, birth_move, refusal_looks}
 use Rattle.heap_words.specs.Loaded.{head_of, array_length_of}
 use Rattle.core_machine.specs.seat.Access.{meta_reply_of, after_meta, after_get, after_old_load}
 use Rattle.core_machine.specs.seat.Handshake.{answer_next, polling_over}
 use Rattle.core_machine.specs.declared.seat.looks.FoundBehind.{FoundBehind}
 use Rattle.core_machine.specs.declared.seat.looks.Looks.{Looks}
 use Rattle.core_machine.specs.seat.Looks.{found_behind}
-use Rattle.core_machine.specs.seat.Seat.{Seat, absent_seat}
+use Rattle.core_machine.specs.seat.Seat.{Seat, with_seen, after_call, absent_seat}
 use Rattle.core_rule.proofs.looks.Ways.{StaysFound, stays_claim, stays_budget, stays_walk, stays_length, begin_stays}
 
 -- the seat has found as often at least
@@ -70,9 +70,17 @@ module _ (heap : Heap) (number : ℕ) (seat : Seat) where
   over commands.Collect answered = same_on seat
   over _ answered = same_on seat
 
-  polls : (b : Bool) (p : ℕ) → FindsOn seat (if b then polling_over seat.command seat else answer_next (record seat { asked = p }))
-  polls true p = over seat.command seat.answered
+  ends : (command : Command) (p : ℕ) → FindsOn seat (polling_over command (with_seen p seat))
+  ends commands.Collect p = same_on seat
+  ends _ p = same_on seat
+
+  polls : (b : Bool) (p : ℕ) → FindsOn seat (if b then polling_over seat.command (with_seen p seat) else answer_next (record (with_seen p seat) { asked = p }))
+  polls true p = ends seat.command p
   polls false p = same_on seat
+
+  refuses : (command : Command) (found : ℕ) → FindsOn seat (after_call (record seat { looks = refusal_looks command found seat.looks }))
+  refuses (commands.Array d cells) found = same_on seat
+  refuses _ found = same_on seat
 
   moves_on : (place : Place) → MoveFindsOn seat (move_at heap number seat place)
   moves_on places.Idle = λ found. same_on seat
@@ -80,7 +88,7 @@ module _ (heap : Heap) (number : ℕ) (seat : Seat) where
   moves_on (places.Making Withdrawing) = λ found. same_on seat
   moves_on (places.Making Gathering) = λ found. stays_on seat _ (stays_claim heap seat found)
   moves_on (places.Making Returning) = λ found. same_on seat
-  moves_on (places.Making Refusing) = λ found. same_on seat
+  moves_on (places.Making Refusing) = λ found. refuses seat.command found
   moves_on (places.Making Placing) = λ found. same_on seat
   moves_on (places.Making Listing) = λ found. same_on seat
   moves_on (places.Making Storing) = λ found. same_on seat
