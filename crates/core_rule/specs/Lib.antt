@@ -30,6 +30,7 @@ pub mod SweepLaws
 pub mod Held
 pub mod HeldWords
 pub mod HeldLaws
+pub mod TableLaws
 pub mod SpineLaws
 pub mod TurnsLeft
 pub mod GraphLaws

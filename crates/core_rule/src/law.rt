@@ -1,5 +1,6 @@
 ghost use Rattle.core_rule.specs.Laws.{EachEventKeeps, EveryRunKeeps, WholeCallsPlay, FreeIsUnused, WordsAreUsed, EachBirthHasItsColour, EachAnswerIsMarked, EachWaitIsBehind, EachDeadIsTold, EachTurnComesTo};
 ghost use Rattle.core_rule.specs.HeldLaws.{EachHeldIsTaken, NoClaimTakesHeld, NoFreeTakesHeld, EachHeldIsMarked, NoPlaceTakesHeld, NoCopyTakesHeld, EachStoreIsOwn, EachSpineStoreIsOwn, EachCopyStoreIsOwn};
+ghost use Rattle.core_rule.specs.TableLaws.{EachStepHasItsWord, EachTurnHasItsWord};
 ghost use Rattle.core_rule.specs.TurnsLeft.{EachTurnLeavesFewer};
 
 /// The rule holds after every list of begins, steps and turns of the collector, over every heap.
@@ -23,5 +24,7 @@ pub fn law_every_run()
     ensures stores { EachStoreIsOwn }
     ensures spine_stores { EachSpineStoreIsOwn }
     ensures copy_stores { EachCopyStoreIsOwn }
+    ensures step_words { EachStepHasItsWord }
+    ensures turn_words { EachTurnHasItsWord }
     ensures fewer { EachTurnLeavesFewer }
 {}
