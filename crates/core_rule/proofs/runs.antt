@@ -13,5 +13,8 @@ pub mod MarkedAnswers
 pub mod Waits
 pub mod ToldDead
 pub mod ComingTurns
+pub mod LoneEntries
+pub mod LoneRefusals
+pub mod LoneCalls
 pub mod Offsets
 pub mod KeptRuns

@@ -26,6 +26,7 @@ pub mod Rule
 pub mod Looks
 pub mod Stands
 pub mod Laws
+pub mod LoneLaws
 pub mod SweepLaws
 pub mod Held
 pub mod HeldWords

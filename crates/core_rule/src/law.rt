@@ -1,4 +1,5 @@
 ghost use Rattle.core_rule.specs.Laws.{EachEventKeeps, EveryRunKeeps, WholeCallsPlay, FreeIsUnused, WordsAreUsed, EachBirthHasItsColour, EachAnswerIsMarked, EachWaitIsBehind, EachDeadIsTold, EachTurnComesTo};
+ghost use Rattle.core_rule.specs.LoneLaws.{EachLoneRefusalIsRight};
 ghost use Rattle.core_rule.specs.HeldLaws.{EachHeldIsTaken, NoClaimTakesHeld, NoFreeTakesHeld, EachHeldIsMarked, NoPlaceTakesHeld, NoCopyTakesHeld, EachStoreIsOwn, EachSpineStoreIsOwn, EachCopyStoreIsOwn};
 ghost use Rattle.core_rule.specs.TableLaws.{EachStepHasItsWord, EachTurnHasItsWord};
 ghost use Rattle.core_rule.specs.TurnsLeft.{EachTurnLeavesFewer};
@@ -8,6 +9,7 @@ pub fn law_every_run()
     ensures step { EachEventKeeps }
     ensures run { EveryRunKeeps }
     ensures play { WholeCallsPlay }
+    ensures alone { EachLoneRefusalIsRight }
     ensures free { FreeIsUnused }
     ensures words { WordsAreUsed }
     ensures births { EachBirthHasItsColour }

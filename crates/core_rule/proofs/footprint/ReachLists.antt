@@ -1,5 +1,5 @@
 -- The reached ids of a graph stand in a list, and so do those that are reached in two.
-use Rattle.std.proofs.Common.{ℕ, ◌≤◌, ◌⊎◌, inl, inr, List}
+use Rattle.std.proofs.Common.{ℕ, ◌≤◌, List}
 use Rattle.heap_model.specs.declared.id.Id.{Id}
 use Rattle.heap_model.specs.account.Cycles.{graph_of, IsReachOfBoth}
 use Rattle.heap_model.specs.account.Windows.{up_to_cycle}
@@ -8,6 +8,7 @@ use Rattle.heap_model.specs.graph.Reach.{IsMade, Reaches, from_register, from_ce
 use Rattle.core_rule.specs.SweepLaws.{EachReachIsListed}
 use Rattle.core_rule.proofs.footprint.IdLists.{all_listed}
 use Rattle.core_rule.proofs.footprint.ReachRounds.{reach_decided}
+use Rattle.core_rule.proofs.lists.Decided.{both_decided}
 
 -- what is reached was made
 pub reached_made : (g : Graph) (id : Id) → Reaches g id → IsMade g id
@@ -25,15 +26,9 @@ pub by_reach : (g : Graph) (a b : ℕ) → ((begun : List Id) → IsReach g begu
 by_reach g a b each = let list = reach_listed g in each list.0 list.1
 
 -- and of what is reached in both
-both_decided : (g h : Graph) (id : Id) → (Reaches g id × Reaches h id) ⊎ ¬ (Reaches g id × Reaches h id)
-both_decided g h id = elim (reach_decided g id) [
-  | inr unreached ↦ inr (λ both. unreached both.0)
-  | inl first ↦ elim (reach_decided h id) [ inl second ↦ inl (first, second) | inr unreached ↦ inr (λ both. unreached both.1) ]
-]
-
 both_listed : (g h : Graph) → (ids : List Id) × IsReachOfBoth g h ids
 both_listed g h =
-    let list = all_listed g (λ id. Reaches g id × Reaches h id) (both_decided g h) (λ id both. reached_made g id both.0) in
+    let list = all_listed g (λ id. Reaches g id × Reaches h id) (λ id. both_decided (reach_decided g id) (reach_decided h id)) (λ id both. reached_made g id both.0) in
     (list.0, record { ordered = list.1.ordered; reached = list.1.all })
 
 pub each_reach_is_listed : EachReachIsListed

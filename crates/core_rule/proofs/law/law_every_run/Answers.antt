@@ -9,6 +9,7 @@ use Rattle.core_rule.proofs.runs.MarkedAnswers.{each_answer_is_marked}
 use Rattle.core_rule.proofs.runs.Waits.{each_wait_is_behind}
 use Rattle.core_rule.proofs.runs.ToldDead.{each_dead_is_told}
 use Rattle.core_rule.proofs.runs.OpeningStands.{opening_stands}
+use Rattle.core_rule.proofs.runs.LoneCalls.{each_lone_refusal_is_right}
 use Rattle.core_rule.proofs.runs.PlayRuns.{whole_calls_play}
 use Rattle.core_rule.proofs.runs.ComingTurns.{each_turn_comes_to}
 use Rattle.core_rule.proofs.runs.KeptRuns.{event_keeps, run_keeps}
@@ -25,6 +26,9 @@ returns-clause-run c = run_keeps
 
 pub returns-clause-play : goal.returns-clause-play
 returns-clause-play c = whole_calls_play machine_after each_step_keeps each_begin_keeps each_inner_keeps each_turn_keeps opening_stands
+
+pub returns-clause-alone : goal.returns-clause-alone
+returns-clause-alone c = each_lone_refusal_is_right
 
 pub returns-clause-free : goal.returns-clause-free
 returns-clause-free c = free_is_unused
