@@ -5,6 +5,8 @@ pub mod OwnersGo
 pub mod BirthsGo
 pub mod Inside
 pub mod IdOrder
+pub mod IdLists
+pub mod ReachRounds
 pub mod ReachLists
 pub mod Closed
 pub mod Bounds
@@ -34,3 +36,4 @@ pub mod EndsRightly
 pub mod GoneSeats
 pub mod AllGone
 pub mod LastCycle
+pub mod Reserves

@@ -7,3 +7,4 @@ pub mod FreedFragments
 pub mod DueStores
 pub mod WordOwners
 pub mod HeldWordLaws
+pub mod DueWords

@@ -1,7 +1,8 @@
--- Sums, tallies, lists and their members, options.
+-- Sums, tallies, lists and their members, options, facts that can be decided.
 pub mod SumLemmas
 pub mod Tallies
 pub mod Members
 pub mod Parts
 pub mod OrderedLists
 pub mod Options
+pub mod Decided

@@ -13,5 +13,9 @@ pub mod MarkedAnswers
 pub mod Waits
 pub mod ToldDead
 pub mod ComingTurns
+pub mod LoneEntries
+pub mod LoneRefusals
+pub mod LoneCalls
 pub mod Offsets
 pub mod CountedFinds
+pub mod KeptRuns

@@ -27,10 +27,12 @@ pub mod Looks
 pub mod Stands
 pub mod Finds
 pub mod Laws
+pub mod LoneLaws
 pub mod SweepLaws
 pub mod Held
 pub mod HeldWords
 pub mod HeldLaws
+pub mod TableLaws
 pub mod SpineLaws
 pub mod TurnsLeft
 pub mod GraphLaws

@@ -1,6 +1,8 @@
 ghost use Rattle.core_rule.specs.Laws.{EachEventKeeps, EveryRunKeeps, WholeCallsPlay, FreeIsUnused, WordsAreUsed, EachBirthHasItsColour, EachAnswerIsMarked, EachWaitIsBehind, EachDeadIsTold, EachTurnComesTo};
 ghost use Rattle.core_rule.specs.Finds.{WaitsAreFinds, EachEventIsFollowed};
+ghost use Rattle.core_rule.specs.LoneLaws.{EachLoneRefusalIsRight};
 ghost use Rattle.core_rule.specs.HeldLaws.{EachHeldIsTaken, NoClaimTakesHeld, NoFreeTakesHeld, EachHeldIsMarked, NoPlaceTakesHeld, NoCopyTakesHeld, EachStoreIsOwn, EachSpineStoreIsOwn, EachCopyStoreIsOwn};
+ghost use Rattle.core_rule.specs.TableLaws.{EachStepHasItsWord, EachTurnHasItsWord};
 ghost use Rattle.core_rule.specs.TurnsLeft.{EachTurnLeavesFewer};
 
 /// The rule holds after every list of begins, steps and turns of the collector, over every heap.
@@ -8,6 +10,7 @@ pub fn law_every_run()
     ensures step { EachEventKeeps }
     ensures run { EveryRunKeeps }
     ensures play { WholeCallsPlay }
+    ensures alone { EachLoneRefusalIsRight }
     ensures free { FreeIsUnused }
     ensures words { WordsAreUsed }
     ensures births { EachBirthHasItsColour }
@@ -24,6 +27,8 @@ pub fn law_every_run()
     ensures stores { EachStoreIsOwn }
     ensures spine_stores { EachSpineStoreIsOwn }
     ensures copy_stores { EachCopyStoreIsOwn }
+    ensures step_words { EachStepHasItsWord }
+    ensures turn_words { EachTurnHasItsWord }
     ensures fewer { EachTurnLeavesFewer }
     ensures finds { WaitsAreFinds }
     ensures looks { EachEventIsFollowed }

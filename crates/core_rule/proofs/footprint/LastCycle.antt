@@ -1,14 +1,15 @@
 -- Each end of a cycle in a run leaves little, and one that began after all had left leaves nothing.
-use Rattle.std.proofs.Common.{ℕ, Bool, false, List, [], ◌∷◌, ◌++◌, ◌∙◌, subst, arith}
+use Rattle.std.proofs.Common.{◌≡◌, ℕ, Bool, false, List, [], ◌∷◌, ◌++◌, sym, ◌∙◌, subst, arith}
 use Rattle.heap_model.specs.declared.entry.Entry.{Entry}
 use Rattle.heap_model.specs.declared.entry.Entry.TheVariants.{Ends}
 use Rattle.heap_model.specs.declared.heap.Heap.{Heap}
 use Rattle.heap_model.specs.account.Account.{IsLegal, KeepsSpace, KeepsSpaceAfter}
+use Rattle.heap_model.specs.account.Space.{fragments_used, words_used}
 use Rattle.heap_model.specs.graph.Graph.{opening}
 use Rattle.heap_model.proofs.Histories.{total-more}
 use Rattle.core_machine.specs.machine.Machine.{history}
 use Rattle.core_rule.specs.Laws.{EveryRunKeeps}
-use Rattle.core_rule.specs.SweepLaws.{EachEndLeavesLittle, EachLastCycleEmpties}
+use Rattle.core_rule.specs.SweepLaws.{EachEndLeavesLittle, EachLastCycleEmpties, EachLastCycleBalances}
 use Rattle.core_rule.proofs.footprint.AllGone.{accepts_before, none_reached, bound_none, none_granted}
 use Rattle.core_rule.proofs.runs.Plays.{keeps_there}
 
@@ -46,3 +47,11 @@ each_last_cycle_empties heap play before cycle kept legal left =
       omega (arith, within.used, none, total-more (λ e. e.taken) before entry, total-more (λ e. e.given) before entry, total-more (λ e. e.freed) before entry),
       omega (arith, within.spine, words, total-more (λ e. e.words) before entry, total-more (λ e. e.returned) before entry),
     )
+
+-- by the rule no more was lost than gained, and no more words returned than granted
+pub each_last_cycle_balances : EachLastCycleBalances
+each_last_cycle_balances heap state book before cycle kept rule grown left =
+    let legal : IsLegal heap false (before ++ Ends cycle kept ∷ []) = subst (IsLegal heap false) grown rule.heap_stands.legal in
+    let none : (fragments_used heap book.history ≡ 0) × (words_used book.history ≡ 0)
+    = subst (λ es. (fragments_used heap es ≡ 0) × (words_used es ≡ 0)) (sym grown) (each_last_cycle_empties heap false before cycle kept legal left) in
+    (omega (arith, none.0, rule.heap_stands.used), omega (arith, none.1, rule.space.budgets.told))

@@ -82,7 +82,7 @@ module _ (heap : Heap) (state : State) (book : Book) (rule : Rule heap state boo
       (i, among.index, word_of book.spine_owner (book.spines i) half offset among.index (Spined i among.index) among.is (rule.heap_stands.spines.kept i among.index below kept among.within))
 
   -- a fragment of a kept object whose first word tells spine words is an array's first, and its words tell where they stand
-  kept_word : (f i k : ℕ) → book.owner f ≡ Kept i k → IsAmong (spot_in (at heap state.words (Word f 2))) (spine_words_in (at heap state.words (Word f 0))) half offset → IsSpined
+  pub kept_word : (f i k : ℕ) → book.owner f ≡ Kept i k → IsAmong (spot_in (at heap state.words (Word f 2))) (spine_words_in (at heap state.words (Word f 0))) half offset → IsSpined
   kept_word f i k owned among =
       let back = rule.heap_stands.objects.back f i k owned in
       by k refl (nodes i).array refl back.0 back.1 back.3 (kept_tells heap state book rule f i k owned).1.told

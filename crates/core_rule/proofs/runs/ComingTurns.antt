@@ -21,7 +21,7 @@ use Rattle.core_machine.specs.declared.collector.stage.Copying.TheVariants.{Swin
 use Rattle.core_machine.specs.declared.collector.stage.Stage.{Stage}
 use Rattle.core_machine.specs.declared.collector.stage.Stage.TheVariants as stages
 use Rattle.core_machine.specs.collector.Collector.{Collector, Turn, turn_at, next_turn, has_answered_of}
-use Rattle.core_machine.specs.machine.Machine.{State, found_by, Turns}
+use Rattle.core_machine.specs.machine.Machine.{State, found_by, Turns, entries}
 use Rattle.core_rule.specs.Book.{Book}
 use Rattle.core_rule.specs.Laws.{EachEventKeeps, IsToldBy, EachTurnComesTo}
 use Rattle.core_rule.specs.Rule.{Rule}
@@ -63,6 +63,17 @@ turn_shape heap collector (stages.Returning group words) found = adds_one (Retur
 turn_shape heap collector (stages.Copying (Swinging copy)) found = adds_one (Swings copy.array.id) (swings_in_phase heap copy.array.id) refl refl
 turn_shape heap collector (stages.Ending kept) found = ends_cycle (collector.phase / 7) kept refl refl
 turn_shape heap collector _ found = adds_nothing refl (λ cycle kept same. cc same)
+
+-- so what it adds is the collector's
+collects : (heap : Heap) (turn : Turn) (found : ℕ) → HasShape heap turn found → AllByRecursion (λ entry. is_collectors entry ≡ true) turn.adds
+collects heap turn found (adds_nothing none goes_on) = rw none tt
+collects heap turn found (begins p adds stepped) = rw adds (refl, tt)
+collects heap turn found (adds_one entry kind adds stepped) = rw adds (kind.its, tt)
+collects heap turn found (ends_cycle cycle kept adds ended) = rw adds (refl, tt)
+
+pub turn_collects : (heap : Heap) (state : State) → AllByRecursion (λ entry. is_collectors entry ≡ true) (entries heap state Turns)
+turn_collects heap state = collects heap (next_turn heap state.collector) (found_by heap state (next_turn heap state.collector).step)
+    (turn_shape heap state.collector state.collector.stage (found_by heap state (next_turn heap state.collector).step))
 
 module _ (heap : Heap) (state : State) (book : Book) (old new : CollectorState) (rule : Rule heap state book) where
   abbrev turn : Turn
@@ -120,15 +131,16 @@ module _ (heap : Heap) (state : State) (book : Book) (old new : CollectorState) 
         = then_.log_told ∙ ap (filter is_collectors) with_it ∙ filter-append is_collectors book.history (Ends cycle kept ∷ []) ∙ ap (λ es. es ++ Ends cycle kept ∷ []) (sym told.log_told) in
         (log, last, later)
 
-    comes : IsLegal heap false (book.history ++ turn.adds) → HasShape heap turn found
-        → AllByRecursion (λ entry. is_collectors entry ≡ true) turn.adds × ComesTo old new (turn.answer found)
-    comes legal (adds_nothing none goes_on) = (rw none tt, quiet_comes none goes_on (turn.answer found) refl)
-    comes legal (begins p adds stepped) = (rw adds (refl, tt), subst (ComesTo old new) (sym stepped) (begins_comes p adds legal))
-    comes legal (adds_one entry kind adds stepped) = (rw adds (kind.its, tt), subst (ComesTo old new) (sym stepped) (one_comes entry kind adds legal))
-    comes legal (ends_cycle cycle kept adds ended) = (rw adds (refl, tt), subst (ComesTo old new) (sym ended) (ends_comes cycle kept adds legal))
+    comes : IsLegal heap false (book.history ++ turn.adds) → HasShape heap turn found → ComesTo old new (turn.answer found)
+    comes legal (adds_nothing none goes_on) = quiet_comes none goes_on (turn.answer found) refl
+    comes legal (begins p adds stepped) = subst (ComesTo old new) (sym stepped) (begins_comes p adds legal)
+    comes legal (adds_one entry kind adds stepped) = subst (ComesTo old new) (sym stepped) (one_comes entry kind adds legal)
+    comes legal (ends_cycle cycle kept adds ended) = subst (ComesTo old new) (sym ended) (ends_comes cycle kept adds legal)
 
 pub each_turn_comes_to : EachEventKeeps → EachTurnComesTo
 each_turn_comes_to each heap state book old new stands can told then_ =
-    let after = each heap state book Turns stands can in
-    comes heap state book old new stands.rule told then_ (subst (IsLegal heap false) after.grown after.stands.rule.heap_stands.legal)
-    (turn_shape heap state.collector state.collector.stage (found_by heap state (next_turn heap state.collector).step))
+    let after = each heap state book Turns stands can in (
+      turn_collects heap state,
+      comes heap state book old new stands.rule told then_ (subst (IsLegal heap false) after.grown after.stands.rule.heap_stands.legal)
+          (turn_shape heap state.collector state.collector.stage (found_by heap state (next_turn heap state.collector).step)),
+    )

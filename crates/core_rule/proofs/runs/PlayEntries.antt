@@ -109,7 +109,7 @@ answer_plain : (b : Bool) → IsPlainReply (answer_of b)
 answer_plain true = tt
 answer_plain false = tt
 
-local_plain : (registers : List Register) (command : Command) → IsPlainReply (local_reply_of registers command)
+pub local_plain : (registers : List Register) (command : Command) → IsPlainReply (local_reply_of registers command)
 local_plain registers (commands.Same a b) = answer_plain (is_same_value (value_of (register_in registers a)) (value_of (register_in registers b)))
 local_plain registers _ = tt
 
@@ -117,7 +117,7 @@ field_plain : (b : Bool) → IfSome (if b then None else Some replies.NoField) I
 field_plain true = tt
 field_plain false = tt
 
-meta_plain : (command : Command) (found : ℕ) → IfSome (meta_reply_of command found) IsPlainReply
+pub meta_plain : (command : Command) (found : ℕ) → IfSome (meta_reply_of command found) IsPlainReply
 meta_plain (commands.Len r) found = tt
 meta_plain (commands.Get d r i) found = field_plain _
 meta_plain (commands.Set r i v) found = field_plain _

@@ -1,6 +1,7 @@
 -- What a seat has found, in a run of whole calls: one that it notes stands behind by its word, and so many spine words are in use as it tells.
-use Rattle.std.specs.Prelude.{Option, None, Some}
+use Rattle.std.specs.Prelude.{Option, None, Some, IsSome}
 use Rattle.std.proofs.Common.{◌≡◌, ◌≢◌, ◌++◌, ℕ, ◌+◌, ◌<◌, inl, inr, List, length, refl, sym, ap, ◌∙◌, subst, arith}
+use Rattle.std.proofs.lemmas.Bool.{false≢true}
 use Rattle.std.proofs.lemmas.Bool.Decides.{eqb_tells}
 use Rattle.std.proofs.lemmas.List.{append-nil, get_or-set_same}
 use Rattle.heap_model.specs.declared.command.Command.{Command}
@@ -87,6 +88,20 @@ module _ (heap : Heap) (state : State) (book : Book) (number : ℕ) (rule : Rule
   tells_at (places.Making Granting) placed = λ is.
       rw (append-nil book.history) (grant_tells placed ∙ ap (λ n. n + words_returned book.history) (sym (grant_finds heap seat (at heap state.words Budget) is)))
   tells_at place placed = no_grant place (λ e. cc) (move_at heap number seat place) (λ found. comes_from heap number seat found place placed)
+
+  -- so where a seat has come to take spine words back it has found those that are in use
+  pub step_tells : number < length state.seats → Can heap state (Steps number) → (seat_at (state_after heap state (Steps number)) number).place ≡ places.Making Withdrawing
+      → words_granted (book.history ++ entries heap state (Steps number))
+      ≡ (seat_at (state_after heap state (Steps number)) number).used + words_returned (book.history ++ entries heap state (Steps number))
+  step_tells here can = moves (next_move heap number seat) (tells_at seat.place refl) can
+    where
+      moves : (move : Option Move) → TellsBy move → IsSome move → (seat_at (state_after_due heap state number move) number).place ≡ places.Making Withdrawing
+          → words_granted (book.history ++ entries_shown heap state move) ≡ (seat_at (state_after_due heap state number move) number).used + words_returned (book.history ++ entries_shown heap state move)
+      moves None tells due = absurd (false≢true due)
+      moves (Some move) tells due =
+          let shown : List Entry = book.history ++ move.shows state.words (found_by heap state move.step) in
+          subst (λ (s : Seat). s.place ≡ places.Making Withdrawing → words_granted shown ≡ s.used + words_returned shown)
+          (sym (get_or-set_same state.seats number (seat_after move (found_by heap state move.step)) absent_seat here)) tells
 
   -- so what a seat has found is so after its step
   pub step_noted : number < length state.seats → FoundNow heap state.words book.history seat seat.place

@@ -47,7 +47,7 @@ own_more : (number begun : ℕ) (before added : List Entry) → begun ≤ length
     → list_all (is_of number) (drop begun (before ++ added)) ≡ true
 own_more number begun before added earlier own more = rw (drop-append-le begun before added earlier, list_all-append (is_of number) (drop begun before) added, own, more) refl
 
-moved_other : (heap : Heap) (state : State) (number r : ℕ) (move : Option Move) → r ≢ number → seat_at (state_after_due heap state number move) r ≡ seat_at state r
+pub moved_other : (heap : Heap) (state : State) (number r : ℕ) (move : Option Move) → r ≢ number → seat_at (state_after_due heap state number move) r ≡ seat_at state r
 moved_other heap state number r None apart = refl
 moved_other heap state number r (Some move) apart = get_or-set_other state.seats number r _ absent_seat apart
 

@@ -1,5 +1,6 @@
 use Rattle.core_machine.proofs.machine_lemmas.Runs.{machine_after}
 use Rattle.core_rule.proofs.counts.FreeSums.{free_is_unused}
+use Rattle.core_rule.proofs.held.DueWords.{each_step_has_its_word, each_turn_has_its_word}
 use Rattle.core_rule.proofs.held.FreedFragments.{no_free_takes_held}
 use Rattle.core_rule.proofs.held.HeldWordLaws.{no_place_takes_held, no_copy_takes_held, each_store_is_own, each_spine_store_is_own, each_copy_store_is_own}
 use Rattle.core_rule.proofs.held.HeldFragments.{each_held_is_taken, no_claim_takes_held, each_held_is_marked}
@@ -10,22 +11,26 @@ use Rattle.core_rule.proofs.runs.MarkedAnswers.{each_answer_is_marked}
 use Rattle.core_rule.proofs.runs.Waits.{each_wait_is_behind}
 use Rattle.core_rule.proofs.runs.ToldDead.{each_dead_is_told}
 use Rattle.core_rule.proofs.runs.OpeningStands.{opening_stands}
+use Rattle.core_rule.proofs.runs.LoneCalls.{each_lone_refusal_is_right}
 use Rattle.core_rule.proofs.runs.PlayRuns.{whole_calls_play}
 use Rattle.core_rule.proofs.runs.ComingTurns.{each_turn_comes_to}
-use Rattle.core_rule.proofs.runs.Runs.{each_event_keeps, every_run_keeps}
+use Rattle.core_rule.proofs.runs.KeptRuns.{event_keeps, run_keeps}
 use Rattle.core_rule.proofs.spines.IdleBudgets.{words_are_used}
 use Rattle.core_rule.proofs.steps.Steps.{each_step_keeps, each_begin_keeps, each_inner_keeps, each_turn_keeps}
 use Rattle.core_rule.proofs.turns.{each_turn_leaves_fewer}
 use Rattle.core_rule.proofs.law.law_every_run.Goals as goal
 
 pub returns-clause-step : goal.returns-clause-step
-returns-clause-step c = each_event_keeps machine_after each_step_keeps each_begin_keeps each_inner_keeps each_turn_keeps
+returns-clause-step c = event_keeps
 
 pub returns-clause-run : goal.returns-clause-run
-returns-clause-run c = every_run_keeps (each_event_keeps machine_after each_step_keeps each_begin_keeps each_inner_keeps each_turn_keeps) opening_stands
+returns-clause-run c = run_keeps
 
 pub returns-clause-play : goal.returns-clause-play
 returns-clause-play c = whole_calls_play machine_after each_step_keeps each_begin_keeps each_inner_keeps each_turn_keeps opening_stands
+
+pub returns-clause-alone : goal.returns-clause-alone
+returns-clause-alone c = each_lone_refusal_is_right
 
 pub returns-clause-free : goal.returns-clause-free
 returns-clause-free c = free_is_unused
@@ -46,7 +51,7 @@ pub returns-clause-dead : goal.returns-clause-dead
 returns-clause-dead c = each_dead_is_told
 
 pub returns-clause-turns : goal.returns-clause-turns
-returns-clause-turns c = each_turn_comes_to (each_event_keeps machine_after each_step_keeps each_begin_keeps each_inner_keeps each_turn_keeps)
+returns-clause-turns c = each_turn_comes_to event_keeps
 
 pub returns-clause-held : goal.returns-clause-held
 returns-clause-held c = each_held_is_taken
@@ -74,6 +79,12 @@ returns-clause-spine_stores c = each_spine_store_is_own
 
 pub returns-clause-copy_stores : goal.returns-clause-copy_stores
 returns-clause-copy_stores c = each_copy_store_is_own
+
+pub returns-clause-step_words : goal.returns-clause-step_words
+returns-clause-step_words c = each_step_has_its_word
+
+pub returns-clause-turn_words : goal.returns-clause-turn_words
+returns-clause-turn_words c = each_turn_has_its_word
 
 pub returns-clause-fewer : goal.returns-clause-fewer
 returns-clause-fewer c = each_turn_leaves_fewer

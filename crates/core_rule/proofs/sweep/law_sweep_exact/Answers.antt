@@ -1,12 +1,20 @@
-use Rattle.core_machine.proofs.machine_lemmas.Runs.{machine_after}
-use Rattle.core_rule.proofs.footprint.LastCycle.{each_end_leaves_little, each_last_cycle_empties}
-use Rattle.core_rule.proofs.runs.OpeningStands.{opening_stands}
-use Rattle.core_rule.proofs.runs.Runs.{each_event_keeps, every_run_keeps}
-use Rattle.core_rule.proofs.steps.Steps.{each_step_keeps, each_begin_keeps, each_inner_keeps, each_turn_keeps}
+use Rattle.core_rule.proofs.footprint.LastCycle.{each_end_leaves_little, each_last_cycle_empties, each_last_cycle_balances}
+use Rattle.core_rule.proofs.footprint.ReachLists.{each_reach_is_listed}
+use Rattle.core_rule.proofs.footprint.Reserves.{each_reserve_is_small}
+use Rattle.core_rule.proofs.runs.KeptRuns.{run_keeps}
 use Rattle.core_rule.proofs.sweep.law_sweep_exact.Goals as goal
 
 pub returns-clause-ends : goal.returns-clause-ends
-returns-clause-ends c = each_end_leaves_little (every_run_keeps (each_event_keeps machine_after each_step_keeps each_begin_keeps each_inner_keeps each_turn_keeps) opening_stands)
+returns-clause-ends c = each_end_leaves_little run_keeps
+
+pub returns-clause-lists : goal.returns-clause-lists
+returns-clause-lists c = each_reach_is_listed
 
 pub returns-clause-emptied : goal.returns-clause-emptied
 returns-clause-emptied c = each_last_cycle_empties
+
+pub returns-clause-balanced : goal.returns-clause-balanced
+returns-clause-balanced c = each_last_cycle_balances
+
+pub returns-clause-reserves : goal.returns-clause-reserves
+returns-clause-reserves c = each_reserve_is_small

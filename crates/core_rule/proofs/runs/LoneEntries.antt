@@ -1,0 +1,190 @@
+-- What a seat's step and a turn of the collector show: the seat's own entries, of which two refuse for want of space, and the collector's.
+use Rattle.std.specs.List.{AllByRecursion, list_any}
+use Rattle.std.specs.Prelude.{if◌then◌else◌, Option, None, Some, IfSome}
+use Rattle.std.proofs.Common.{◌≡◌, ◌==◌, ℕ, ◌+◌, ◌%◌, ◌^◌, Bool, true, false, ◌||◌, ◌⊎◌, inl, inr, List, [], ◌∷◌, ◌++◌, length, refl, sum_by, arith}
+use Rattle.std.proofs.lemmas.Bool.{eq-eqb}
+use Rattle.std.proofs.lemmas.Bool.Decides.{eqb_tells}
+use Rattle.std.proofs.lemmas.List.Sums.{sum_by-cons}
+use Rattle.heap_model.specs.account.Effects.{effect_of, is_of}
+use Rattle.heap_model.specs.account.Noting.{is_collectors}
+use Rattle.heap_model.specs.account.Windows.{is_reply_to}
+use Rattle.heap_model.specs.declared.account.effect.Effect.{Effect}
+use Rattle.heap_model.specs.declared.calls.collect.CollectReply.{CollectReply}
+use Rattle.heap_model.specs.declared.calls.collect.CollectReply.TheVariants as notes
+use Rattle.heap_model.specs.declared.command.Command.{Command}
+use Rattle.heap_model.specs.declared.entry.Entry.{Entry}
+use Rattle.heap_model.specs.declared.entry.Entry.TheVariants as entries
+use Rattle.heap_model.specs.declared.heap.Heap.{Heap}
+use Rattle.heap_model.specs.declared.reply.Reply.{Reply}
+use Rattle.heap_model.specs.declared.reply.Reply.TheVariants as replies
+use Rattle.core_machine.specs.declared.place.Access.TheVariants.{LoadingMeta, Getting, Swapping}
+use Rattle.core_machine.specs.declared.place.Collecting.TheVariants.{Looking, Asking as AskingBehind, Comparing, Noting}
+use Rattle.core_machine.specs.declared.place.Leaving.TheVariants.{Emptying, Parting}
+use Rattle.core_machine.specs.declared.place.Making.TheVariants.{Withdrawing, Gathering, Returning, Refusing, Bearing}
+use Rattle.core_machine.specs.declared.place.Place.{Place}
+use Rattle.core_machine.specs.declared.place.Place.TheVariants as places
+use Rattle.core_machine.specs.declared.place.Polling.TheVariants.{Asking, Answering}
+use Rattle.core_machine.specs.declared.table.address.Address.TheVariants.{Word, Phase}
+use Rattle.core_machine.specs.machine.Machine.{State, seat_at, entries_shown}
+use Rattle.core_machine.specs.Moves.{move_at, takes_some, is_last_birth, last_birth_move, birth_move}
+use Rattle.core_machine.specs.seat.Access.{meta_reply_of}
+use Rattle.core_machine.specs.seat.AccessMoves.{got_shows, reply_entries_if}
+use Rattle.core_machine.specs.seat.HandshakeMoves.{phase_told}
+use Rattle.core_machine.specs.seat.Local.{local_reply_of}
+use Rattle.core_machine.specs.seat.Looks.{noted_reply}
+use Rattle.core_machine.specs.seat.Making.{next_object_id}
+use Rattle.core_machine.specs.seat.Seat.{Seat}
+use Rattle.core_machine.specs.table.Layout.{at}
+use Rattle.heap_words.specs.Loaded.{head_of}
+use Rattle.core_rule.proofs.entries.PhasesTold.{told_cases, told_if}
+use Rattle.core_rule.proofs.runs.PlayEntries.{local_plain, meta_plain}
+use Rattle.core_rule.proofs.runs.Plays.{IsPlainReply}
+
+-- the entry is the seat's or the collector's
+abbrev pub IsNoOthers : ℕ → Entry → Type 0
+IsNoOthers number entry = (is_of number entry ≡ true) ⊎ (is_collectors entry ≡ true)
+
+-- what holds of the entries of two lists
+pub all_append : {A : Type 0} (P : A → Type 0) (xs ys : List A) → AllByRecursion P xs → AllByRecursion P ys → AllByRecursion P (xs ++ ys)
+all_append P [] ys first second = second
+all_append P (x ∷ xs) ys first second = (first.0, all_append P xs ys first.1 second)
+
+pub all_mapped : {A : Type 0} (P Q : A → Type 0) (xs : List A) → ((x : A) → P x → Q x) → AllByRecursion P xs → AllByRecursion Q xs
+all_mapped P Q [] goes all = tt
+all_mapped P Q (x ∷ xs) goes all = (goes x all.0, all_mapped P Q xs goes all.1)
+
+-- a sum of nothings
+sum_none : (f : Entry → ℕ) (P : Entry → Type 0) → ((entry : Entry) → P entry → f entry ≡ 0) → (added : List Entry) → AllByRecursion P added → sum_by f added ≡ 0
+sum_none f P none [] all = refl
+sum_none f P none (entry ∷ added) all = omega (arith, sum_by-cons f entry added, none entry all.0, sum_none f P none added all.1)
+
+-- the collector takes, gives back and makes nothing
+collectors_none : (entry : Entry) → is_collectors entry ≡ true
+    → ((effect_of entry).taken ≡ 0) × ((effect_of entry).given ≡ 0) × ((effect_of entry).born ≡ 0) × ((effect_of entry).words ≡ 0)
+collectors_none (entries.Said number command reply) its = absurd (cc its)
+collectors_none (entries.Takes number count) its = absurd (cc its)
+collectors_none (entries.GivesBack number count) its = absurd (cc its)
+collectors_none _ its = (refl, refl, refl, refl)
+
+-- so others took and gave back nothing
+pub others_none : (number : ℕ) (part : Effect → ℕ) → ((entry : Entry) → is_collectors entry ≡ true → part (effect_of entry) ≡ 0) → (added : List Entry)
+    → AllByRecursion (IsNoOthers number) added → sum_by (λ e. if is_of number e then 0 else part (effect_of e)) added ≡ 0
+others_none number part none added all = sum_none (λ e. if is_of number e then 0 else part (effect_of e)) (IsNoOthers number) each added all
+  where
+    each : (entry : Entry) → IsNoOthers number entry → (if is_of number entry then 0 else part (effect_of entry)) ≡ 0
+    each entry (inl own) = rw own refl
+    each entry (inr collectors) = by (is_of number entry) (none entry collectors)
+      where
+        by : (b : Bool) → part (effect_of entry) ≡ 0 → (if b then 0 else part (effect_of entry)) ≡ 0
+        by true same = refl
+        by false same = same
+
+-- where the seat wasn't answered either, nothing was made
+unmade : (number : ℕ) (entry : Entry) → IsNoOthers number entry → is_reply_to number entry ≡ false → ((effect_of entry).born ≡ 0) × ((effect_of entry).words ≡ 0)
+unmade number (entries.Said other command reply) (inl own) none = absurd (cc (own, none))
+unmade number (entries.Said other command reply) (inr collectors) none = absurd (cc collectors)
+unmade number _ its none = (refl, refl)
+
+or_none : (b c : Bool) → (b || c) ≡ false → (b ≡ false) × (c ≡ false)
+or_none true c none = absurd (cc none)
+or_none false c none = (refl, none)
+
+pub none_made : (number : ℕ) (added : List Entry) → AllByRecursion (IsNoOthers number) added → list_any (is_reply_to number) added ≡ false
+    → (sum_by (λ e. (effect_of e).born) added ≡ 0) × (sum_by (λ e. (effect_of e).words) added ≡ 0)
+none_made number [] all none = (refl, refl)
+none_made number (entry ∷ added) all none =
+    let unanswered = or_none (is_reply_to number entry) (list_any (is_reply_to number) added) none in
+    let first = unmade number entry all.0 unanswered.0 in
+    let rest = none_made number added all.1 unanswered.1 in
+    (omega (arith, sum_by-cons (λ e. (effect_of e).born) entry added, first.0, rest.0), omega (arith, sum_by-cons (λ e. (effect_of e).words) entry added, first.1, rest.1))
+
+pub none_taken : (number : ℕ) (added : List Entry) → AllByRecursion (IsNoOthers number) added → sum_by (λ e. if is_of number e then 0 else (effect_of e).taken) added ≡ 0
+none_taken number = others_none number (λ e. e.taken) (λ entry its. (collectors_none entry its).0)
+
+pub none_given : (number : ℕ) (added : List Entry) → AllByRecursion (IsNoOthers number) added → sum_by (λ e. if is_of number e then 0 else (effect_of e).given) added ≡ 0
+none_given number = others_none number (λ e. e.given) (λ entry its. (collectors_none entry its).1)
+
+-- where it refuses for want of space, the seat stands there, and has found so many
+abbrev pub RefusesAt : Seat → Entry → Type 0
+RefusesAt seat (entries.Said other command (replies.Full need found)) = (seat.place ≡ places.Making Refusing) × (found ≡ length seat.reserve + seat.given)
+RefusesAt seat (entries.Said other command (replies.SpineFull need shown)) = (seat.place ≡ places.Making Withdrawing) × (shown ≡ seat.used % 2 ^ 32)
+RefusesAt seat _ = Unit {0}
+
+-- an entry that a seat's step shows
+pub record IsShown (number : ℕ) (seat : Seat) (entry : Entry) : Type 0 where
+  pub own : is_of number entry ≡ true
+  pub refuses : RefusesAt seat entry
+
+itself : (number : ℕ) → (number == number) ≡ true
+itself number = eq-eqb number number refl
+
+module _ (heap : Heap) (state : State) (number : ℕ) where
+  abbrev seat : Seat
+  seat = seat_at state number
+
+  abbrev pub AreShown : List Entry → Type 0
+  AreShown = AllByRecursion (IsShown number seat)
+
+  plain_refuses : (command : Command) (reply : Reply) → IsPlainReply reply → RefusesAt seat (entries.Said number command reply)
+  plain_refuses command (replies.Full need found) plain = absurd plain
+  plain_refuses command (replies.SpineFull need used) plain = absurd plain
+  plain_refuses command _ plain = tt
+
+  one : (entry : Entry) → is_of number entry ≡ true → RefusesAt seat entry → AreShown (entry ∷ [])
+  one entry own refuses = (record { own = own; refuses = refuses }, tt)
+
+  says : (reply : Reply) → IsPlainReply reply → AreShown (entries.Said number seat.command reply ∷ [])
+  says reply plain = one (entries.Said number seat.command reply) (itself number) (plain_refuses seat.command reply plain)
+
+  took : (count : ℕ) → AreShown (takes_some number count)
+  took count = elim (eqb_tells count 0) as (λ _. AreShown (takes_some number count)) [
+    | inl none ↦ rw none.0 tt
+    | inr some ↦ rw some.0 (one (entries.Takes number count) (itself number) tt)
+  ]
+
+  gave : (count : ℕ) → AreShown (entries.GivesBack number count ∷ [])
+  gave count = one (entries.GivesBack number count) (itself number) tt
+
+  bears : (last : Bool) → AreShown (entries_shown heap state (Some (if last then last_birth_move number seat else birth_move seat)))
+  bears true = says (replies.Made (next_object_id number seat)) tt
+  bears false = tt
+
+  answers : (p : ℕ) → AreShown (entries.Answers number p ∷ phase_told number seat.command p)
+  answers p = (record { own = itself number; refuses = tt }, told_cases AreShown number seat.command p tt (says (replies.Phase p) tt))
+
+  polls : (b : Bool) (p : ℕ) → AreShown (if b then phase_told number seat.command p else [])
+  polls b p = told_if AreShown number seat.command p b tt (says (replies.Phase p) tt)
+
+  metas : (reply : Option Reply) → IfSome reply IsPlainReply → AreShown (reply_entries_if number seat reply)
+  metas None plain = tt
+  metas (Some reply) plain = says reply plain
+
+  gets : (found : ℕ) (head : Option ℕ) → AreShown (got_shows heap number seat state.words found head)
+  gets found None = says _ tt
+  gets found (Some head) = says _ tt
+
+  notes_one : (reply : CollectReply) → AreShown (entries.Said number seat.command (noted_reply reply) ∷ [])
+  notes_one (notes.Cycle j) = says (replies.Cycle j) tt
+  notes_one (notes.Waits other answer p) = one (entries.Said number seat.command (replies.Waits other answer p)) (itself number) tt
+
+  -- what the step that is due at a place shows
+  pub shown_at : (place : Place) → seat.place ≡ place → AreShown (entries_shown heap state (move_at heap number seat place))
+  shown_at (places.Making Withdrawing) placed = one _ (itself number) (placed, refl)
+  shown_at (places.Making Gathering) placed = took _
+  shown_at (places.Making Returning) placed = gave _
+  shown_at (places.Making Refusing) placed = one _ (itself number) (placed, refl)
+  shown_at (places.Making Bearing) placed = bears (is_last_birth seat)
+  shown_at places.Local placed = says (local_reply_of seat.registers seat.command) (local_plain seat.registers seat.command)
+  shown_at (places.Access LoadingMeta) placed =
+      metas (meta_reply_of seat.command (at heap state.words (Word seat.reached 0))) (meta_plain seat.command (at heap state.words (Word seat.reached 0)))
+  shown_at (places.Access Getting) placed = gets (at heap state.words (Word seat.reached seat.part)) (head_of (at heap state.words (Word seat.reached seat.part)))
+  shown_at (places.Access Swapping) placed = says _ tt
+  shown_at (places.Polling Asking) placed = polls (at heap state.words Phase == seat.answered) (at heap state.words Phase)
+  shown_at (places.Polling Answering) placed = answers seat.asked
+  shown_at (places.Collecting Looking) placed = tt
+  shown_at (places.Collecting (AskingBehind other)) placed = tt
+  shown_at (places.Collecting (Comparing other p)) placed = tt
+  shown_at (places.Collecting (Noting reply)) placed = notes_one reply
+  shown_at (places.Leaving Emptying) placed = gave _
+  shown_at (places.Leaving Parting) placed = says replies.Done tt
+  shown_at _ placed = tt
