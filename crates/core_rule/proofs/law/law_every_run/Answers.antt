@@ -90,7 +90,7 @@ pub returns-clause-fewer : goal.returns-clause-fewer
 returns-clause-fewer c = each_turn_leaves_fewer
 
 pub returns-clause-finds : goal.returns-clause-finds
-returns-clause-finds c = waits_are_finds (each_event_keeps machine_after each_step_keeps each_begin_keeps each_inner_keeps each_turn_keeps) opening_stands
+returns-clause-finds c = waits_are_finds event_keeps opening_stands
 
 pub returns-clause-looks : goal.returns-clause-looks
 returns-clause-looks c = each_event_is_followed
