@@ -33,7 +33,7 @@ ShowsWhatWas reach before (Said number command (SpineFull need shown)) = shown +
 ShowsWhatWas reach before _ = Unit {0}
 
 -- such a call is refused with no fewer fragments than were in its seat's reserve and free when it began, and with no more spine words than were in use then
-abbrev pub EachLoneRefusalIsRight : Type 0
+unfoldable pub EachLoneRefusalIsRight : Type 0
 EachLoneRefusalIsRight = (heap : Heap) (state : State) (book : Book) (number : ℕ) (command : Command) (events : List Event) → Stands heap state book
     → IsLoneCall heap state number command events
     → AllByRecursion (ShowsWhatWas (within_reach heap state number) book.history) (history heap (state_after heap state (Begins number command)) events)

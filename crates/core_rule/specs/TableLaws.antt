@@ -10,10 +10,10 @@ use Rattle.core_rule.specs.Book.{Book}
 use Rattle.core_rule.specs.Rule.{Rule}
 
 -- the step that is due to a seat is on a word of the table, also where that is a spine word
-abbrev pub EachStepHasItsWord : Type 0
+unfoldable pub EachStepHasItsWord : Type 0
 EachStepHasItsWord = (heap : Heap) (state : State) (book : Book) (number : ℕ) → Rule heap state book → number < heap.seats
     → IfSome (due_step heap number (seat_at state number)) (λ step. HasWord heap (address_of step))
 
 -- so is that of the collector's next turn
-abbrev pub EachTurnHasItsWord : Type 0
+unfoldable pub EachTurnHasItsWord : Type 0
 EachTurnHasItsWord = (heap : Heap) (state : State) (book : Book) → Rule heap state book → HasWord heap (address_of (next_turn heap state.collector).step)

@@ -174,7 +174,9 @@ module _ (heap : Heap) (state : State) (book : Book) (rule : Rule heap state boo
   turn_there = turn_there_at collector.stage refl (turn_stands heap collector rule.machine.limits rule.machine.collector_fit).step.in_table
 
 pub each_step_has_its_word : EachStepHasItsWord
+unfolding EachStepHasItsWord
 each_step_has_its_word heap state book number rule here = step_there heap state book rule number here
 
 pub each_turn_has_its_word : EachTurnHasItsWord
+unfolding EachTurnHasItsWord
 each_turn_has_its_word heap state book rule = turn_there heap state book rule

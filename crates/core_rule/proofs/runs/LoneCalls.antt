@@ -162,6 +162,7 @@ module _ (heap : Heap) (state : State) (book : Book) (number : ℕ) (command : C
       )
 
 pub each_lone_refusal_is_right : EachLoneRefusalIsRight
+unfolding EachLoneRefusalIsRight
 each_lone_refusal_is_right heap state book number command events stands call =
     let here : number < heap.seats = rw (← stands.rule.machine.seated) call.begins.0 in
     let first = begun_alone heap state book number command stands call.begins here call.alone in
