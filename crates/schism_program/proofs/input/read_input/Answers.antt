@@ -1,4 +1,4 @@
-use Rattle.std.proofs.Common.{subst}
+use Rattle.std.proofs.Common.{subst, rules}
 use Rattle.io_edge.specs.Left.{LosesUpTo}
 use Rattle.schism_program.proofs.Inputs.{work_up_to}
 use Rattle.schism_program.proofs.input.read_input.Goals as goal
@@ -7,10 +7,12 @@ pub returns-in_err-input-clause-read_fault : goal.returns-in_err-input-clause-re
 returns-in_err-input-clause-read_fault g c = λ is.
     let left = g.S.Source.left c.args.source.now in
     let left_now = g.S.Source.left c.read_all.new.source in
-    work_up_to c.args.work left left_now c.in-Some.ensures.some.0 (subst (λ n. LosesUpTo left left_now n) c.in-Some.ensures.some.1 (c.in_err-input.ensures.read_fault is))
+    let lost : LosesUpTo left left_now c.in-Some.most = search rules in
+    work_up_to c.args.work left left_now c.in-Some.ensures.some.0 (subst (λ n. LosesUpTo left left_now n) c.in-Some.ensures.some.1 lost)
 
 pub returns-in_err-input-clause-memory : goal.returns-in_err-input-clause-memory
 returns-in_err-input-clause-memory g c = λ is.
     let left = g.S.Source.left c.args.source.now in
     let left_now = g.S.Source.left c.read_all.new.source in
-    work_up_to c.args.work left left_now c.in-Some.ensures.some.0 (subst (λ n. LosesUpTo left left_now n) c.in-Some.ensures.some.1 (c.in_err-input.ensures.memory is))
+    let lost : LosesUpTo left left_now c.in-Some.most = search rules in
+    work_up_to c.args.work left left_now c.in-Some.ensures.some.0 (subst (λ n. LosesUpTo left left_now n) c.in-Some.ensures.some.1 lost)
