@@ -36,7 +36,7 @@ lines_more paced earlier (first ∷ read) line told next stand stands = (
   stand.1 ++ next,
   stand.2,
   lines_more paced (earlier ++ stand.0) read line stand.1 next stand.3
-  (subst (λ (es : List Entry). StandsForLine paced es line next) (ap (λ (es : List Entry). earlier ++ es) stand.4 ∙ sym (append_assoc earlier stand.0 stand.1)) stands),
+      (subst (λ (es : List Entry). StandsForLine paced es line next) (ap (λ (es : List Entry). earlier ++ es) stand.4 ∙ sym (append_assoc earlier stand.0 stand.1)) stands),
   ap (λ (es : List Entry). es ++ next) stand.4 ∙ append_assoc stand.0 stand.1 next,
 )
 

@@ -41,7 +41,7 @@ module _ (old new : PlayState) (added : List Entry) (told : new.entries ≡ old.
         kept,
         made.own,
         append_cancel_left old.entries added (made.steps ++ ending)
-        (sym told ∙ came.takes.entries ∙ ap (λ es. came.now.entries ++ es) is ∙ ap (λ es. es ++ ending) made.told ∙ append_assoc old.entries made.steps ending),
+            (sym told ∙ came.takes.entries ∙ ap (λ es. came.now.entries ++ es) is ∙ ap (λ es. es ++ ending) made.told ∙ append_assoc old.entries made.steps ending),
       )
 
   -- so they told what fits the command and its reply
