@@ -1,8 +1,6 @@
--- The lines of a script with one line more.
-use Rattle.std.proofs.Common.{◌≡◌, ◌≢◌, ℕ, ◌+◌, ◌<◌, ◌≤◌, ◌⊎◌, Bool, true, false, List, [], ◌∷◌, ◌++◌, length, inl, inr, refl, sym, ap, subst, ◌∙◌, append_assoc, append-nil, length-append, arith}
-use Rattle.std.specs.List.{flat_map}
+-- A play with one line of its script more.
+use Rattle.std.proofs.Common.{◌≡◌, ◌≢◌, ℕ, ◌+◌, ◌<◌, ◌≤◌, ◌⊎◌, Bool, List, [], ◌∷◌, ◌++◌, length, inl, inr, refl, sym, ap, subst, ◌∙◌, arith}
 use Rattle.std.proofs.lemmas.Bool.Decides.{eqb_tells}
-use Rattle.std.proofs.lemmas.Grind.{flat_map-append}
 use Rattle.std.proofs.lemmas.List.Sums.{fold-append}
 use Rattle.std.proofs.lemmas.List.{get_or-replicate}
 use Rattle.heap_model.specs.declared.heap.Heap.{Heap}
@@ -16,13 +14,11 @@ use Rattle.heap_model.specs.calls.SeatLaws.{EachCallCounts, EachCallSparesOthers
 use Rattle.heap_model.specs.graph.Objects.{graph_seat, absent_graph_seat}
 use Rattle.heap_model.specs.graph.Graph.{Graph, GraphSeat, opening, opening_graph_seat}
 use Rattle.heap_model.specs.graph.Growth.{after_entry, graph_after}
-use Rattle.script_text.specs.declared.script.Line.{Line}
-use Rattle.script_text.specs.declared.script.Line.TheVariants as lines
-use Rattle.heap_runs.specs.Play.{lines_answered, AreTurns, EndsInReply, EndsInSaid, EndsAtLine}
+use Rattle.heap_runs.specs.Play.{AreTurns}
 use Rattle.heap_runs.specs.PlayHeap.{PlayState, seat_state_of}
-use Rattle.heap_runs.specs.Playing.{NotesCall, NotesSeatLine, NotesTurns, IsThere, DoesFew, HasAnsweredLines}
+use Rattle.heap_runs.specs.Playing.{NotesCall, NotesSeatLine, NotesTurns, IsThere, DoesFew, IsPlaying}
 use Rattle.heap_runs.specs.Turning.{AddsTurns}
-use Rattle.heap_runs.proofs.Told.{tells_call, noted_is, collect_stays}
+use Rattle.heap_runs.proofs.Told.{collect_stays}
 use Rattle.heap_runs.proofs.Following.{follows_call, follows_turns, follows_adds, turns_noted}
 
 -- a command is a collect, or it isn't
@@ -71,45 +67,19 @@ module _ (counts : EachCallCounts) (others : EachCallSparesOthers) (heap : Heap)
     | inr once ↦ few_once once number calls few
   ]
 
-  -- the lines with the call's line
-  pub answered_call : (read : List Line) → command ≢ Leave → HasAnsweredLines heap old before read → HasAnsweredLines heap new after (read ++ lines.Seat seat command ∷ [])
-  answered_call read stays has =
-      let tells = tells_call old new seat command notes.reply notes.answers in
-      let said : List Entry = entries.Said seat command notes.reply ∷ [] in
-      let noted : after ≡ before ++ (tells.before ++ said) = notes.noted ∙ ap (λ (l : List Entry). before ++ l) (noted_is old new before after seat command notes tells) in
-      let long = length-append read (lines.Seat seat command ∷ []) in
-      record {
-        follows = follows_call heap old new before after seat command notes has.follows;
-        present = λ number below. still_there number (λ same. stays) (has.present number below);
-        few = λ number below. subst (DoesFew new number) (sym long) (few_still number (length read) (has.few number below));
-        commands = ap (flat_map lines_answered) noted ∙ flat_map-append lines_answered before (tells.before ++ said)
-            ∙ ap (λ (ls : List Line). flat_map lines_answered before ++ ls) (flat_map-append lines_answered tells.before said ∙ ap (λ (ls : List Line). ls ++ lines.Seat seat command ∷ []) tells.replies)
-            ∙ ap (λ (ls : List Line). ls ++ lines.Seat seat command ∷ []) has.commands;
-      }
+  -- the play goes on with it
+  pub plays_call : (calls : ℕ) → command ≢ Leave → IsPlaying heap old before calls → IsPlaying heap new after (calls + 1)
+  plays_call calls stays plays = record {
+    follows = follows_call heap old new before after seat command notes plays.follows;
+    present = λ number below. still_there number (λ same. stays) (plays.present number below);
+    few = λ number below. few_still number calls (plays.few number below);
+  }
 
-  -- and its reply stands last
-  pub call_last : EndsInSaid after
-  call_last =
-      let tells = tells_call old new seat command notes.reply notes.answers in
-      let said : List Entry = entries.Said seat command notes.reply ∷ [] in (
-        before ++ tells.before,
-        seat,
-        command,
-        notes.reply,
-        notes.noted ∙ ap (λ (l : List Entry). before ++ l) (noted_is old new before after seat command notes tells) ∙ sym (append_assoc before tells.before said),
-      )
-
--- turns change no graph, and answer no line
+-- turns change no graph
 graph_stays : (g : Graph) (added : List Entry) → AreTurns added → graph_after g added ≡ g
 graph_stays g [] turned = refl
 graph_stays g (entries.Said number command reply ∷ added) turned = cc turned.0
 graph_stays g (_ ∷ added) turned = graph_stays g added turned.1
-
-no_replies : (added : List Entry) → AreTurns added → flat_map lines_answered added ≡ []
-no_replies [] turned = refl
-no_replies (entries.Said number command reply ∷ added) turned = cc turned.0
-no_replies (entries.Turned command reply ∷ added) turned = cc turned.0
-no_replies (_ ∷ added) turned = no_replies added turned.1
 
 -- so each seat is as it was
 module _ (old new : PlayState) (adds : AddsTurns old new) where
@@ -129,71 +99,34 @@ module _ (old new : PlayState) (adds : AddsTurns old new) where
         few_sets = omega (arith, ap (λ (seat : GraphSeat). seat.sets) same, few.few_sets, less);
       }
 
--- after some turns
-pub answered_turns : TurnedHoldNobody → (heap : Heap) (old new : PlayState) (before after : List Entry) (command : TurnCommand) → NotesTurns old new before after command
-    → (read : List Line) → HasAnsweredLines heap old before read → HasAnsweredLines heap new after (read ++ lines.Turns command ∷ [])
-answered_turns holds heap old new before after command notes read has =
+-- after the turns of a command
+pub plays_turns : TurnedHoldNobody → (heap : Heap) (old new : PlayState) (before after : List Entry) (command : TurnCommand) → NotesTurns old new before after command
+    → (calls : ℕ) → IsPlaying heap old before calls → IsPlaying heap new after (calls + 1)
+plays_turns holds heap old new before after command notes calls plays =
     let adds = turns_noted old new before after command notes in
-    let turned : List Entry = entries.Turned command notes.reply ∷ [] in
-    let long = length-append read (lines.Turns command ∷ []) in
     record {
-      follows = follows_turns holds heap old new before after command notes has.follows;
-      present = λ number below. there_by_turns old new adds number (has.present number below);
-      few = λ number below. few_by_turns old new adds number (length read) (length (read ++ lines.Turns command ∷ [])) (omega (arith, long)) (has.few number below);
-      commands = ap (flat_map lines_answered) notes.noted ∙ flat_map-append lines_answered before (notes.added ++ turned)
-          ∙ ap (λ (ls : List Line). flat_map lines_answered before ++ ls) (flat_map-append lines_answered notes.added turned ∙ ap (λ (ls : List Line). ls ++ lines.Turns command ∷ []) (no_replies notes.added adds.turned))
-          ∙ ap (λ (ls : List Line). ls ++ lines.Turns command ∷ []) has.commands;
+      follows = follows_turns holds heap old new before after command notes plays.follows;
+      present = λ number below. there_by_turns old new adds number (plays.present number below);
+      few = λ number below. few_by_turns old new adds number calls (calls + 1) (omega arith) (plays.few number below);
     }
 
--- after turns that answer no line
-answered_adds : (heap : Heap) (old new : PlayState) (before after : List Entry) (read : List Line) (adds : AddsTurns old new) → after ≡ before ++ adds.added → HasAnsweredLines heap old before read
-    → HasAnsweredLines heap new after read
-answered_adds heap old new before after read adds noted has = record {
-  follows = follows_adds heap old new before after adds noted has.follows;
-  present = λ number below. there_by_turns old new adds number (has.present number below);
-  few = λ number below. few_by_turns old new adds number (length read) (length read) (omega arith) (has.few number below);
-  commands = ap (flat_map lines_answered) noted ∙ flat_map-append lines_answered before adds.added
-      ∙ ap (λ (ls : List Line). flat_map lines_answered before ++ ls) (no_replies adds.added adds.turned) ∙ append-nil (flat_map lines_answered before) ∙ has.commands;
+-- after turns behind a reply
+plays_adds : (heap : Heap) (old new : PlayState) (before after : List Entry) (calls : ℕ) (adds : AddsTurns old new) → after ≡ before ++ adds.added → IsPlaying heap old before calls → IsPlaying heap new after calls
+plays_adds heap old new before after calls adds noted plays = record {
+  follows = follows_adds heap old new before after adds noted plays.follows;
+  present = λ number below. there_by_turns old new adds number (plays.present number below);
+  few = λ number below. few_by_turns old new adds number calls calls (omega arith) (plays.few number below);
 }
 
 -- after a seat's line
-pub answered_line : EachCallCounts → EachCallSparesOthers → (paced : Bool) (heap : Heap) (old new : PlayState) (before after : List Entry) (seat : ℕ) (command : Command)
-    → NotesSeatLine paced old new before after seat command → (read : List Line) → command ≢ Leave → HasAnsweredLines heap old before read → HasAnsweredLines heap new after (read ++ lines.Seat seat command ∷ [])
-answered_line counts others paced heap old new before after seat command notes read stays has =
-    answered_adds heap notes.now new notes.between after (read ++ lines.Seat seat command ∷ []) notes.adds notes.noted
-    (answered_call counts others heap old notes.now before notes.between seat command notes.call read stays has)
-
--- a reply that stands last, with nothing behind it
-ends_plain : (paced : Bool) (history : List Entry) → EndsInReply history → EndsAtLine paced history
-ends_plain false history last = last
-ends_plain true history last = record { answered = history; last = last; slack = []; turned = tt; of_seat = inl refl; all = sym (append-nil history) }
-
-said_replies : (history : List Entry) → EndsInSaid history → EndsInReply history
-said_replies history said = inr (said.0, entries.Said said.1 said.2 said.3, lines.Seat said.1 said.2, refl, said.4)
-
--- how the history ends after a seat's line
-ends_line : (paced : Bool) (between added after : List Entry) → EndsInSaid between → AreTurns added → after ≡ between ++ added → (paced ≡ false → added ≡ []) → EndsAtLine paced after
-ends_line true between added after said turned noted none = record { answered = between; last = said_replies between said; slack = added; turned = turned; of_seat = inr said; all = noted }
-ends_line false between added after said turned noted none =
-    subst EndsInReply (sym (noted ∙ ap (λ (l : List Entry). between ++ l) (none refl) ∙ append-nil between)) (said_replies between said)
-
-pub line_last : EachCallCounts → EachCallSparesOthers → (paced : Bool) (heap : Heap) (old new : PlayState) (before after : List Entry) (seat : ℕ) (command : Command)
-    → NotesSeatLine paced old new before after seat command → EndsAtLine paced after
-line_last counts others paced heap old new before after seat command notes =
-    ends_line paced notes.between notes.adds.added after (call_last counts others heap old notes.now before notes.between seat command notes.call) notes.adds.turned notes.noted notes.none
-
--- and after a line of the collector
-pub turns_last : (paced : Bool) (old new : PlayState) (before after : List Entry) (command : TurnCommand) → NotesTurns old new before after command → EndsAtLine paced after
-turns_last paced old new before after command notes =
-    let turned : List Entry = entries.Turned command notes.reply ∷ [] in
-    ends_plain paced after (inr (before ++ notes.added, entries.Turned command notes.reply, lines.Turns command, refl, notes.noted ∙ sym (append_assoc before notes.added turned)))
-
-pub none_last : (paced : Bool) (history : List Entry) → history ≡ [] → EndsAtLine paced history
-none_last paced history none = ends_plain paced history (inl none)
+pub plays_line : EachCallCounts → EachCallSparesOthers → (paced : Bool) (heap : Heap) (old new : PlayState) (before after : List Entry) (seat : ℕ) (command : Command)
+    → NotesSeatLine paced old new before after seat command → (calls : ℕ) → command ≢ Leave → IsPlaying heap old before calls → IsPlaying heap new after (calls + 1)
+plays_line counts others paced heap old new before after seat command notes calls stays plays =
+    plays_adds heap notes.now new notes.between after (calls + 1) notes.adds notes.noted (plays_call counts others heap old notes.now before notes.between seat command notes.call calls stays plays)
 
 -- no line is answered yet
-pub answered_none : (heap : Heap) (state : PlayState) (history : List Entry) → state.heap ≡ heap → state.entries ≡ [] → history ≡ [] → HasAnsweredLines heap state history []
-answered_none heap state history of_heap fresh none =
+pub plays_none : (heap : Heap) (state : PlayState) (history : List Entry) → state.heap ≡ heap → state.entries ≡ [] → history ≡ [] → IsPlaying heap state history 0
+plays_none heap state history of_heap fresh none =
     let graphs : graph_after (opening state.heap) state.entries ≡ opening heap = ap (λ h. graph_after (opening h) state.entries) of_heap ∙ ap (graph_after (opening heap)) fresh in
     let open_ = λ (number : ℕ) (below : number < heap.seats). ap (λ (g : Graph). graph_seat g number) graphs ∙ get_or-replicate heap.seats number opening_graph_seat absent_graph_seat below in
     rw none (record {
@@ -203,5 +136,4 @@ answered_none heap state history of_heap fresh none =
         few_objects = omega (arith, ap (λ (seat : GraphSeat). length seat.objects) (open_ number below));
         few_sets = omega (arith, ap (λ (seat : GraphSeat). seat.sets) (open_ number below));
       };
-      commands = refl;
     })

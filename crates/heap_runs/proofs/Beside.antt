@@ -1,6 +1,6 @@
--- What comes before a reply is the seat's, and tells no reply.
+-- What comes before a reply is the seat's.
 use Rattle.std.proofs.Common.{◌≡◌, ℕ, Bool, true, false, cond, eqb, List, [], ◌∷◌, ◌++◌, inl, inr, refl}
-use Rattle.std.specs.List.{AllByRecursion, flat_map}
+use Rattle.std.specs.List.{AllByRecursion}
 use Rattle.heap_model.specs.declared.command.Command.{Command}
 use Rattle.heap_model.specs.declared.command.Command.TheVariants as commands
 use Rattle.heap_model.specs.declared.entry.Entry.{Entry}
@@ -11,7 +11,6 @@ use Rattle.heap_model.specs.account.Turned.{is_of_heap}
 use Rattle.heap_model.specs.Needs.{record_fragments, array_fragments}
 use Rattle.heap_model.specs.calls.SeatCalls.{ComesBefore, ClaimsBefore, ArrayBefore, AnswersBefore, takes_of, gives_of}
 use Rattle.core_machine.specs.machine.Calls.{IsBeside}
-use Rattle.heap_runs.specs.Play.{lines_answered}
 
 beside_takes : (number : ℕ) (counts : List ℕ) → AllByRecursion (IsBeside number) (takes_of number counts)
 beside_takes number [] = tt
@@ -48,15 +47,7 @@ comes_beside number unborn last commands.Leave reply before comes = rw comes (be
 comes_beside number unborn last commands.Collect reply before comes = absurd comes
 comes_beside number unborn last command reply before comes = rw comes tt
 
--- it answers no line
-pub beside_replies : (number : ℕ) (entries : List Entry) → AllByRecursion (IsBeside number) entries → flat_map lines_answered entries ≡ []
-beside_replies number [] beside = refl
-beside_replies number (Takes q count ∷ entries) beside = beside_replies number entries beside.1
-beside_replies number (GivesBack q count ∷ entries) beside = beside_replies number entries beside.1
-beside_replies number (Answers q phase ∷ entries) beside = beside_replies number entries beside.1
-beside_replies number (_ ∷ entries) beside = absurd beside.0
-
--- nor a command of the collector
+-- it answers no command of the collector
 pub beside_of_heap : (number : ℕ) (entries : List Entry) → AllByRecursion (IsBeside number) entries → AllByRecursion (λ entry. is_of_heap entry ≡ true) entries
 beside_of_heap number [] beside = tt
 beside_of_heap number (Takes q count ∷ entries) beside = (refl, beside_of_heap number entries beside.1)

@@ -2,7 +2,7 @@
 use Rattle.std.proofs.Common.{◌≡◌, ◌≢◌, ℕ, zero, suc, ◌+◌, ◌*◌, ◌<◌, ◌≤◌, ◌==◌, if◌then◌else◌, List, [], ◌∷◌, ◌++◌, length, filter, inl, inr, refl, sym, ap, subst, ◌∙◌, append_assoc, length-append, arith}
 use Rattle.std.specs.List.{AllByRecursion}
 use Rattle.std.proofs.lemmas.List.{append-nil, append_cancel_left}
-use Rattle.std.proofs.lemmas.Bool.Decides.{eqb_tells}
+use Rattle.std.proofs.lemmas.Bool.Decides.{eqb_tells, leb_tells}
 use Rattle.std.proofs.lemmas.List.Sums.{sum_by-append}
 use Rattle.std.proofs.lemmas.List.Elements.{filter-append}
 use Rattle.heap_model.specs.declared.calls.collect.Inner.{Inner}
@@ -25,9 +25,10 @@ use Rattle.core_machine.specs.machine.Machine as machines
 use Rattle.core_machine.specs.seat.Seat.{Seat}
 use Rattle.core_machine.specs.table.Layout.{at}
 use Rattle.locked_heap.specs.Recorded.{MakesInner, Recorded, MakesTurn}
-use Rattle.heap_runs.specs.Collecting.{IsStillThere, CollectGoesOn, EndsFor}
+use Rattle.heap_runs.specs.Collecting.{IsStillThere, CollectGoesOn, EndsFor, StaysInCycle, IsUnderWayAt}
 use Rattle.heap_runs.specs.MachineHeap.{play_state_of, MovesOn, MovesAll, CollectsMachine}
-use Rattle.heap_runs.specs.PlayHeap.{TellsInCollect, TakesTurn, collector_state_of}
+use Rattle.heap_runs.specs.Play.{TellsInCollect}
+use Rattle.heap_runs.specs.PlayHeap.{TakesTurn, collector_state_of}
 use Rattle.heap_runs.proofs.TurnFacts.{added_is, none_is, wait_shows}
 use Rattle.core_rule.proofs.parties.Collectors.{all_collectors}
 use Rattle.core_rule.proofs.parties.OneSeat.{after_inner}
@@ -155,6 +156,45 @@ goes_answer old new number makes present =
       | inr apart ↦ rw apart.0 (refl, tt)
     ]
 
+-- nothing has ended where nothing happened
+pub stays_none : (whole : Recorded) → StaysInCycle whole whole
+stays_none whole cycle under = under
+
+-- a step ends no cycle
+steps_within : (now later : ℕ) (entry : Entry) → StepsTo now entry later → (cycle : ℕ) → now < cycle_phases * cycle → later < cycle_phases * cycle
+steps_within now later (entries.Advance next) steps cycle under = omega (arith, under, steps.0, steps.2, apart)
+  where
+    apart : (cycle_phases * cycle ≡ next) → ⊥
+    apart is = steps.1 (omega (arith, is))
+steps_within now later (entries.Frees count) steps cycle under = omega (arith, under, steps.2)
+steps_within now later (entries.Returns count) steps cycle under = omega (arith, under, steps.2)
+steps_within now later (entries.Swings id) steps cycle under = omega (arith, under, steps.1)
+steps_within now later _ steps cycle under = absurd steps
+
+pub stays_turn : (old now new : Recorded) (turn : Turn) → StaysInCycle old now → TakesTurn (play_state_of now) (play_state_of new) turn → turn ≡ turns.Stepped → StaysInCycle old new
+stays_turn old now new turn stays takes is cycle under = by (subst (ComesTo (collector_state_of (play_state_of now)) (collector_state_of (play_state_of new))) is takes.turned.comes_to)
+  where
+    by : ComesTo (collector_state_of (play_state_of now)) (collector_state_of (play_state_of new)) turns.Stepped → phase new.history < cycle_phases * cycle
+    by (inl none) = omega (arith, none.1, stays cycle under)
+    by (inr steps) = steps_within (phase now.history) (phase new.history) steps.0 steps.1 cycle (stays cycle under)
+
+-- nor does a turn that waits, and an answer
+pub stays_wait : (old now new : Recorded) (other answer p : ℕ) → StaysInCycle old now → TakesTurn (play_state_of now) (play_state_of new) (turns.Waits other answer p) → StaysInCycle old new
+stays_wait old now new other answer p stays takes cycle under = omega (arith, takes.turned.comes_to.0.1, stays cycle under)
+
+pub stays_answer : (old now new : Recorded) (number : ℕ) → StaysInCycle old now → MakesInner now new number inners.Answer → StaysInCycle old new
+stays_answer old now new number stays makes cycle under =
+    omega (arith, stays cycle under, ap phase makes.noted, sum_by-append (λ e. (effect_of e).phases) now.history told, none (at now.machine.heap now.machine.state.words Phase) (seat_at now.machine.state number).answered)
+  where
+    told : List Entry
+    told = inner_entries now.machine.heap now.machine.state.words number (seat_at now.machine.state number).answered inners.Answer
+
+    none : (p answered : ℕ) → phase (if p == answered then [] else entries.Answers number p ∷ []) ≡ 0
+    none p answered = elim (eqb_tells p answered) [
+      | inl same ↦ rw same.0 refl
+      | inr apart ↦ rw apart.0 refl
+    ]
+
 -- a last turn that waits for another seat
 pub ends_waiting : (old now new : Recorded) (number other answer p : ℕ) → CollectGoesOn old now number → TakesTurn (play_state_of now) (play_state_of new) (turns.Waits other answer p)
     → MakesTurn now new (turns.Waits other answer p) → other ≢ number → EndsFor old new number (replies.Waits other answer p)
@@ -163,25 +203,44 @@ ends_waiting old now new number other answer p goes takes turned apart =
     let shows = wait_shows (play_state_of now) (play_state_of new) other answer p takes in
     let some : 0 < goes.turns + 1 = omega arith in
     record {
-      goes = goes_then old now new number goes (goes_turn now new number (turns.Waits other answer p) takes turned goes.present);
-      some = some;
-      comes = (apart, takes.turned.last, shows.0, shows.2, shows.1);
-      earlier = λ cycle is. absurd (cc is);
+      ends = record {
+        goes = goes_then old now new number goes (goes_turn now new number (turns.Waits other answer p) takes turned goes.present);
+        some = some;
+        comes = (apart, takes.turned.last, shows.0, shows.2, shows.1);
+        last = λ cycle is. absurd (cc is);
+      };
+      under_way = λ cycle is. absurd (cc is);
     }
 
 -- a last turn that ends a cycle
-pub ends_cycle : (old now new : Recorded) (number cycle kept : ℕ) → CollectGoesOn old now number → TakesTurn (play_state_of now) (play_state_of new) (turns.Ended cycle kept)
+pub ends_cycle : (old now new : Recorded) (number cycle kept : ℕ) → CollectGoesOn old now number → StaysInCycle old now → TakesTurn (play_state_of now) (play_state_of new) (turns.Ended cycle kept)
     → MakesTurn now new (turns.Ended cycle kept) → EndsFor old new number (replies.Cycle cycle)
 unfolding goes_then goes_turn
-ends_cycle old now new number cycle kept goes takes turned =
+ends_cycle old now new number cycle kept goes stays takes turned =
     let comes = takes.turned.comes_to in
     let some : 0 < goes.turns + 1 = omega arith in
     record {
-      goes = goes_then old now new number goes (goes_turn now new number (turns.Ended cycle kept) takes turned goes.present);
-      some = some;
-      comes = (kept, takes.turned.last, comes.2);
-      earlier = λ other is. ended_earlier other is comes.1;
+      ends = record {
+        goes = goes_then old now new number goes (goes_turn now new number (turns.Ended cycle kept) takes turned goes.present);
+        some = some;
+        comes = (kept, takes.turned.last, comes.2);
+        last = λ other is. (goes.machine.told, kept, ap (λ (es : List Entry). goes.machine.told ++ es) (told_is ∙ ap (λ (n : ℕ). entries.Ends n kept ∷ []) (cc is)));
+      };
+      under_way = λ other is. under_way other is comes.1;
     }
   where
-    ended_earlier : (other : ℕ) → replies.Cycle cycle ≡ replies.Cycle other → phase now.history ≡ cycle_phases * cycle + clearing → phase old.history ≤ cycle_phases * other + clearing
-    ended_earlier other is at_end = (let same : cycle ≡ other = cc is in omega (arith, same, at_end, goes.onward))
+    told_is : machines.entries now.machine.heap now.machine.state Turns ≡ entries.Ends cycle kept ∷ []
+    told_is =
+        append_cancel_left now.history (machines.entries now.machine.heap now.machine.state Turns) (entries.Ends cycle kept ∷ [])
+        (sym turned.noted ∙ takes.entries ∙ ap (λ (es : List Entry). now.history ++ es)
+        (added_is (play_state_of now) (play_state_of new) (turns.Ended cycle kept) takes (entries.Ends cycle kept ∷ []) takes.turned.comes_to.0))
+
+    under_way : (other : ℕ) → replies.Cycle cycle ≡ replies.Cycle other → phase now.history ≡ cycle_phases * cycle + clearing → IsUnderWayAt (phase old.history) other
+    under_way other is at_end =
+        let same : cycle ≡ other = cc is in (
+          elim (leb_tells (cycle_phases * other) (phase old.history)) [
+            | inl late ↦ omega (arith, late.1)
+            | inr early ↦ absurd (let more = stays other (omega (arith, early.1)) in omega (arith, same, at_end, more))
+          ],
+          omega (arith, same, at_end, goes.onward),
+        )

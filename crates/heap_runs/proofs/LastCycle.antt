@@ -1,6 +1,6 @@
 -- Turns up to the end of a cycle, and a last cycle once every seat has left.
 use Rattle.std.proofs.Common.{◌≡◌, ◌≢◌, ℕ, zero, suc, ◌+◌, ◌%◌, ◌==◌, ◌<◌, ◌||◌, Bool, true, false, ◌⊎◌, List, [], ◌∷◌, ◌++◌, inl, inr, refl, sym, ap, subst, ◌∙◌, append_assoc, arith}
-use Rattle.std.specs.List.{AllByRecursion, list_any}
+use Rattle.std.specs.List.{list_any}
 use Rattle.std.proofs.Math.Bool.{or-false}
 use Rattle.std.proofs.lemmas.Bool.{eq-eqb, ne_eqb, or_right}
 use Rattle.std.proofs.lemmas.List.{append-nil}
@@ -17,14 +17,11 @@ use Rattle.heap_model.specs.account.Windows.{begins_cycle}
 use Rattle.heap_model.specs.calls.CollectorCalls.{StepsTo}
 use Rattle.heap_model.proofs.account_lemmas.Windows.{any-more}
 use Rattle.core_rule.proofs.parties.LeftStill.{left_still}
-use Rattle.heap_runs.specs.Play.{tells_step, ReachesCycleEnd}
+use Rattle.heap_runs.specs.Play.{tells_step, AreSteps, ReachesCycleEnd}
 use Rattle.heap_runs.specs.PlayHeap.{PlayState, TakesTurn}
 use Rattle.heap_runs.specs.Playing.{AllHaveLeft, NotesCycle, NotesLastCycle}
 use Rattle.heap_runs.specs.Turning.{IsStep, TakesTurns, HasComeTo, ServesCycle}
 use Rattle.heap_runs.proofs.TurnFacts.{added_is, none_is, came_add}
-
-abbrev AreSteps : List Entry → Type 0
-AreSteps told = AllByRecursion (λ entry. tells_step entry ≡ true) told
 
 steps_more : (told : List Entry) (entry : Entry) → AreSteps told → tells_step entry ≡ true → AreSteps (told ++ entry ∷ [])
 steps_more [] entry own more = (more, tt)
@@ -32,7 +29,7 @@ steps_more (first ∷ told) entry own more = (own.0, steps_more told entry own.1
 
 -- of a phase at which steps began, the phase now, and whether a cycle began among them: while none is under way none has begun; else one has begun among them
 -- where none was under way at first
-abbrev Begins : ℕ → ℕ → Bool → Type 0
+abbrev pub Begins : ℕ → ℕ → Bool → Type 0
 Begins first now begun = ((now % cycle_phases ≡ rest) × (first % cycle_phases ≡ rest) × (begun ≡ false)) ⊎ ((now % cycle_phases ≢ rest) × (begun ≡ (first % cycle_phases == rest)))
 
 begins_none : (first : ℕ) → Begins first first false
@@ -67,7 +64,7 @@ step_told now later (entries.Swings id) steps = refl
 step_told now later _ steps = absurd steps
 
 -- steps alone were made
-record MadeSteps (old new : PlayState) : Type 0 where
+pub record MadeSteps (old new : PlayState) : Type 0 where
   pub same_heap : new.heap ≡ old.heap
   pub steps : List Entry
   pub told : new.entries ≡ old.entries ++ steps
@@ -96,7 +93,7 @@ step_more old now new made takes = elim takes.turned.comes_to [
       })
 ]
 
-steps_made : (n : ℕ) (old new : PlayState) → TakesTurns IsStep n old new → MadeSteps old new
+pub steps_made : (n : ℕ) (old new : PlayState) → TakesTurns IsStep n old new → MadeSteps old new
 steps_made zero old new same = rw same (record { same_heap = refl; steps = []; told = sym (append-nil old.entries); own = tt; begins = begins_none (phase old.entries) })
 steps_made (suc n) old new taken = step_more old taken.0 new (steps_made n old taken.0 taken.2) (subst (λ (turn : Turn). TakesTurn taken.0 new turn) taken.4 taken.3)
 

@@ -15,10 +15,9 @@ use Rattle.heap_model.specs.declared.reply.Reply.{Reply}
 use Rattle.heap_model.specs.account.PhaseCounts.{has_left, is_leave_of}
 use Rattle.heap_model.specs.calls.SeatCalls.{leave_entries, last_gives}
 use Rattle.heap_model.specs.calls.SeatLaws.{EachCallCounts, EachCallSparesOthers}
-use Rattle.script_text.specs.declared.script.Line.{Line}
 use Rattle.core_rule.proofs.parties.LeftStill.{left_still}
 use Rattle.heap_runs.specs.PlayHeap.{PlayState}
-use Rattle.heap_runs.specs.Playing.{NotesCall, HasAnsweredLines, HaveLeft}
+use Rattle.heap_runs.specs.Playing.{NotesCall, IsPlaying, HaveLeft}
 use Rattle.heap_runs.proofs.Answering.{still_there}
 use Rattle.heap_runs.proofs.Following.{follows_call}
 
@@ -78,6 +77,6 @@ left_more counts others heap now new before told after n left notes =
     gone_more number under = gone_then number n now.entries (notes.answers.once (λ e. cc e)).adds.before notes.reply new.entries (notes.answers.once (λ e. cc e)).adds.entries (left.gone number) under
 
 -- no seat has left yet
-pub left_none : (heap : Heap) (state : PlayState) (history : List Entry) (lines : List Line) → HasAnsweredLines heap state history lines → HaveLeft heap state history history 0
-left_none heap state history lines has =
-    record { follows = has.follows; others = λ number past below. has.present number below; gone = λ number under. absurd (omega (arith, under)); left = λ number. 0; leaves = sym (append-nil history) }
+pub left_none : (heap : Heap) (state : PlayState) (history : List Entry) (calls : ℕ) → IsPlaying heap state history calls → HaveLeft heap state history history 0
+left_none heap state history calls plays =
+    record { follows = plays.follows; others = λ number past below. plays.present number below; gone = λ number under. absurd (omega (arith, under)); left = λ number. 0; leaves = sym (append-nil history) }

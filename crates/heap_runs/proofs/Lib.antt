@@ -9,8 +9,10 @@ pub mod Following
 pub mod Growing
 pub mod LastCycle
 pub mod Leaves
+pub mod Lines
 pub mod NextLine
 pub mod Noted
+pub mod Serving
 pub mod Slacking
 pub mod Standing
 pub mod Told

@@ -1,7 +1,6 @@
 -- The next line of a script.
 use Rattle.std.proofs.Common.{◌≡◌, ◌≢◌, ℕ, suc, ◌+◌, ◌<◌, ◌≤◌, List, [], ◌∷◌, ◌++◌, length, get_or, take, sym, ap, subst, ◌∙◌, arith}
 use Rattle.std.proofs.Math.Seq.{take-suc}
-use Rattle.std.proofs.lemmas.List.{length-take-le}
 use Rattle.std.proofs.lemmas.List.Elements.{All-get_or, All-from_recursion}
 use Rattle.heap_model.specs.declared.command.Command.{Command}
 use Rattle.heap_model.specs.declared.command.Command.TheVariants as commands
@@ -15,7 +14,7 @@ use Rattle.script_text.specs.declared.script.Script.{Script}
 use Rattle.script_text.specs.Grammar.{IsLine, IsScripted}
 use Rattle.script_text.specs.Writing.{IsOfForm}
 use Rattle.heap_runs.specs.PlayHeap.{PlayState, MayCall, seat_state_of}
-use Rattle.heap_runs.specs.Playing.{DoesFew, IsThere, HasAnsweredLines}
+use Rattle.heap_runs.specs.Playing.{DoesFew, IsThere, IsPlaying}
 
 -- no line of a script is a leave
 no_leave : (command : Command) → IsScripted command → command ≢ commands.Leave
@@ -66,16 +65,16 @@ pub record IsNextCall (script : Script) (state : PlayState) (number : ℕ) (comm
   pub stays : command ≢ commands.Leave
 
 pub next_call : (script : Script) (items : List Line) (i : ℕ) (d : Line) (number : ℕ) (command : Command) (state : PlayState) (history : List Entry) → items ≡ script.lines → IsOfForm Play script
-    → i < length items → get_or items i d ≡ lines.Seat number command → HasAnsweredLines script.heap state history (take i items) → IsNextCall script state number command
-next_call script items i d number command state history all form below is has =
+    → i < length items → get_or items i d ≡ lines.Seat number command → IsPlaying script.heap state history i → IsNextCall script state number command
+next_call script items i d number command state history all form below is plays =
     let line = line_of_form script items i d (lines.Seat number command) all form below is in
-    let short : length (take i items) ≤ 65536 = omega (arith, length-take-le i items (omega (arith, below)), form.short, below, ap (length {A = Line}) all) in
+    let short : i ≤ 65536 = omega (arith, form.short, below, ap (length {A = Line}) all) in
     record {
       may = record {
-        within = rw has.follows.of_heap line.0;
-        present = has.present number line.0;
+        within = rw plays.follows.of_heap line.0;
+        present = plays.present number line.0;
         in_range = in_range command line.1;
-        numbered = numbers_left state number (length (take i items)) command short (has.few number line.0);
+        numbered = numbers_left state number i command short (plays.few number line.0);
       };
       stays = no_leave command line.1;
     }

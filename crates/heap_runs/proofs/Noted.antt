@@ -1,5 +1,5 @@
 -- What a seat sees for itself of the end of its collect, and notes.
-use Rattle.std.proofs.Common.{◌≡◌, ℕ, ◌+◌, ◌*◌, ◌%◌, ◌<◌, ◌≤◌, List, [], ◌∷◌, ◌++◌, Option, None, Some, refl, sym, ap, subst, ◌∙◌, append_assoc, lt-ltb, arith}
+use Rattle.std.proofs.Common.{◌≡◌, ◌≢◌, ℕ, ◌+◌, ◌*◌, ◌%◌, ◌<◌, ◌≤◌, List, [], ◌∷◌, ◌++◌, Option, None, Some, refl, sym, ap, subst, ◌∙◌, append_assoc, lt-ltb, arith}
 use Rattle.std.specs.Prelude.{IfSome}
 use Rattle.std.proofs.lemmas.List.{append-nil}
 use Rattle.heap_model.specs.PhasePlan.{cycle_phases}
@@ -9,7 +9,7 @@ use Rattle.heap_model.specs.declared.calls.collect.Inner.{Inner}
 use Rattle.heap_model.specs.declared.calls.collect.Inner.TheVariants as inners
 use Rattle.heap_model.specs.declared.command.Command.TheVariants.{Collect}
 use Rattle.heap_model.specs.declared.entry.Entry.{Entry}
-use Rattle.heap_model.specs.declared.entry.Entry.TheVariants.{Said}
+use Rattle.heap_model.specs.declared.entry.Entry.TheVariants.{Said, Ends}
 use Rattle.heap_model.specs.account.PhaseCounts.{phase}
 use Rattle.heap_model.specs.account.Phases.{IsBehind}
 use Rattle.core_machine.specs.declared.seat.looks.Looks.{Looks}
@@ -24,8 +24,9 @@ use Rattle.core_rule.specs.Looks.{WasSeen}
 use Rattle.core_rule.proofs.parties.OneSeat.{after_inner}
 use Rattle.core_rule.proofs.parties.Standing.{word_is, answer_word_is}
 use Rattle.locked_heap.specs.Recorded.{MakesInner, Recorded}
-use Rattle.heap_runs.specs.Collecting.{MayGoOn, IsStillThere, LastTurnIs, EndsFor, EndsWholeFor, seen_by}
+use Rattle.heap_runs.specs.Collecting.{MayGoOn, IsStillThere, IsUnderWayAt, LastTurnIs, EndsFor, EndsWholeFor, seen_by}
 use Rattle.heap_runs.specs.MachineHeap.{IsBetweenCalls, CollectsMachine, play_state_of}
+use Rattle.heap_runs.specs.Play.{IsFirstFrom, TellsFirstCycle}
 use Rattle.heap_runs.specs.PlayHeap.{AnswersCollect, TellsTurn}
 use Rattle.heap_runs.proofs.Collecting.{goes_then, machine_then, machine_inner}
 
@@ -118,28 +119,37 @@ module _ (old new : Recorded) (number p : ℕ) (one : StandsFor old.machine.heap
         };
       }
 
--- a cycle that began not before the turns, where none was under way
+-- where no cycle was under way the one that ended is the first from there
 pub whole_at_rest : (old new : Recorded) (number : ℕ) (reply : CollectReply) → EndsFor old new number reply → phase old.history % cycle_phases ≡ 0 → EndsWholeFor old new number reply
-whole_at_rest old new number reply ends at_rest = record { ends = ends; whole = λ cycle is. omega (arith, at_rest, ends.earlier cycle is) }
+whole_at_rest old new number reply ended at_rest =
+    record { ends = ended.ends; first = λ cycle is. let way = ended.under_way cycle is in (omega (arith, at_rest, way.1), omega (arith, way.0)) }
 
 -- nothing ended where a seat is waited for
 pub whole_waiting : (old new : Recorded) (number other answer p : ℕ) → EndsFor old new number (replies.Waits other answer p) → EndsWholeFor old new number (replies.Waits other answer p)
-whole_waiting old new number other answer p ends = record { ends = ends; whole = λ cycle is. absurd (cc is) }
+whole_waiting old new number other answer p ended = record { ends = ended.ends; first = λ cycle is. absurd (cc is) }
 
--- behind the end of a cycle a whole one is made
-pub whole_behind : (old now new : Recorded) (number first : ℕ) (reply : CollectReply) → EndsFor old now number (replies.Cycle first) → EndsFor now new number reply → EndsWholeFor old new number reply
+-- behind the end of a cycle that was under way a whole one is made
+pub whole_behind : (old now new : Recorded) (number first : ℕ) (reply : CollectReply) → phase old.history % cycle_phases ≢ 0 → EndsFor old now number (replies.Cycle first) → EndsFor now new number reply → EndsWholeFor old new number reply
 unfolding goes_then
-whole_behind old now new number first reply ended ends =
-    let some : 0 < ended.goes.turns + ends.goes.turns = omega (arith, ends.some) in
+whole_behind old now new number first reply past ended next =
+    let some : 0 < ended.ends.goes.turns + next.ends.goes.turns = omega (arith, next.ends.some) in
     record {
       ends = record {
-        goes = goes_then old now new number ended.goes ends.goes;
+        goes = goes_then old now new number ended.ends.goes next.ends.goes;
         some = some;
-        comes = ends.comes;
-        earlier = λ cycle is. omega (arith, ended.goes.onward, ends.earlier cycle is);
+        comes = next.ends.comes;
+        last = λ cycle is.
+            let ends = next.ends.last cycle is in
+            (ended.ends.goes.machine.told ++ ends.0, ends.1, ap (λ (es : List Entry). ended.ends.goes.machine.told ++ es) ends.2 ∙ sym (append_assoc ended.ends.goes.machine.told ends.0 (Ends cycle ends.1 ∷ [])));
       };
-      whole = λ cycle is. omega (arith, ended.goes.onward, ended.comes.2, ends.earlier cycle is);
+      first = λ cycle is. first_from cycle (ended.under_way first refl) (next.under_way cycle is) ended.ends.comes.2;
     }
+  where
+    first_from : (cycle : ℕ) → IsUnderWayAt (phase old.history) first → IsUnderWayAt (phase now.history) cycle → phase now.history ≡ cycle_phases * first + cycle_phases → IsFirstFrom (phase old.history) cycle
+    first_from cycle one two here =
+        let apart : cycle_phases * first ≡ phase old.history → ⊥ = λ same. past (omega (arith, same)) in
+        let next_one : cycle ≡ first + 1 = omega (arith, two.0, two.1, here) in
+        (omega (arith, one.1, next_one), omega (arith, one.0, next_one, apart))
 
 -- seeing tells nothing
 seen_none : (whole : Recorded) (number : ℕ) (reply : CollectReply) → inner_entries whole.machine.heap whole.machine.state.words number (seat_at whole.machine.state number).answered (seen_by reply) ≡ []
@@ -149,6 +159,11 @@ seen_none whole number (replies.Waits other answer p) = refl
 tells_turn : (two : Recorded) (number : ℕ) (reply : CollectReply) → LastTurnIs two number reply → TellsTurn number two.last_turn (noted_reply reply)
 tells_turn two number (replies.Cycle cycle) comes = (comes.0, comes.1)
 tells_turn two number (replies.Waits other answer p) comes = (comes.0, comes.1)
+
+-- what it tells of a cycle
+tells_first : (one two : Recorded) (number p : ℕ) (reply : CollectReply) → (whole : EndsWholeFor one two number reply) → phase one.history ≡ p → TellsFirstCycle p (noted_reply reply) whole.ends.goes.machine.told
+tells_first one two number p (replies.Cycle cycle) whole here = (subst (λ q. IsFirstFrom q cycle) here (whole.first cycle refl), whole.ends.last cycle refl)
+tells_first one two number p (replies.Waits other answer q) whole here = tt
 
 -- the whole collect
 module _ (start one two three four : Recorded) (number : ℕ) (reply : CollectReply) (look : MakesInner start one number inners.Look) (whole : EndsWholeFor one two number reply)
@@ -166,7 +181,7 @@ module _ (start one two three four : Recorded) (number : ℕ) (reply : CollectRe
       record {
         heap = notes.same_heap ∙ sees.same_heap ∙ goes.machine.same_heap ∙ look.same_heap;
         before = goes.machine.told;
-        told = goes.quiet;
+        comes = record { told = goes.quiet; first = tells_first one two number (phase start.history) reply whole (ap phase (look.noted ∙ append-nil start.history)) };
         entries = notes.noted ∙ ap (λ (l : List Entry). l ++ said) (seen ∙ goes.machine.noted ∙ ap (λ (l : List Entry). l ++ goes.machine.told) (look.noted ∙ append-nil start.history)) ∙ append_assoc start.history goes.machine.told said;
         turns = goes.turns;
         some = whole.ends.some;

@@ -1,6 +1,6 @@
 -- What a call tells, whichever it is.
-use Rattle.std.proofs.Common.{◌≡◌, ℕ, true, List, [], ◌∷◌, ◌++◌, refl, sym, ap, ◌∙◌}
-use Rattle.std.specs.List.{AllByRecursion, flat_map}
+use Rattle.std.proofs.Common.{◌≡◌, ◌≢◌, ℕ, true, List, [], ◌∷◌, ◌++◌, refl, sym, ap, ◌∙◌}
+use Rattle.std.specs.List.{AllByRecursion}
 use Rattle.std.proofs.lemmas.List.{append_cancel_left}
 use Rattle.std.proofs.lemmas.List.Sums.{fold-append}
 use Rattle.heap_model.specs.declared.command.Command.{Command}
@@ -11,21 +11,21 @@ use Rattle.heap_model.specs.declared.reply.Reply.{Reply}
 use Rattle.heap_model.specs.account.Turned.{is_of_heap}
 use Rattle.heap_model.specs.graph.Graph.{Graph, opening}
 use Rattle.heap_model.specs.graph.Growth.{after_entry, graph_after}
-use Rattle.heap_runs.specs.Play.{lines_answered}
-use Rattle.heap_runs.specs.PlayHeap.{PlayState, TellsInCollect, AnswersOnce, AnswersCollect, AnswersCall}
+use Rattle.heap_runs.specs.Play.{ComesFirst, TellsInCollect}
+use Rattle.heap_runs.specs.PlayHeap.{PlayState, AnswersOnce, AnswersCollect, AnswersCall}
 use Rattle.heap_runs.specs.Playing.{NotesCall}
-use Rattle.heap_runs.proofs.Beside.{comes_beside, beside_of_heap, beside_replies}
+use Rattle.heap_runs.proofs.Beside.{comes_beside, beside_of_heap}
 
--- before the reply it answers no line and no command of the collector
+-- before the reply it tells what is due, and no answer to a command of the collector
 pub record TellsCall (old new : PlayState) (number : ℕ) (command : Command) (reply : Reply) : Type 0 where
   pub heap : new.heap ≡ old.heap
   pub before : List Entry
   pub told : new.entries ≡ old.entries ++ (before ++ entries.Said number command reply ∷ [])
   pub of_heap : AllByRecursion (λ entry. is_of_heap entry ≡ true) before
-  pub replies : flat_map lines_answered before ≡ []
+  pub comes : ComesFirst old.entries number command reply before
 
-tells_once : (old new : PlayState) (number : ℕ) (command : Command) (reply : Reply) → AnswersOnce old new number command reply → TellsCall old new number command reply
-tells_once old new number command reply answers =
+tells_once : (old new : PlayState) (number : ℕ) (command : Command) (reply : Reply) → command ≢ commands.Collect → AnswersOnce old new number command reply → TellsCall old new number command reply
+tells_once old new number command reply apart answers =
     let adds = answers.adds in
     let beside = comes_beside number adds.unborn _ command reply adds.before adds.comes in
     record {
@@ -33,7 +33,7 @@ tells_once old new number command reply answers =
       before = adds.before;
       told = adds.entries;
       of_heap = beside_of_heap number adds.before beside;
-      replies = beside_replies number adds.before beside;
+      comes = record { once = λ _. record { unborn = adds.unborn; had = adds.had; comes = adds.comes }; collects = λ is. absurd (apart is) };
     }
 
 collect_of_heap : (number : ℕ) (told : List Entry) → AllByRecursion (TellsInCollect number) told → AllByRecursion (λ entry. is_of_heap entry ≡ true) told
@@ -41,13 +41,7 @@ collect_of_heap number [] tells = tt
 collect_of_heap number (entries.Turned command reply ∷ told) tells = absurd (cc tells.0)
 collect_of_heap number (entry ∷ told) tells = (refl, collect_of_heap number told tells.1)
 
-collect_replies : (number : ℕ) (told : List Entry) → AllByRecursion (TellsInCollect number) told → flat_map lines_answered told ≡ []
-collect_replies number [] tells = refl
-collect_replies number (entries.Said other command reply ∷ told) tells = absurd (cc tells.0)
-collect_replies number (entries.Turned command reply ∷ told) tells = absurd (cc tells.0)
-collect_replies number (entry ∷ told) tells = collect_replies number told tells.1
-
--- nor does it change the graph
+-- what is told in a collect changes no graph
 collect_graph : (number : ℕ) (g : Graph) (told : List Entry) → AllByRecursion (TellsInCollect number) told → graph_after g told ≡ g
 collect_graph number g [] tells = refl
 collect_graph number g (entries.Said other command reply ∷ told) tells = absurd (cc tells.0)
@@ -58,7 +52,7 @@ collect_stays old new number reply answers =
     let said : List Entry = entries.Said number commands.Collect reply ∷ [] in
     let first = graph_after (opening old.heap) old.entries in
     ap (λ h. graph_after (opening h) new.entries) answers.heap ∙ ap (graph_after (opening old.heap)) answers.entries ∙ fold-append after_entry (opening old.heap) old.entries (answers.before ++ said)
-    ∙ fold-append after_entry first answers.before said ∙ ap (λ (g : Graph). graph_after g said) (collect_graph number first answers.before answers.told) ∙ said_stays first
+    ∙ fold-append after_entry first answers.before said ∙ ap (λ (g : Graph). graph_after g said) (collect_graph number first answers.before answers.comes.told) ∙ said_stays first
   where
     said_stays : (g : Graph) → graph_after g (entries.Said number commands.Collect reply ∷ []) ≡ g
     said_stays g = refl
@@ -69,14 +63,14 @@ tells_collect old new number reply answers =
       heap = answers.heap;
       before = answers.before;
       told = answers.entries;
-      of_heap = collect_of_heap number answers.before answers.told;
-      replies = collect_replies number answers.before answers.told;
+      of_heap = collect_of_heap number answers.before answers.comes.told;
+      comes = record { once = λ apart. absurd (apart refl); collects = λ _. answers.comes };
     }
 
 -- a call is a collect, or one call of the seat
 pub tells_call : (old new : PlayState) (number : ℕ) (command : Command) (reply : Reply) → AnswersCall old new number command reply → TellsCall old new number command reply
 tells_call old new number commands.Collect reply answers = tells_collect old new number reply (answers.collects refl)
-tells_call old new number command reply answers = tells_once old new number command reply (answers.once (λ e. cc e))
+tells_call old new number command reply answers = tells_once old new number command reply (λ e. cc e) (answers.once (λ e. cc e))
 
 -- what was noted of it is that
 pub noted_is : (old new : PlayState) (before after : List Entry) (number : ℕ) (command : Command) → (notes : NotesCall old new before after number command) → (tells : TellsCall old new number command notes.reply)

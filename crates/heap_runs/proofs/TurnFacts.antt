@@ -1,5 +1,5 @@
 -- What a turn of a heap that is played on adds.
-use Rattle.std.proofs.Common.{◌≡◌, ℕ, zero, suc, true, List, [], ◌∷◌, ◌++◌, filter, inl, inr, refl, sym, ap, subst, ◌∙◌, append_assoc, arith}
+use Rattle.std.proofs.Common.{◌≡◌, ℕ, zero, suc, ◌+◌, ◌≤◌, true, List, [], ◌∷◌, ◌++◌, length, filter, inl, inr, refl, sym, ap, subst, ◌∙◌, append_assoc, length-append, arith}
 use Rattle.std.proofs.lemmas.List.{append-nil, append_cancel_left}
 use Rattle.std.proofs.lemmas.List.Elements.{filter-append}
 use Rattle.heap_model.specs.declared.calls.collector_calls.Turn.{Turn}
@@ -43,6 +43,16 @@ module _ (old new : PlayState) (turn : Turn) (takes : TakesTurn old new turn) wh
   pub turn_told : AreTurns takes.added
   turn_told = told_by turn takes.turned.comes_to
 
+  few_by : (turn : Turn) → ComesTo (collector_state_of old) (collector_state_of new) turn → length takes.added ≤ 1
+  few_by turns.Stepped (inl none) = omega (arith, ap (length {A = Entry}) (none_is none.0))
+  few_by turns.Stepped (inr steps) = omega (arith, ap (length {A = Entry}) (added_is (steps.0 ∷ []) steps.2))
+  few_by (turns.Waits number answer p) comes = omega (arith, ap (length {A = Entry}) (none_is comes.0.0))
+  few_by (turns.Ended cycle kept) comes = omega (arith, ap (length {A = Entry}) (added_is (entries.Ends cycle kept ∷ []) comes.0))
+
+  -- and is one entry at most
+  pub few_added : length new.entries ≤ length old.entries + 1
+  few_added = omega (arith, few_by turn takes.turned.comes_to, ap (length {A = Entry}) takes.entries, length-append old.entries takes.added)
+
 -- a turn that waits adds nothing, and shows a seat that is behind
 pub wait_shows : (old new : PlayState) (number answer p : ℕ) → TakesTurn old new (turns.Waits number answer p) → TurnShows new.heap new.entries (replies.Waits number answer p)
 wait_shows old new number answer p takes =
@@ -75,6 +85,11 @@ turns_more old now new turn adds takes = record {
 pub turns_add : (Is : Turn → Type 0) (n : ℕ) (old new : PlayState) → TakesTurns Is n old new → AddsTurns old new
 turns_add Is zero old new same = turns_none old new (ap (λ s. s.heap) same) (ap (λ s. s.entries) same)
 turns_add Is (suc n) old new taken = turns_more old taken.0 new taken.1 (turns_add Is n old taken.0 taken.2) taken.3
+
+-- so many turns added as many entries at most
+pub turns_few : (Is : Turn → Type 0) (n : ℕ) (old new : PlayState) → TakesTurns Is n old new → length new.entries ≤ length old.entries + n
+turns_few Is zero old new same = omega (arith, ap (λ (s : PlayState). length s.entries) same)
+turns_few Is (suc n) old new taken = omega (arith, turns_few Is n old taken.0 taken.2, few_added taken.0 new taken.1 taken.3)
 
 -- one more turn with such an answer, or a last one
 pub turned_more : (Is : Turn → Type 0) (old now new : PlayState) (n : ℕ) (turn : Turn) → HasTurned Is old now n → TakesTurn now new turn → Is turn → HasTurned Is old new (suc n)

@@ -18,9 +18,9 @@ use Rattle.reply_text.specs.declared.history.History.{History}
 use Rattle.reply_text.specs.declared.history.SpaceMark.{SpaceMark}
 use Rattle.log_merge.specs.Legal.{ShowsUse, ShowsCounts}
 use Rattle.core_rule.proofs.parties.LeftStill.{left_still, up_to_last_later}
-use Rattle.heap_runs.specs.Play.{lines_answered, EndsAtLine, IsLastCycle, IsPlay}
+use Rattle.heap_runs.specs.Play.{StandForLines, IsLastCycle, IsPlay}
 use Rattle.heap_runs.specs.PlayHeap.{PlayState, IsPlayed}
-use Rattle.heap_runs.specs.Playing.{Follows, HasAnsweredLines, HaveLeft, NotesLastCycle}
+use Rattle.heap_runs.specs.Playing.{Follows, IsPlaying, HaveLeft, NotesLastCycle}
 use Rattle.heap_runs.proofs.Bounds.{returned_within}
 use Rattle.heap_runs.proofs.Following.{follows_cycle}
 
@@ -48,10 +48,10 @@ none_used empties heap told turned played gone cycle =
 
 -- the whole play: the script was answered, the seats have left, and a last cycle was made
 pub whole_play : TurnedMayStand → TurnedCountNothing → EachLastCycleEmpties → (paced : Bool) (script : Script) (middle gone last : PlayState) (front between entries : List Entry) (mark : SpaceMark) (used : ℕ) (told : History)
-    → HasAnsweredLines script.heap middle front script.lines → EndsAtLine paced front → HaveLeft script.heap gone front between script.heap.seats → NotesLastCycle gone last between entries → IsPlayed script.heap middle.entries → IsPlayed script.heap last.entries
+    → IsPlaying script.heap middle front (length script.lines) → StandForLines paced [] script.lines front → HaveLeft script.heap gone front between script.heap.seats → NotesLastCycle gone last between entries → IsPlayed script.heap middle.entries → IsPlayed script.heap last.entries
     → mark.before ≡ length front → ShowsUse script.heap middle.entries mark.used → mark.total ≡ 16 * script.heap.groups → mark.spine + words_returned middle.entries ≡ words_granted middle.entries → mark.budget ≡ script.heap.spine
     → ShowsUse script.heap last.entries used → told ≡ record { form = forms.Play; heap = script.heap; entries = entries; mark = Some mark; end_used = used } → IsPlay paced script told
-whole_play stand counts empties paced script middle gone last front between entries mark used told answered at_line left notes played_middle played_last before in_use total spine budget at_end is =
+whole_play stand counts empties paced script middle gone last front between entries mark used told plays answered left notes played_middle played_last before in_use total spine budget at_end is =
     let leaving : List Entry = flat_map (λ number. leave_entries number (left.left number)) (range_with_len 0 script.heap.seats) in
     let all : entries ≡ front ++ (leaving ++ notes.turned) = notes.noted ∙ ap (λ es. es ++ notes.turned) left.leaves ∙ append_assoc front leaving notes.turned in
     let front_is : take mark.before entries ≡ front = rw all (take_at front _ mark.before (sym before)) in
@@ -59,11 +59,11 @@ whole_play stand counts empties paced script middle gone last front between entr
     let follows = follows_cycle script.heap gone last between entries notes left.follows in
     let empty = none_used empties script.heap gone.entries notes.turned (subst (IsPlayed script.heap) notes.told played_last) left.gone notes.cycle in
     let stay = counts front in
-    let words = subst (λ es. mark.spine + words_returned es ≡ words_granted es) (sym answered.follows.same) spine in
+    let words = subst (λ es. mark.spine + words_returned es ≡ words_granted es) (sym plays.follows.same) spine in
     let last_counts = counts entries in
     let end_shown = shows_use counts script.heap last entries used follows at_end in
     let shown : ShowsCounts script.heap front mark = record {
-      used = shows_use counts script.heap middle front mark.used answered.follows in_use;
+      used = shows_use counts script.heap middle front mark.used plays.follows in_use;
       total = total;
       spine = omega (arith, words, stay.granted_stay, stay.returned_stay);
       budget = budget;
@@ -79,8 +79,7 @@ whole_play stand counts empties paced script middle gone last front between entr
       none_used = omega (arith, at_end, ap fragments_lost notes.told, ap (fragments_gained script.heap) notes.told, empty.0);
       all_returned = sym last_counts.returned_stay ∙ ap words_returned follows.same ∙ ap words_returned notes.told ∙ empty.1 ∙ sym (ap words_granted notes.told) ∙ sym (ap words_granted follows.same) ∙ last_counts.granted_stay;
       parted = record {
-        commands = ap (flat_map lines_answered) front_is ∙ answered.commands;
-        last = rw front_is at_line;
+        answered = rw front_is answered;
         leaving = leaving;
         turned = notes.turned;
         leaves = (left.left, refl);

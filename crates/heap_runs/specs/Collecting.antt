@@ -13,7 +13,7 @@ use Rattle.core_machine.specs.machine.Machine.{BeginsInner, Can, seat_at}
 use Rattle.core_rule.specs.Laws.{NotesNow}
 use Rattle.locked_heap.specs.Recorded.{Recorded}
 use Rattle.heap_runs.specs.MachineHeap.{CollectsMachine}
-use Rattle.heap_runs.specs.PlayHeap.{TellsInCollect}
+use Rattle.heap_runs.specs.Play.{EndsInCycle, TellsInCollect, IsFirstFrom}
 
 -- the seat may make the inner call now
 pub record MayGoOn (whole : Recorded) (number : ℕ) (inner : Inner) : Type 0 where
@@ -47,14 +47,27 @@ LastTurnIs whole number (Cycle cycle) = (kept : ℕ) × (whole.last_turn ≡ Som
 LastTurnIs whole number (Waits other answer p) =
     (other ≢ number) × (whole.last_turn ≡ Some (turns.Waits other answer p)) × (other < whole.machine.heap.seats) × IsBehind other answer p whole.history × (answer < p)
 
--- turns were made up to the first that ended a cycle or waits for another seat, as the reply tells
-pub record EndsFor (old new : Recorded) (number : ℕ) (reply : CollectReply) : Type 0 where
+-- no cycle has ended: the phase has come to no multiple of seven
+abbrev pub StaysInCycle : Recorded → Recorded → Type 0
+StaysInCycle old new = (cycle : ℕ) → phase old.history < cycle_phases * cycle → phase new.history < cycle_phases * cycle
+
+-- the cycle was under way at this phase, or at rest
+abbrev pub IsUnderWayAt : ℕ → ℕ → Type 0
+IsUnderWayAt p cycle = (cycle_phases * cycle ≤ p) × (p ≤ cycle_phases * cycle + clearing)
+
+-- turns were made, of which the last ended a cycle or waits for another seat, as the reply tells
+pub record ComesToEndFor (old new : Recorded) (number : ℕ) (reply : CollectReply) : Type 0 where
   pub goes : CollectGoesOn old new number
   pub some : 0 < goes.turns
   pub comes : LastTurnIs new number reply
-  pub earlier : (cycle : ℕ) → reply ≡ Cycle cycle → phase old.history ≤ cycle_phases * cycle + clearing
+  pub last : (cycle : ℕ) → reply ≡ Cycle cycle → EndsInCycle cycle goes.machine.told
 
--- so it is, and a cycle that ended began not before the first turn
+-- that was the first that did so: a cycle that ended is the one at whose phases the turns began
+pub record EndsFor (old new : Recorded) (number : ℕ) (reply : CollectReply) : Type 0 where
+  pub ends : ComesToEndFor old new number reply
+  pub under_way : (cycle : ℕ) → reply ≡ Cycle cycle → IsUnderWayAt (phase old.history) cycle
+
+-- a cycle that ended is the first that began not before the first turn
 pub record EndsWholeFor (old new : Recorded) (number : ℕ) (reply : CollectReply) : Type 0 where
-  pub ends : EndsFor old new number reply
-  pub whole : (cycle : ℕ) → reply ≡ Cycle cycle → phase old.history ≤ cycle_phases * cycle
+  pub ends : ComesToEndFor old new number reply
+  pub first : (cycle : ℕ) → reply ≡ Cycle cycle → IsFirstFrom (phase old.history) cycle

@@ -1,34 +1,27 @@
 -- What a play is.
-use Rattle.std.specs.Prelude.{◌≡◌, ℕ, Bool, true, false, ◌⊎◌, List, [], ◌∷◌, ◌++◌, drop, take, IsSomeAnd}
+use Rattle.std.specs.Prelude.{◌≡◌, ◌≢◌, ℕ, ◌+◌, ◌*◌, ◌<◌, ◌≤◌, Bool, true, false, ◌⊎◌, List, [], ◌∷◌, ◌++◌, length, drop, take, IsSomeAnd}
 use Rattle.std.specs.List.{AllByRecursion, flat_map, list_any, range_with_len}
 use Rattle.heap_model.specs.declared.command.Command.{Command}
+use Rattle.heap_model.specs.declared.command.Command.TheVariants.{Collect}
+use Rattle.heap_model.specs.declared.command.TurnCommand.{TurnCommand}
+use Rattle.heap_model.specs.declared.command.TurnCommand.TheVariants as orders
 use Rattle.heap_model.specs.declared.entry.Entry.{Entry}
-use Rattle.heap_model.specs.declared.entry.Entry.TheVariants.{Said, Advance, Frees, Returns, Swings, Ends, Turned}
+use Rattle.heap_model.specs.declared.entry.Entry.TheVariants.{Said, Answers, Advance, Frees, Returns, Swings, Ends, Turned}
 use Rattle.heap_model.specs.declared.reply.Reply.{Reply}
-use Rattle.heap_model.specs.account.Space.{words_granted, words_returned}
+use Rattle.heap_model.specs.declared.reply.Reply.TheVariants as replies
+use Rattle.heap_model.specs.declared.reply.TurnReply.{TurnReply}
+use Rattle.heap_model.specs.declared.reply.TurnReply.TheVariants as results
+use Rattle.heap_model.specs.PhasePlan.{cycle_phases}
+use Rattle.heap_model.specs.account.PhaseCounts.{phase, last_answer}
+use Rattle.heap_model.specs.account.Space.{taken_of, spent_of, words_granted, words_returned}
 use Rattle.heap_model.specs.account.Windows.{begins_cycle}
-use Rattle.heap_model.specs.calls.SeatCalls.{leave_entries}
+use Rattle.heap_model.specs.calls.SeatCalls.{ComesBefore, leave_entries}
 use Rattle.script_text.specs.declared.script.Form.TheVariants as forms
 use Rattle.script_text.specs.declared.script.Line.{Line}
 use Rattle.script_text.specs.declared.script.Line.TheVariants as lines
 use Rattle.script_text.specs.declared.script.Script.{Script}
 use Rattle.reply_text.specs.declared.history.History.{History}
 use Rattle.log_merge.specs.Legal.{IsLegalHistory}
-
--- the line of a script that an entry answers, if it answers one
-abbrev pub lines_answered : Entry → List Line
-lines_answered (Said seat command reply) = lines.Seat seat command ∷ []
-lines_answered (Turned command reply) = lines.Turns command ∷ []
-lines_answered _ = []
-
--- the last entry answers a line, if there is any
-abbrev pub EndsInReply : List Entry → Type 0
-EndsInReply entries =
-    (entries ≡ []) ⊎ ((earlier : List Entry) × (last : Entry) × (line : Line) × (lines_answered last ≡ line ∷ []) × (entries ≡ earlier ++ last ∷ []))
-
--- each seat gives back what it has left over, if anything, and leaves, in the order of their numbers
-abbrev pub AreLeaves : ℕ → List Entry → Type 0
-AreLeaves seats entries = (left : ℕ → ℕ) × (entries ≡ flat_map (λ seat. leave_entries seat (left seat)) (range_with_len 0 seats))
 
 -- the entry tells a step of the collector that ends no cycle
 abbrev pub tells_step : Entry → Bool
@@ -43,32 +36,95 @@ abbrev pub tells_turn : Entry → Bool
 tells_turn (Ends cycle kept) = true
 tells_turn entry = tells_step entry
 
+-- steps of the collector told them all
+abbrev pub AreSteps : List Entry → Type 0
+AreSteps told = AllByRecursion (λ entry. tells_step entry ≡ true) told
+
 -- turns of the collector told them all
 abbrev pub AreTurns : List Entry → Type 0
 AreTurns told = AllByRecursion (λ entry. tells_turn entry ≡ true) told
 
--- the last entry is a seat's reply
-abbrev pub EndsInSaid : List Entry → Type 0
-EndsInSaid entries = (earlier : List Entry) × (seat : ℕ) × (command : Command) × (reply : Reply) × (entries ≡ earlier ++ Said seat command reply ∷ [])
+-- the last of them tells that the cycle has ended
+abbrev pub EndsInCycle : ℕ → List Entry → Type 0
+EndsInCycle cycle told = (before : List Entry) × (kept : ℕ) × (told ≡ before ++ Ends cycle kept ∷ [])
 
--- the last entry answers a line, if there is any, but for what turns told behind a seat's reply
-pub record EndsInSlack (entries : List Entry) : Type 0 where
-  pub answered : List Entry
-  pub last : EndsInReply answered
+-- what is told while a seat collects: its answers to the phases that begin, and the collector's steps and ends of cycles
+abbrev pub TellsInCollect : ℕ → Entry → Type 0
+TellsInCollect number (Answers other p) = other ≡ number
+TellsInCollect number (Ends cycle kept) = Unit {0}
+TellsInCollect number entry = tells_step entry ≡ true
+
+-- it is the first cycle that begins at this phase or behind it
+abbrev pub IsFirstFrom : ℕ → ℕ → Type 0
+IsFirstFrom p cycle = (p ≤ cycle_phases * cycle) × (cycle_phases * cycle < p + cycle_phases)
+
+-- a collect that began at this phase and tells a cycle tells the first that began no earlier, whose end was told last before
+abbrev pub TellsFirstCycle : ℕ → Reply → List Entry → Type 0
+TellsFirstCycle p (replies.Cycle cycle) before = IsFirstFrom p cycle × EndsInCycle cycle before
+TellsFirstCycle p reply before = Unit {0}
+
+-- what comes before the reply to a seat's collect that began at this phase
+pub record ComesInCollect (number p : ℕ) (reply : Reply) (before : List Entry) : Type 0 where
+  pub told : AllByRecursion (TellsInCollect number) before
+  pub first : TellsFirstCycle p reply before
+
+-- what comes before the reply to another command, by what its seat had of its own and had answered last after the earlier entries
+pub record ComesInCall (earlier : List Entry) (number : ℕ) (command : Command) (reply : Reply) (before : List Entry) : Type 0 where
+  pub unborn : ℕ
+  pub had : spent_of number earlier + unborn ≡ taken_of number earlier
+  pub comes : ComesBefore number unborn (last_answer number earlier) command reply before
+
+-- what comes before the reply to a command of a seat, behind the earlier entries
+pub record ComesFirst (earlier : List Entry) (number : ℕ) (command : Command) (reply : Reply) (before : List Entry) : Type 0 where
+  pub once : command ≢ Collect → ComesInCall earlier number command reply before
+  pub collects : command ≡ Collect → ComesInCollect number (phase earlier) reply before
+
+-- what stands for a seat's line behind the earlier entries: what comes before its reply, the reply, and with a pace what turns of the collector told then
+pub record StandsForCall (paced : Bool) (earlier : List Entry) (number : ℕ) (command : Command) (told : List Entry) : Type 0 where
+  pub before : List Entry
+  pub reply : Reply
   pub slack : List Entry
+  pub comes : ComesFirst earlier number command reply before
   pub turned : AreTurns slack
-  pub of_seat : (slack ≡ []) ⊎ EndsInSaid answered
-  pub all : entries ≡ answered ++ slack
+  pub unpaced : paced ≡ false → slack ≡ []
+  pub all : told ≡ (before ++ Said number command reply ∷ []) ++ slack
 
--- the last entry answers a line, if there is any; with a pace, turns may follow where it is a seat's
-abbrev pub EndsAtLine : Bool → List Entry → Type 0
-EndsAtLine false entries = EndsInReply entries
-EndsAtLine true entries = EndsInSlack entries
+-- what turns of the collector told for its command, as the reply says: as many turns, none of which waited, or fewer and one that waited;
+-- or steps up to the first turn that ended a cycle, or waited
+abbrev pub TellsTurns : TurnCommand → TurnReply → List Entry → Type 0
+TellsTurns (orders.Turns n) results.Done told = AreTurns told × (length told ≤ n)
+TellsTurns (orders.Turns n) (results.Waits number answer p) told = AreTurns told × (length told < n)
+TellsTurns (orders.Turns n) (results.Cycle cycle) told = ⊥
+TellsTurns orders.Cycle results.Done told = ⊥
+TellsTurns orders.Cycle (results.Waits number answer p) told = AreSteps told
+TellsTurns orders.Cycle (results.Cycle cycle) told = (steps : List Entry) × (kept : ℕ) × AreSteps steps × (told ≡ steps ++ Ends cycle kept ∷ [])
+
+-- what stands for a line for the collector: what its turns told, and the reply
+pub record StandsForTurns (command : TurnCommand) (told : List Entry) : Type 0 where
+  pub before : List Entry
+  pub reply : TurnReply
+  pub tells : TellsTurns command reply before
+  pub all : told ≡ before ++ Turned command reply ∷ []
+
+-- what stands for a line of a script behind the earlier entries
+abbrev pub StandsForLine : Bool → List Entry → Line → List Entry → Type 0
+StandsForLine paced earlier (lines.Seat number command) told = StandsForCall paced earlier number command told
+StandsForLine paced earlier (lines.Turns command) told = StandsForTurns command told
+
+-- behind the earlier entries there stands what stands for each of these lines, one after another, and nothing else
+abbrev pub StandForLines : Bool → List Entry → List Line → List Entry → Type 0
+StandForLines paced earlier [] told = told ≡ []
+StandForLines paced earlier (line ∷ more) told =
+    (here : List Entry) × (rest : List Entry) × StandsForLine paced earlier line here × StandForLines paced (earlier ++ here) more rest × (told ≡ here ++ rest)
+
+-- each seat gives back what it has left over, if anything, and leaves, in the order of their numbers
+abbrev pub AreLeaves : ℕ → List Entry → Type 0
+AreLeaves seats entries = (left : ℕ → ℕ) × (entries ≡ flat_map (λ seat. leave_entries seat (left seat)) (range_with_len 0 seats))
 
 -- steps of the collector up to the end of a cycle, which began among them or had begun before
 pub record ReachesCycleEnd (began : Bool) (turned : List Entry) : Type 0 where
   pub steps : List Entry
-  pub own : AllByRecursion (λ entry. tells_step entry ≡ true) steps
+  pub own : AreSteps steps
   pub begins : list_any begins_cycle steps ≡ began
   pub cycle : ℕ
   pub kept : ℕ
@@ -82,10 +138,9 @@ pub record IsLastCycle (turned : List Entry) : Type 0 where
   pub last : ReachesCycleEnd true whole
   pub both : turned ≡ under_way ++ whole
 
--- the entries before the mark answer the script's lines in order, each once, and behind it the seats leave, and then a last cycle is made
+-- the entries before the mark stand for the script's lines, in order and each once, and behind it the seats leave, and then a last cycle is made
 pub record IsParted (paced : Bool) (script : Script) (front behind : List Entry) : Type 0 where
-  pub commands : flat_map lines_answered front ≡ script.lines
-  pub last : EndsAtLine paced front
+  pub answered : StandForLines paced [] script.lines front
   pub leaving : List Entry
   pub turned : List Entry
   pub leaves : AreLeaves script.heap.seats leaving

@@ -5,7 +5,7 @@ use Rattle.heap_model.specs.declared.heap.Heap.{Heap}
 use Rattle.heap_model.specs.declared.command.Command.{Command}
 use Rattle.heap_model.specs.declared.command.Command.TheVariants.{Collect, Leave}
 use Rattle.heap_model.specs.declared.entry.Entry.{Entry}
-use Rattle.heap_model.specs.declared.entry.Entry.TheVariants.{Said, Answers, Ends}
+use Rattle.heap_model.specs.declared.entry.Entry.TheVariants.{Said}
 use Rattle.heap_model.specs.declared.reply.Reply.{Reply}
 use Rattle.heap_model.specs.declared.reply.Reply.TheVariants as replies
 use Rattle.heap_model.specs.declared.calls.collector_calls.Turn.{Turn}
@@ -24,7 +24,7 @@ use Rattle.heap_model.specs.calls.SeatCalls.{HasNumber, Adds}
 use Rattle.heap_model.specs.calls.SeatReplies.{next_id}
 use Rattle.heap_model.specs.calls.SeatState.{SeatState, own_graph_seat}
 use Rattle.core_machine.specs.seat.Commands.{IsRecordCall, IsArrayCall}
-use Rattle.heap_runs.specs.Play.{tells_step}
+use Rattle.heap_runs.specs.Play.{ComesInCollect}
 
 -- the heap, the entries of all its parties in their order, for how many more of the collector's there is room, the number of turns as far
 -- as it is counted, what the last of them answered, and a number which falls at each turn that is a step alone
@@ -97,12 +97,6 @@ pub record AnswersOnce (old new : PlayState) (number : ℕ) (command : Command) 
   pub made : IsRecordCall command → (reply ≡ replies.Made (next_id (seat_state_of old number))) ↔ IsEnough old number command
   pub array : IsArrayCall command → AnswersArrayOnce old number command reply
 
--- what is told while a seat collects: its answers to the phases that begin, and the collector's steps and ends of cycles
-abbrev pub TellsInCollect : ℕ → Entry → Type 0
-TellsInCollect number (Answers other p) = other ≡ number
-TellsInCollect number (Ends cycle kept) = Unit {0}
-TellsInCollect number entry = tells_step entry ≡ true
-
 -- the reply tells what the last turn came to: the end of a cycle, or another seat that is waited for
 abbrev pub TellsTurn : ℕ → Option Turn → Reply → Type 0
 TellsTurn number last (replies.Cycle cycle) = (kept : ℕ) × (last ≡ Some (Ended cycle kept))
@@ -110,11 +104,11 @@ TellsTurn number last (replies.Waits other answer p) = (other ≢ number) × (la
 TellsTurn number last _ = ⊥
 
 -- the collect made at least one turn, each of which is counted, and answers of the seat between them, and then told as its one reply what
--- the last turn came to
+-- the last turn came to; a cycle that it tells is the first that began no earlier than the collect
 pub record AnswersCollect (old new : PlayState) (number : ℕ) (reply : Reply) : Type 0 where
   pub heap : new.heap ≡ old.heap
   pub before : List Entry
-  pub told : AllByRecursion (TellsInCollect number) before
+  pub comes : ComesInCollect number (phase old.entries) reply before
   pub entries : new.entries ≡ old.entries ++ (before ++ Said number Collect reply ∷ [])
   pub turns : ℕ
   pub some : 0 < turns

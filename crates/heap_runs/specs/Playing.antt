@@ -13,8 +13,7 @@ use Rattle.heap_model.specs.account.PhaseCounts.{phase, has_left}
 use Rattle.heap_model.specs.account.Turned.{without_turned, AllAnswerRightly}
 use Rattle.heap_model.specs.calls.SeatCalls.{leave_entries}
 use Rattle.heap_model.specs.calls.SeatState.{own_graph_seat}
-use Rattle.script_text.specs.declared.script.Line.{Line}
-use Rattle.heap_runs.specs.Play.{lines_answered, ReachesCycleEnd, IsLastCycle}
+use Rattle.heap_runs.specs.Play.{ReachesCycleEnd, IsLastCycle}
 use Rattle.heap_runs.specs.PlayHeap.{PlayState, seat_state_of, AnswersCall}
 use Rattle.heap_runs.specs.Turning.{ServesCommand, AddsTurns, TurnsRiseBy}
 use Rattle.slack_pace.specs.Slack.{HasWaited}
@@ -68,12 +67,11 @@ pub record DoesFew (state : PlayState) (number calls : ℕ) : Type 0 where
   pub few_objects : length (own_graph_seat (seat_state_of state number)).objects ≤ calls
   pub few_sets : (own_graph_seat (seat_state_of state number)).sets ≤ calls
 
--- seats that are all there, and the collector, have answered these lines, in order and each once
-pub record HasAnsweredLines (heap : Heap) (state : PlayState) (history : List Entry) (lines : List Line) : Type 0 where
+-- the seats are all there, and made no more objects than this and did no more sets
+pub record IsPlaying (heap : Heap) (state : PlayState) (history : List Entry) (calls : ℕ) : Type 0 where
   pub follows : Follows heap state history
   pub present : (number : ℕ) → number < heap.seats → IsThere state number
-  pub few : (number : ℕ) → number < heap.seats → DoesFew state number (length lines)
-  pub commands : flat_map lines_answered history ≡ lines
+  pub few : (number : ℕ) → number < heap.seats → DoesFew state number calls
 
 -- the first seats have left, and the others are there
 pub record HaveLeft (heap : Heap) (state : PlayState) (before after : List Entry) (count : ℕ) : Type 0 where

@@ -1,9 +1,9 @@
-ghost use Rattle.std.specs.Prelude.{◌≡◌, true, [], is_some, IfOk, OnOk};
+ghost use Rattle.std.specs.Prelude.{◌≡◌, true, [], length, is_some, IfOk, OnOk};
 ghost use Rattle.script_text.specs.declared.script.Form.TheVariants.{Play};
 ghost use Rattle.script_text.specs.Writing.{IsOfForm};
-ghost use Rattle.heap_runs.specs.Play.{IsPlay, EndsAtLine};
+ghost use Rattle.heap_runs.specs.Play.{IsPlay, StandForLines};
 ghost use Rattle.heap_runs.specs.PlayHeap.{MayCall};
-ghost use Rattle.heap_runs.specs.Playing.{NotesSeatLine, HasAnsweredLines, HaveLeft, AllHaveLeft, NotesLastCycle};
+ghost use Rattle.heap_runs.specs.Playing.{NotesSeatLine, IsPlaying, HaveLeft, AllHaveLeft, NotesLastCycle};
 
 use crate::play_heap::PlayHeap;
 use crate::playing::noting::{note_call, note_cycle, note_slack, note_turns};
@@ -51,8 +51,8 @@ fn answer_lines<H: PlayHeap + Drop>(
     requires heap { (H.state whole).heap ≡ script.now.heap }
     requires fresh { (H.state whole).entries ≡ [] }
     requires nothing { history.old.items ≡ [] }
-    ensures answered { IfOk result (λ now. HasAnsweredLines script.now.heap (H.state now) history.new.items script.now.lines) }
-    ensures last { OnOk result (EndsAtLine (is_some pace) history.new.items) }
+    ensures plays { IfOk result (λ now. IsPlaying script.now.heap (H.state now) history.new.items (length script.now.lines)) }
+    ensures answered { OnOk result (StandForLines (is_some pace) [] script.now.lines history.new.items) }
 {
     account_laws();
     seat_laws();
@@ -73,7 +73,7 @@ fn leave_all<H: PlayHeap>(
     history: &mut Vec<Entry>,
     script: &Script,
 ) -> Result<(), Memory>
-    requires { HasAnsweredLines script.now.heap (H.state whole.old) history.old.items script.now.lines }
+    requires { IsPlaying script.now.heap (H.state whole.old) history.old.items (length script.now.lines) }
     ensures { OnOk result (HaveLeft script.now.heap (H.state whole.new) history.old.items history.new.items script.now.heap.seats) }
 {
     seat_laws();

@@ -1,5 +1,6 @@
 pub mod Leading
 pub mod GivenRuns
+pub mod HeapEntries
 pub mod Calls
 pub mod Inners
 pub mod MachineTurns

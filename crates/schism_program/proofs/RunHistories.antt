@@ -7,6 +7,7 @@ use Rattle.heap_model.specs.account.Account.{IsLegal}
 use Rattle.locked_heap.specs.declared.ran.LockedRan.{LockedRan}
 use Rattle.locked_heap.specs.Given.{Given, script_of}
 use Rattle.locked_heap.specs.Ran.{EndsEmpty, IsRun}
+use Rattle.locked_heap.proofs.HeapEntries.{run_of_heap}
 use Rattle.script_text.specs.declared.script.Script.{Script}
 use Rattle.schism_program.specs.Running.{seat_commands, run_history, IsRunOf}
 
@@ -21,6 +22,7 @@ run_of_script given ran script same handed run =
       unmarked = refl;
       legal = record { entries = whole.objects; mark = tt; end_used = run.used };
       whole = whole;
+      unturned = run_of_heap given ran run;
       commands = λ number within.
           run.commands number (subst (λ (h : Heap). number < h.seats) (sym same) within) ∙ ap (λ (commands : List Command). commands ++ Leave ∷ []) (handed number within);
       last_cycle = subst (λ (h : Heap). EndsEmpty h ran.history.items) same run.last_cycle;

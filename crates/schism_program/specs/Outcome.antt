@@ -58,12 +58,12 @@ pub record ReadsTooMuch (words : List (List ℕ)) (left left' : Option (List ℕ
   pub reads : HasInput work
   pub lost : LosesNext left left' (most_bytes work + 1)
 
--- the work has an input, of which at most one byte more than the limit was read; or it has none, and nothing was
+-- the work has an input, of which no more than the limit was read; or it has none, and nothing was
 abbrev pub IsReadUpTo : Work → Option (List ℕ) → Option (List ℕ) → Type 0
 IsReadUpTo (Make start seats lines) left left' = left' ≡ left
-IsReadUpTo work left left' = LosesUpTo left left' (most_bytes work + 1)
+IsReadUpTo work left left' = LosesUpTo left left' (most_bytes work)
 
--- the words ask for the work, and so much was read at most
+-- the words ask for the work, and no more than its limit was read
 pub record ReadsNoMore (words : List (List ℕ)) (left left' : Option (List ℕ)) : Type 0 where
   pub work : Work
   pub asked : AskFor words work

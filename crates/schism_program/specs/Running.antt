@@ -1,6 +1,6 @@
 -- What a run of a script comes to.
 use Rattle.std.specs.Prelude.{◌≡◌, ℕ, ◌<◌, ◌==◌, Bool, true, false, if◌then◌else◌, List, [], ◌∷◌, ◌++◌, filter, None}
-use Rattle.std.specs.List.{flat_map}
+use Rattle.std.specs.List.{AllByRecursion, flat_map}
 use Rattle.heap_model.specs.declared.command.Command.{Command}
 use Rattle.heap_model.specs.declared.command.Command.TheVariants.{Leave}
 use Rattle.heap_model.specs.declared.entry.Entry.{Entry}
@@ -9,6 +9,7 @@ use Rattle.heap_model.specs.account.Account.{IsLegal}
 use Rattle.heap_model.specs.account.Effects.{is_of}
 use Rattle.heap_model.specs.account.Noting.{is_collectors}
 use Rattle.heap_model.specs.account.Space.{words_granted, words_returned}
+use Rattle.heap_model.specs.account.Turned.{is_of_heap}
 use Rattle.script_text.specs.declared.script.Form.TheVariants as forms
 use Rattle.script_text.specs.declared.script.Line.{Line}
 use Rattle.script_text.specs.declared.script.Line.TheVariants as lines
@@ -48,6 +49,8 @@ pub record IsRunOf (locked : Bool) (script : Script) (history : History) : Type 
   pub unmarked : history.mark ≡ None
   pub legal : IsLegalHistory history
   pub whole : IsLegalRun locked history.heap history.entries
+  -- no entry answers a command of the collector
+  pub unturned : AllByRecursion (λ entry. is_of_heap entry ≡ true) history.entries
   -- the lines of a seat are answered in their order, each once, and behind them it leaves
   pub commands : (number : ℕ) → number < script.heap.seats → commands_told number history.entries ≡ seat_commands number script.lines ++ Leave ∷ []
   -- the last cycle began behind every leave

@@ -1,4 +1,4 @@
-ghost use Rattle.std.specs.Prelude.{◌≡◌, ◌+◌, ◌≤◌, IfOk, IsErrOf, vec_len};
+ghost use Rattle.std.specs.Prelude.{◌≡◌, ◌+◌, ◌≤◌, IfOk, OnOk, IsErrOf, vec_len};
 ghost use Rattle.io_edge.specs.Left.{LosesNext};
 ghost use Rattle.io_edge.specs.ReadAll.{CountsReadFault};
 ghost use Rattle.schism_program.specs.Outcome.{IsRead, IsReadUpTo};
@@ -19,7 +19,11 @@ pub fn read_input<S: Source>(
     ensures within { IfOk result (λ input. vec_len input ≤ most_bytes work) }
     ensures too_long { IsErrOf result ReadAllFault.TooLong →
         HasInput work × LosesNext (S.left source.old) (S.left source.new) (most_bytes work + 1) }
-    ensures most { IsReadUpTo work (S.left source.old) (S.left source.new) }
+    ensures most { OnOk result (IsReadUpTo work (S.left source.old) (S.left source.new)) }
+    ensures read_fault { IsErrOf result ReadAllFault.ReadFault →
+        IsReadUpTo work (S.left source.old) (S.left source.new) }
+    ensures memory { IsErrOf result ReadAllFault.Memory →
+        IsReadUpTo work (S.left source.old) (S.left source.new) }
     ensures untouched { ¬ HasInput work → source.new ≡ source.old }
     ensures count { CountsReadFault result (S.faults source.old) (S.faults source.new) }
 {

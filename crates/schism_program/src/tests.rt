@@ -43,6 +43,26 @@ fn illegal(line: u32) -> Status {
 }
 
 // What comes of the words. The contract of the call is large, so that each place which makes it is dear to prove: this is the only one.
+fn status_at<S: Source, K: Sink, G: Gate>(
+    rt: &(impl Threads + Wait + Sync),
+    alloc: Global,
+    words: &[&str],
+    source: &mut S,
+    sink: &mut K,
+    gate: &G,
+    paces: Paces,
+) -> Status {
+    schism(rt, alloc, words, source, sink, paces, gate)
+}
+
+// The paces of the program.
+fn steady(alloc: Global) -> Result<Paces, AllocError> {
+    Ok(Paces {
+        steady: Box::new(alloc, Steady)?,
+    })
+}
+
+// What comes of the words at the steady pace.
 fn status_of<S: Source, K: Sink, G: Gate>(
     rt: &(impl Threads + Wait + Sync),
     alloc: Global,
@@ -51,10 +71,8 @@ fn status_of<S: Source, K: Sink, G: Gate>(
     sink: &mut K,
     gate: &G,
 ) -> Result<Status, AllocError> {
-    let paces = Paces {
-        steady: Box::new(alloc, Steady)?,
-    };
-    Ok(schism(rt, alloc, words, source, sink, paces, gate))
+    let paces = steady(alloc)?;
+    Ok(status_at(rt, alloc, words, source, sink, gate, paces))
 }
 
 // What comes of it, and what was written; reads give 5 bytes a call and writes take 8.
@@ -75,6 +93,22 @@ fn ended(
 }
 
 // What the words in the line make of the text, and what was written, where no side fails; each seat of a run passes the gate.
+fn told_at<G: Gate>(
+    rt: &(impl Threads + Wait + Sync),
+    alloc: Global,
+    line: &str,
+    text: &[u8],
+    gate: &G,
+    paces: Paces,
+) -> Result<(Status, Vec<u8>), AllocError> {
+    let words: Vec<&str> = line.split(' ').collect(alloc)?;
+    let mut source = NeverSource::new(Vec::from_slice(alloc, text)?);
+    let mut sink = NeverSink::new(Vec::with_capacity(alloc, 262_144)?);
+    let status = status_at(rt, alloc, &words, &mut source, &mut sink, gate, paces);
+    Ok((status, Vec::from_slice(alloc, sink.bytes().unwrap_or(&[]))?))
+}
+
+// The same at the steady pace.
 fn told<G: Gate>(
     rt: &(impl Threads + Wait + Sync),
     alloc: Global,
@@ -82,14 +116,24 @@ fn told<G: Gate>(
     text: &[u8],
     gate: &G,
 ) -> Result<(Status, Vec<u8>), AllocError> {
-    let words: Vec<&str> = line.split(' ').collect(alloc)?;
-    let mut source = NeverSource::new(Vec::from_slice(alloc, text)?);
-    let mut sink = NeverSink::new(Vec::with_capacity(alloc, 262_144)?);
-    let status = status_of(rt, alloc, &words, &mut source, &mut sink, gate)?;
-    Ok((status, Vec::from_slice(alloc, sink.bytes().unwrap_or(&[]))?))
+    told_at(rt, alloc, line, text, gate, steady(alloc)?)
 }
 
 // What the words in the line write, where they are done with the text.
+fn written_at<G: Gate>(
+    rt: &(impl Abort + Threads + Wait + Sync),
+    alloc: Global,
+    line: &str,
+    text: &[u8],
+    gate: &G,
+    paces: Paces,
+) -> Result<Vec<u8>, AllocError> {
+    let (end, written) = told_at(rt, alloc, line, text, gate, paces)?;
+    same(rt, &end, &Status::Done, &line);
+    Ok(written)
+}
+
+// The same at the steady pace.
 fn written<G: Gate>(
     rt: &(impl Abort + Threads + Wait + Sync),
     alloc: Global,
@@ -97,7 +141,5 @@ fn written<G: Gate>(
     text: &[u8],
     gate: &G,
 ) -> Result<Vec<u8>, AllocError> {
-    let (end, written) = told(rt, alloc, line, text, gate)?;
-    same(rt, &end, &Status::Done, &line);
-    Ok(written)
+    written_at(rt, alloc, line, text, gate, steady(alloc)?)
 }

@@ -57,8 +57,9 @@ pub fn schism<S: Source, K: Sink, G: Gate, R: Threads + Wait + Sync>(
         ¬ Rose (K.faults sink.old) (K.faults sink.new) →
         (result ≡ status) ⊎ (result ≡ Status.Memory) }
 
-    ensures most { result ≢ Status.Usage → ReadsNoMore (map (λ w. w.now) words.now)
-        (S.left source.old) (S.left source.new) }
+    // One byte more than the limit is read only where the input is too long.
+    ensures most { result ≢ Status.Usage → result ≢ Status.TooLong →
+        ReadsNoMore (map (λ w. w.now) words.now) (S.left source.old) (S.left source.new) }
     ensures unwritten { ¬ IsWriting result → sink.new ≡ sink.old }
     ensures read_count { result ≢ Status.ReadFault → S.faults source.new ≡ S.faults source.old }
     ensures write_count { result ≢ Status.WriteFault → K.faults sink.new ≡ K.faults sink.old }

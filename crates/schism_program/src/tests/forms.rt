@@ -58,6 +58,15 @@ const NO_FORMS: [&str; 44] = [
     "make 1 1 +1",
 ];
 
+/// Words with a space in one of them, which are no form either.
+const SPACED: [&[&str]; 5] = [
+    &[" play"],
+    &["play "],
+    &["check\n"],
+    &["play", " --brief"],
+    &["make", "1 ", "1", "1"],
+];
+
 /// Words that read a script or a history at first.
 const READERS: [&str; 12] = [
     "play",
@@ -97,6 +106,10 @@ fn says_usage_of_other_words(rt: HostRuntime) -> Result<(), Fail> {
     let alloc = rt.alloc();
     let (end, _) = ended(&rt, alloc, &[], FIRST.as_bytes(), &[0], &[0])?;
     same(&rt, &end, &Status::Usage, &"no words");
+    for words in SPACED {
+        let (end, _) = ended(&rt, alloc, words, FIRST.as_bytes(), &[0], &[0])?;
+        same(&rt, &end, &Status::Usage, &words[0]);
+    }
     all_end(&rt, alloc, &NO_FORMS, Status::Usage)?;
     all_end(&rt, alloc, &READERS, Status::ReadFault)?;
     all_end(&rt, alloc, &MAKERS, Status::WriteFault)?;
@@ -132,15 +145,20 @@ fn plays_a_made_script_at_a_steady_pace(rt: HostRuntime) -> Result<(), Fail> {
     Ok(())
 }
 
-// Five fragments are taken for the record, for which the steady pace asks for 56 turns; the third of them waits for the seat.
-// After each further line it asks for 16, of which the first waits.
+// By the fragments that a line of a seat claimed the pace asks for 16 turns and 8 more for each, up to 4,096. Until all have answered the third phase each slack ends with a turn
+// that waits. Marking is 193 turns from there on: 75 for the board's eleven fragments (a look at the group, the words that lead on and what they lead to, the fragment's
+// blackening: 6 for the first, 7 for each with a link, 6 for the last), 110 for the sixteen of 1.0 (6, fourteen times 7, 6), three looks at groups with nothing left, three more of
+// a pass that finds nothing, the flip, and the fourth phase. Of these 15 are made behind the last poll, where the first of 16 looks at the seat, and 16 behind
+// the num. The new of seat 0 claims 5 and 16 fragments: so of 184 turns the 162nd begins the fourth phase, and the next waits. Were it asked with fewer than 19 the phase would
+// begin in no slack. What is borne then is black, so nothing is freed before the second cycle.
 #[test]
 fn plays_at_a_steady_pace(rt: HostRuntime) -> Result<(), Fail> {
     let alloc = rt.alloc();
-    let script = b"schism 1\nheap 1 0 1\n0 new 1 2\nc turns 0\n0 num 2 9\n0 poll\n";
+    let script =
+        b"schism 1\nheap 3 0 2\n1 new 1 47\n0 poll\n1 poll\n0 poll\n1 poll\n0 poll\n1 poll\n0 num 2 9\n0 new 1 47\n0 nil 2\n";
     let played = written(&rt, alloc, "play --pace steady", script, &OpenGate)?;
     let wanted =
-        "history 1 play\nheap 1 0 1\n0 takes 5\n0 new 1 2 = 0.0\nc phase 1\nc turns 0 = done\n0 num 2 9 = ok\n0 answers 1\n0 poll = 1\nc phase 2\nspace used 16 of 16 spine 0 of 0\n0 gives back 4\n0 leave = ok\nc phase 3\nc phase 4\nc phase 5\nc frees 12\nc phase 6\nc ends 0 kept 0\nc phase 8\nc phase 9\nc phase 10\nc phase 11\nc phase 12\nc phase 13\nc ends 1 kept 0\nend used 0\n";
+        "history 1 play\nheap 3 0 2\n1 takes 16\n1 new 1 47 = 1.0\nc phase 1\n0 answers 1\n0 poll = 1\n1 answers 1\n1 poll = 1\nc phase 2\n0 answers 2\n0 poll = 2\n1 answers 2\n1 poll = 2\nc phase 3\n0 answers 3\n0 poll = 3\n1 answers 3\n1 poll = 3\n0 num 2 9 = ok\n0 takes 5\n0 takes 16\n0 new 1 47 = 0.0\nc phase 4\n0 nil 2 = ok\nspace used 48 of 48 spine 0 of 0\n0 gives back 5\n0 leave = ok\n1 leave = ok\nc phase 5\nc phase 6\nc ends 0 kept 43\nc phase 8\nc phase 9\nc phase 10\nc phase 11\nc phase 12\nc frees 16\nc frees 16\nc frees 11\nc phase 13\nc ends 1 kept 0\nend used 0\n";
     same(&rt, &played.as_slice(), &wanted.as_bytes(), &"the play");
     Ok(())
 }

@@ -2,13 +2,15 @@
 
 mod gates;
 mod judging;
+mod paced;
 
 use super::comparing::{holds, same};
 use super::several_seats::text_of;
-use super::{refused, told, written};
+use super::{refused, told, written, written_at};
 use gates::{OneAfterTheOther, TwoAtOnce};
 use heap_model::{Gate, OpenGate};
-use judging::{has_line, judge};
+use judging::{begins_line, has_line, judge};
+use paced::Paced;
 use script_text::Cause;
 use std::alloc::Global;
 use std::process::Abort;
@@ -44,12 +46,46 @@ fn shares_a_field(rt: HostRuntime) -> Result<(), Fail> {
     for line in RUNS {
         let gate = TwoAtOnce::new();
         let history = ran(&rt, rt.alloc(), line, script, &gate)?;
-        holds(&rt, gate.met(), &line);
+        holds(&rt, gate.met(3), &line);
         let first = has_line(&history, b"0 set 0 3 1 = was -")
             && has_line(&history, b"1 set 0 3 1 = was 0:1");
         let second = has_line(&history, b"1 set 0 3 1 = was -")
             && has_line(&history, b"0 set 0 3 1 = was 1:1");
         holds(&rt, first || second, &line);
+    }
+    Ok(())
+}
+
+// Seat 0 goes on to each of its commands only once the pace was asked anew, and then in all with what it has claimed so far: nothing, and the five fragments of group 0. In
+// the second script the collect sees a whole cycle, so seat 1, which never polls, has left by then: held back until the pace was asked a thousand times, while seat 0 finds it
+// behind. The pace is asked further behind that leave.
+#[test]
+fn asks_the_pace_for_what_was_claimed(rt: HostRuntime) -> Result<(), Fail> {
+    let alloc = rt.alloc();
+    let alone: &'static [u64] = &[0, 5];
+    let behind: &'static [u64] = &[0, 0, 5];
+    for (script, claims, others, reply) in [
+        (
+            "schism 1; heap 1 0 1; 0 new 1 2; 0 poll",
+            alone,
+            0,
+            "0 new 1 2 = 0.0",
+        ),
+        (
+            "schism 1; heap 1 0 2; 0 collect; 0 new 1 2; 0 poll; 1 nil 1",
+            behind,
+            1,
+            "0 collect = cycle",
+        ),
+    ] {
+        let text = text_of(alloc, script)?;
+        for line in ["run --patience 1000000", "run --locked --patience 1000000"] {
+            let (gate, paces) = Paced::new(alloc, claims, 1000)?;
+            let history = written_at(&rt, alloc, line, text.as_bytes(), &gate, paces)?;
+            judge(alloc, &history)?;
+            holds(&rt, gate.was_right(others), &script);
+            holds(&rt, begins_line(&history, reply.as_bytes()), &script);
+        }
     }
     Ok(())
 }

@@ -1,17 +1,25 @@
-use Rattle.std.proofs.Common.{◌<◌, ◌∙◌, length, take, is_some, subst, arith}
+use Rattle.std.proofs.Common.{◌<◌, ◌∙◌, length, take, is_some, refl, subst, arith}
 use Rattle.script_text.specs.declared.script.Line.TheVariants as lines
-use Rattle.heap_runs.specs.Play.{EndsAtLine}
 use Rattle.heap_runs.specs.PlayHeap.{PlayState}
-use Rattle.heap_runs.proofs.Answering.{answered_line, answered_turns, line_last, turns_last}
+use Rattle.heap_runs.specs.Playing.{NotesSeatLine}
+use Rattle.heap_runs.proofs.Answering.{plays_line, plays_none, plays_turns}
+use Rattle.heap_runs.proofs.Lines.{call_stands, lines_then, no_lines, turns_stand}
 use Rattle.heap_runs.proofs.NextLine.{next_call, read_more}
 use Rattle.heap_runs.proofs.playing.answer_lines.Goals as goal
 use Rattle.heap_runs.proofs.playing.answer_lines.Goals.{in-Seat+in_ok-whole-in-Seat, in-Turns+in_ok-note_turns-in-Turns}
+
+pub loop-line-init : goal.loop-line-init
+loop-line-init g c = record {
+  plays = plays_none c.args.script.now.heap (g.H.PlayHeap.state c.args.whole) c.args.history.now.items c.requires.heap c.requires.fresh c.requires.nothing;
+  answered = no_lines (is_some c.args.pace) c.args.history.now.items c.requires.nothing;
+  pace = refl;
+}
 
 pub answer_seat_line-requires : goal.answer_seat_line-requires
 answer_seat_line-requires g c =
     let now = c.loop-line in
     (next_call c.args.script.now c.as_slice-line-items.result.now now.line-index _ c.in-Seat.seat c.in-Seat.command (g.H.PlayHeap.state now.whole) now.history.items c.as_slice-line-items.ensures c.requires.form
-    (omega (arith, c.loop-line-test.true)) c.in-Seat.is now.invariant.answered).may
+    (omega (arith, c.loop-line-test.true)) c.in-Seat.is now.invariant.plays).may
 
 pub loop-line-preserved : goal.loop-line-preserved
 loop-line-preserved g c =
@@ -22,24 +30,31 @@ loop-line-preserved g c =
     let all = c.as_slice-line-items.ensures in
     let below : now.line-index < length items = omega (arith, c.loop-line-test.true) in
     let laws = c.seat_laws.ensures in
+    let paced = is_some c.args.pace in
     elim c.match-line.branch [
       | in-Seat+in_ok-whole-in-Seat w ↦
           let line = w.in-Seat in
           let new : PlayState = g.H.PlayHeap.state w.in_ok-whole-in-Seat.whole in
           let after = w.answer_seat_line.new.history.items in
-          let notes = w.in_ok-whole-in-Seat.ensures.notes in
-          let paced = is_some now.pace in
-          let next = next_call script items now.line-index _ line.seat line.command old now.history.items all c.requires.form below line.is now.invariant.answered in
-          let more = answered_line laws.counts laws.others paced script.heap old new now.history.items after line.seat line.command notes (take now.line-index items) next.stays now.invariant.answered in
-          let last = subst (λ p. EndsAtLine p after) now.invariant.pace (line_last laws.counts laws.others paced script.heap old new now.history.items after line.seat line.command notes) in
+          let notes = subst (λ p. NotesSeatLine p old new now.history.items after line.seat line.command) now.invariant.pace w.in_ok-whole-in-Seat.ensures.notes in
+          let next = next_call script items now.line-index _ line.seat line.command old now.history.items all c.requires.form below line.is now.invariant.plays in
           rw (w.whole-is, w.history-is, w.pace-is, read_more script items now.line-index _ (lines.Seat line.seat line.command) all c.requires.form below line.is)
-          (record { answered = more; last = last; pace = w.in_ok-whole-in-Seat.ensures.pace ∙ now.invariant.pace })
+          (record {
+            plays = plays_line laws.counts laws.others paced script.heap old new now.history.items after line.seat line.command notes now.line-index next.stays now.invariant.plays;
+            answered = lines_then paced (take now.line-index items) (lines.Seat line.seat line.command) now.history.items after now.invariant.answered
+                (call_stands paced script.heap old new now.history.items after line.seat line.command notes now.invariant.plays.follows);
+            pace = w.in_ok-whole-in-Seat.ensures.pace ∙ now.invariant.pace;
+          })
       | in-Turns+in_ok-note_turns-in-Turns w ↦
           let line = w.in-Turns in
           let new : PlayState = g.H.PlayHeap.state w.note_turns.new.whole in
           let after = w.note_turns.new.history.items in
           let notes = w.in_ok-note_turns-in-Turns.ensures.notes in
-          let more = answered_turns c.account_laws.ensures.behind script.heap old new now.history.items after line.command notes (take now.line-index items) now.invariant.answered in
           rw (w.whole-is, w.history-is, w.pace-is, read_more script items now.line-index _ (lines.Turns line.command) all c.requires.form below line.is)
-          (record { answered = more; last = turns_last (is_some c.args.pace) old new now.history.items after line.command notes; pace = now.invariant.pace })
+          (record {
+            plays = plays_turns c.account_laws.ensures.behind script.heap old new now.history.items after line.command notes now.line-index now.invariant.plays;
+            answered = lines_then paced (take now.line-index items) (lines.Turns line.command) now.history.items after now.invariant.answered
+                (turns_stand paced old new now.history.items after line.command notes);
+            pace = now.invariant.pace;
+          })
     ]

@@ -1,4 +1,4 @@
-use Rattle.std.proofs.Common.{◌≡◌, ℕ, subst, arith}
+use Rattle.std.proofs.Common.{◌≡◌, ℕ, length, subst, arith}
 use Rattle.heap_runs.specs.PlayHeap.{PlayState}
 use Rattle.heap_runs.specs.Playing.{HaveLeft}
 use Rattle.heap_runs.proofs.Leaves.{left_none, left_more}
@@ -6,7 +6,7 @@ use Rattle.heap_runs.proofs.NextLine.{may_leave}
 use Rattle.heap_runs.proofs.playing.leave_all.Goals as goal
 
 pub loop-seat-init : goal.loop-seat-init
-loop-seat-init g c = left_none c.args.script.now.heap (g.H.PlayHeap.state c.args.whole.now) c.args.history.now.items c.args.script.now.lines c.requires
+loop-seat-init g c = left_none c.args.script.now.heap (g.H.PlayHeap.state c.args.whole.now) c.args.history.now.items (length c.args.script.now.lines) c.requires
 
 pub note_call-requires : goal.note_call-requires
 note_call-requires g c =

@@ -20,13 +20,13 @@ returns g c =
     let middle : PlayState = g.H.PlayHeap.state c.in_ok-whole.whole in
     let gone : PlayState = g.H.PlayHeap.state c.leave_all.new.whole in
     let last : PlayState = g.H.PlayHeap.state c.make_last_cycle.new.whole in
-    let answered = c.in_ok-whole.ensures.answered in
+    let plays = c.in_ok-whole.ensures.plays in
     let left = c.in_ok-leave_all.ensures in
     let notes = c.in_ok-make_last_cycle.ensures.notes in
     let mark : SpaceMark = record { before = c.len.result; used = c.in_use.result; total = c.from.result * c.from-2.result; spine = c.words_in_use.result; budget = c.from-3.result } in
-    let played = subst (λ (h : Heap). IsPlayed h middle.entries) answered.follows.of_heap c.entries.ensures.played in
+    let played = subst (λ (h : Heap). IsPlayed h middle.entries) plays.follows.of_heap c.entries.ensures.played in
     let played_last = subst (λ (h : Heap). IsPlayed h last.entries) (notes.same_heap ∙ left.follows.of_heap) c.entries-3.ensures.played in
-    whole_play laws.turned laws.counts c.law_sweep_exact.ensures.emptied (is_some c.args.pace) script middle gone last c.answer_lines.new.history.items c.leave_all.new.history.items c.make_last_cycle.new.history.items mark c.in_use-2.result _ answered c.in_ok-whole.ensures.last left notes played played_last
+    whole_play laws.turned laws.counts c.law_sweep_exact.ensures.emptied (is_some c.args.pace) script middle gone last c.answer_lines.new.history.items c.leave_all.new.history.items c.make_last_cycle.new.history.items mark c.in_use-2.result _ plays c.in_ok-whole.ensures.answered left notes played played_last
     (search rules) (subst (λ (es : List Entry). ShowsUse script.heap es c.in_use.result) c.entries.ensures.entries (subst (λ (h : Heap). ShowsUse h c.entries.result.now c.in_use.result) c.requires.heap c.in_use.ensures))
     (rw (c.from.ensures, c.from-2.ensures, c.requires.heap) refl)
     (subst (λ (es : List Entry). c.words_in_use.result + words_returned es ≡ words_granted es) c.entries-2.ensures.entries c.words_in_use.ensures) (c.from-3.ensures ∙ ap (λ (h : Heap). h.spine) c.requires.heap)

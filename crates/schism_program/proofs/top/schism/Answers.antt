@@ -5,13 +5,6 @@ use Rattle.schism_program.specs.Works.{most_bytes, FailsAt, MakesText}
 use Rattle.schism_program.proofs.OneStatus.{made_suits, only_due}
 use Rattle.schism_program.proofs.top.schism.Goals as goal
 
-pub returns-in-Err-TooLong-clause-most : goal.returns-in-Err-TooLong-clause-most
-returns-in-Err-TooLong-clause-most g c = λ other. record {
-  work = c.in-Some.work;
-  asked = c.in-Some.ensures.some;
-  lost = c.read_input.ensures.most;
-}
-
 pub returns-in-Err-Refused-clause-complete : goal.returns-in-Err-Refused-clause-complete
 returns-in-Err-Refused-clause-complete g c = λ status due calm_source calm_sink.
     let work = c.in-Some.work in

@@ -4,53 +4,104 @@ use heap_model::Gate;
 use std::sync::atomic::{AtomicU64, Ordering};
 
 /// The most turns of a wait at a gate.
-const MOST_TURNS: u64 = 100_000_000;
+pub const MOST_TURNS: u64 = 100_000_000;
 
-/// Waits until the flag stands, and tells whether it came to stand.
-fn comes(flag: &AtomicU64) -> bool {
+/// Waits until the number is at least this, and tells whether it came to be.
+pub fn comes_to(number: &AtomicU64, least: u64) -> bool {
     for _ in 0..MOST_TURNS {
-        if flag.load(Ordering::SeqCst) == 1 {
+        if number.load(Ordering::SeqCst) >= least {
             return true;
         }
     }
     false
 }
 
+/// How far a seat has come at a gate.
+#[derive(Drop)]
+pub struct Passes {
+    next: AtomicU64,
+    astray: AtomicU64,
+}
+
+impl Passes {
+    pub fn new() -> Passes {
+        Passes {
+            next: AtomicU64::new(0),
+            astray: AtomicU64::new(0),
+        }
+    }
+
+    /// Notes that the seat came with its command `n`.
+    pub fn note(&self, n: u32) {
+        if self.next.load(Ordering::SeqCst) != u64::from(n) {
+            self.astray.store(1, Ordering::SeqCst);
+        }
+        self.next.store(u64::from(n) + 1, Ordering::SeqCst);
+    }
+
+    /// Whether the seat came with each of so many commands once, in their order.
+    pub fn are(&self, commands: u64) -> bool {
+        self.next.load(Ordering::SeqCst) == commands && self.astray.load(Ordering::SeqCst) == 0
+    }
+}
+
+/// One of two seats at a gate.
+#[derive(Drop)]
+struct Meeting {
+    passes: Passes,
+    here: AtomicU64,
+    met: AtomicU64,
+}
+
+impl Meeting {
+    fn new() -> Meeting {
+        Meeting {
+            passes: Passes::new(),
+            here: AtomicU64::new(0),
+            met: AtomicU64::new(0),
+        }
+    }
+
+    /// Whether the seat came with each of so many commands once, and met the other one once.
+    fn has_met(&self, commands: u64) -> bool {
+        self.passes.are(commands) && self.met.load(Ordering::SeqCst) == 1
+    }
+}
+
 /// Before its second command each of two seats waits until the other one has come there.
 #[derive(Drop)]
 pub struct TwoAtOnce {
-    first: AtomicU64,
-    second: AtomicU64,
-    missed: AtomicU64,
+    first: Meeting,
+    second: Meeting,
 }
 
 impl TwoAtOnce {
     pub fn new() -> TwoAtOnce {
         TwoAtOnce {
-            first: AtomicU64::new(0),
-            second: AtomicU64::new(0),
-            missed: AtomicU64::new(0),
+            first: Meeting::new(),
+            second: Meeting::new(),
         }
     }
 
-    /// Whether no seat has waited in vain.
-    pub fn met(&self) -> bool {
-        self.missed.load(Ordering::SeqCst) == 0
+    /// Whether each seat came with each of so many commands once, and met the other one once.
+    pub fn met(&self, commands: u64) -> bool {
+        self.first.has_met(commands) && self.second.has_met(commands)
     }
 }
 
 impl Gate for TwoAtOnce {
     fn pass(&self, seat: u8, n: u32) {
-        if n != 1 {
-            return;
-        }
         let (own, other) = match seat {
             0 => (&self.first, &self.second),
             _ => (&self.second, &self.first),
         };
-        own.store(1, Ordering::SeqCst);
-        if !comes(other) {
-            self.missed.store(1, Ordering::SeqCst);
+        own.passes.note(n);
+        if n != 1 {
+            return;
+        }
+        own.here.store(1, Ordering::SeqCst);
+        if comes_to(&other.here, 1) {
+            own.met.fetch_add(1, Ordering::SeqCst);
         }
     }
 }
@@ -75,7 +126,7 @@ impl Gate for OneAfterTheOther {
             self.past.store(1, Ordering::SeqCst);
         }
         if seat == 1 && n == 0 {
-            let _ = comes(&self.past);
+            let _ = comes_to(&self.past, 1);
         }
     }
 }

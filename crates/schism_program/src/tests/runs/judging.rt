@@ -27,3 +27,9 @@ pub fn judge(alloc: Global, text: &[u8]) -> Result<(), Fail> {
 pub fn has_line(text: &[u8], line: &[u8]) -> bool {
     text.split(|byte| *byte == b'\n').any(|found| found == line)
 }
+
+/// Whether a line of the text begins so.
+pub fn begins_line(text: &[u8], front: &[u8]) -> bool {
+    text.split(|byte| *byte == b'\n')
+        .any(|found| found.starts_with(front))
+}

@@ -24,7 +24,7 @@ make_inner-requires-3 c =
     let upto = subst (λ f. FirstUpTo f (phase one.history)) (sym whole.ends.goes.first_stays) first in
     record {
       may = may_note two three number (phase one.history) (stands runs two.machine.heap two.machine.state two.history c.known-3.ensures) (stands runs three.machine.heap three.machine.state three.history c.known-4.ensures)
-          c.known-4.ensures whole.ends.goes.present upto c.in_ok-came.came sees whole.ends.comes whole.whole;
+          c.known-4.ensures whole.ends.goes.present upto c.in_ok-came.came sees whole.ends.comes (λ cycle is. (whole.first cycle is).0);
     }
 
 pub returns-clause-answers : goal.returns-clause-answers

@@ -1,0 +1,105 @@
+//! A gate and a pace that know of each other: by what the pace is asked a seat sees that the collector's worker goes on, and what it was told.
+
+use super::gates::{Passes, comes_to};
+use heap_model::Gate;
+use slack_pace::{Pace, Paces};
+use std::alloc::{AllocError, Global};
+use std::sync::Arc;
+use std::sync::atomic::{AtomicU64, Ordering};
+
+/// How often a pace was asked, and with how many claimed fragments in all.
+#[derive(Drop)]
+pub struct Asked {
+    times: AtomicU64,
+    claimed: AtomicU64,
+}
+
+/// A pace that tells what it is asked, and asks for 16 turns each time.
+#[derive(Drop)]
+struct Telling(Arc<Asked>);
+
+impl Pace for Telling {
+    ghost asks = { λ _ _. 16 };
+
+    fn turns(&mut self, claimed: u64) -> u64 {
+        self.0.claimed.fetch_add(claimed, Ordering::SeqCst);
+        self.0.times.fetch_add(1, Ordering::SeqCst);
+        16
+    }
+}
+
+/// Before each of its commands seat 0 waits until the pace was asked twice more, so once from its begin on, after which it was asked in all with what the commands before have
+/// claimed. Seat 1 waits before its first command until the pace was asked so often since seat 0 came to its own.
+#[derive(Drop)]
+pub struct Paced {
+    asked: Arc<Asked>,
+    claims: &'static [u64],
+    holds: u64,
+    passes: Passes,
+    right: AtomicU64,
+    begun: AtomicU64,
+    other: Passes,
+}
+
+impl Paced {
+    /// The gate, and the paces of a run that it goes with: so much is claimed in all before each command of seat 0.
+    pub fn new(
+        alloc: Global,
+        claims: &'static [u64],
+        holds: u64,
+    ) -> Result<(Paced, Paces), AllocError> {
+        let asked = Arc::new(
+            alloc,
+            Asked {
+                times: AtomicU64::new(0),
+                claimed: AtomicU64::new(0),
+            },
+        )?;
+        let paces = Paces {
+            steady: Box::new(alloc, Telling(asked.clone()?))?,
+        };
+        let gate = Paced {
+            asked,
+            claims,
+            holds,
+            passes: Passes::new(),
+            right: AtomicU64::new(0),
+            begun: AtomicU64::new(0),
+            other: Passes::new(),
+        };
+        Ok((gate, paces))
+    }
+
+    /// Whether the pace was asked so often more, and then with so much in all.
+    fn is_asked(&self, more: u64, claimed: u64) -> bool {
+        let times = self.asked.times.load(Ordering::SeqCst);
+        comes_to(&self.asked.times, times.saturating_add(more))
+            && self.asked.claimed.load(Ordering::SeqCst) == claimed
+    }
+
+    /// Whether seat 0 came with each of its commands once and found what it waited for, and seat 1 came with each of so many.
+    pub fn was_right(&self, others: u64) -> bool {
+        let commands = self.claims.len() as u64;
+        self.passes.are(commands)
+            && self.right.load(Ordering::SeqCst) == commands
+            && self.other.are(others)
+    }
+}
+
+impl Gate for Paced {
+    fn pass(&self, seat: u8, n: u32) {
+        if seat != 0 {
+            self.other.note(n);
+            let _ = comes_to(&self.begun, 1) && comes_to(&self.asked.times, self.holds);
+            return;
+        }
+        self.passes.note(n);
+        let Some(claimed) = self.claims.get(n as usize) else {
+            return;
+        };
+        if self.is_asked(2, *claimed) {
+            self.right.fetch_add(1, Ordering::SeqCst);
+        }
+        self.begun.store(1, Ordering::SeqCst);
+    }
+}
