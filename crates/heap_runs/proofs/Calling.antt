@@ -20,6 +20,7 @@ use Rattle.core_machine.specs.seat.Seat.{Seat}
 use Rattle.core_rule.specs.Laws.{StandsFor, FreeIsUnused, WordsAreUsed}
 use Rattle.core_rule.proofs.parties.Standing.{words_used, own_reserve, answered_last, gone_is, made_is, phase_near, number_left}
 use Rattle.locked_heap.specs.Recorded.{Recorded, MakesCall}
+use Rattle.heap_runs.specs.Collecting.{IsStillThere}
 use Rattle.heap_runs.specs.MachineHeap.{play_state_of, IsBetweenCalls}
 use Rattle.heap_runs.specs.PlayHeap.{MayCall, AnswersOnce, IsEnough, seat_state_of}
 use Rattle.heap_runs.proofs.ArrayCalls.{answers_array}
@@ -29,18 +30,25 @@ served_once : (command : Command) → command ≢ commands.Collect → IsServed 
 served_once commands.Collect once = absurd (once refl)
 served_once _ once = tt
 
+-- a seat that may be called is there
+pub still_there : (whole : Recorded) (number : ℕ) (command : Command) → StandsFor whole.machine.heap whole.machine.state [] whole.history
+    → IsBetweenCalls whole.machine.heap whole.machine.state whole.history → MayCall (play_state_of whole) number command → IsStillThere whole number
+still_there whole number command s between may =
+    let within : number < length whole.machine.state.seats = rw s.stands.rule.machine.seated may.within in
+    record { within = within; there = sym (gone_is whole.machine.heap whole.machine.state whole.history s number may.within (between.all_idle number within)) ∙ may.present }
+
 -- a command that may be called may be begun
 pub may_begin : (whole : Recorded) (number : ℕ) (command : Command) → command ≢ commands.Collect → StandsFor whole.machine.heap whole.machine.state [] whole.history
     → IsBetweenCalls whole.machine.heap whole.machine.state whole.history → MayCall (play_state_of whole) number command → Can whole.machine.heap whole.machine.state (Begins number command)
 may_begin whole number command once s between may =
     let heap = whole.machine.heap in
     let state = whole.machine.state in
-    let within : number < length state.seats = rw s.stands.rule.machine.seated may.within in
-    let idle = between.all_idle number within in (
-      within,
+    let still = still_there whole number command s between may in
+    let idle = between.all_idle number still.within in (
+      still.within,
       record {
         idle = idle;
-        present = sym (gone_is heap state whole.history s number may.within idle) ∙ may.present;
+        present = still.there;
         served = served_once command once;
         in_range = may.in_range;
         numbered = number_left heap state whole.history s number may.within idle command (number_again command may.numbered);
