@@ -6,7 +6,7 @@ use Rattle.core_machine.specs.declared.place.Place.TheVariants as places
 use Rattle.core_machine.specs.declared.step.Step.{Step}
 use Rattle.core_machine.specs.seat.Seat.{Seat}
 pub use Rattle.core_machine.specs.Move.{Move, plain_move, seat_after}
-pub use Rattle.core_machine.specs.seat.MakingMoves.{grant_move, spine_full_entry, withdraw_move, refusal_step, placing_move, listing_step, listing_move, takes_some, claim_move, first_part, give_back_move, full_entry, refusal_move, word_store, due_store, store_move, bears_black_of, last_part, is_last_birth, birth_move, made_entry, last_birth_move, bearing_move, making_move}
+pub use Rattle.core_machine.specs.seat.MakingMoves.{grant_move, spine_full_entry, withdraw_move, refusal_step, placing_move, listing_step, listing_move, takes_some, claim_move, first_part, give_back_move, full_entry, refusal_looks, refusal_move, word_store, due_store, store_move, bears_black_of, last_part, is_last_birth, birth_move, made_entry, last_birth_move, bearing_move, making_move}
 pub use Rattle.core_machine.specs.seat.AccessMoves.{access_move}
 pub use Rattle.core_machine.specs.seat.HandshakeMoves.{local_move, polling_move, leaving_move}
 pub use Rattle.core_machine.specs.seat.Collecting.{collecting_move}

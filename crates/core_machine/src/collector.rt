@@ -109,8 +109,9 @@ impl CollectorParty {
                 return Step::Copying(CopyingStep::BudgetReturn { words });
             }
             Stage::Clearing { group, .. } => TurningStep::Clear { group },
-            Stage::Ending { .. } => TurningStep::EndAdvance {
+            Stage::Ending { kept } => TurningStep::EndAdvance {
                 phase: self.phase + 1,
+                kept,
             },
             Stage::Advancing => TurningStep::AdvanceStore {
                 phase: self.phase + 1,

@@ -141,8 +141,8 @@ pub enum TurningStep {
     Free { group: u16, bits: u16 },
     /// No fragment of the group is marked any longer, nor scanned.
     Clear { group: u16 },
-    /// The phase begins with which the cycle before it has ended.
-    EndAdvance { phase: u64 },
+    /// The phase begins with which the cycle before it has ended; so many fragments were taken as its marks were cleared.
+    EndAdvance { phase: u64, kept: u64 },
 }
 
 impl Step {
@@ -343,7 +343,7 @@ impl TurningStep {
             | TurningStep::GroupLoad { .. }
             | TurningStep::ScanLoad { .. }
             | TurningStep::MetaLoad { .. } => Operation::Load,
-            TurningStep::AdvanceStore { phase } | TurningStep::EndAdvance { phase } => {
+            TurningStep::AdvanceStore { phase } | TurningStep::EndAdvance { phase, .. } => {
                 Operation::Store(phase)
             }
             TurningStep::MarkShade { fragment } => Operation::Or(shade_bit(fragment)),

@@ -6,3 +6,4 @@ pub mod Ways
 pub mod Origins
 pub mod Moves
 pub mod Stays
+pub mod Finds

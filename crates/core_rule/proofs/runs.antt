@@ -14,3 +14,4 @@ pub mod Waits
 pub mod ToldDead
 pub mod ComingTurns
 pub mod Offsets
+pub mod CountedFinds

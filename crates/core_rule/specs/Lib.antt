@@ -25,6 +25,7 @@ pub mod Budgets
 pub mod Rule
 pub mod Looks
 pub mod Stands
+pub mod Finds
 pub mod Laws
 pub mod SweepLaws
 pub mod Held

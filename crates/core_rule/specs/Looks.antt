@@ -57,11 +57,13 @@ WhileCollecting P _ = Unit {0}
 
 -- what a seat has found out by its inner calls was so, and it knows what it is to know of the seat that it asks
 pub record LooksStand (heap : Heap) (history : List Entry) (number : ℕ) (place : Place) (looks : Looks) : Type 0 where
-  -- the phase that it saw last has begun
+  -- the phase that it loaded last has begun
   pub seen : looks.seen ≤ phase history
   -- while a get's name is awaited its reply stands in the history already, and it has yet to forget what it found before
   pub found : place ≢ places.Access Naming → FoundSince heap history number looks
   pub asks : WhileCollecting (CollectingStands heap history number) place
+  -- another seat's word is compared with the phase that it loaded last
+  pub compares : (other p : ℕ) → place ≡ places.Collecting (Comparing other p) → p ≡ looks.seen
 
 -- what each seat has found out by its inner calls was so
 abbrev pub AllLooksStand : Heap → State → List Entry → Type 0

@@ -1,4 +1,5 @@
 ghost use Rattle.core_rule.specs.Laws.{EachEventKeeps, EveryRunKeeps, WholeCallsPlay, FreeIsUnused, WordsAreUsed, EachBirthHasItsColour, EachAnswerIsMarked, EachWaitIsBehind, EachDeadIsTold, EachTurnComesTo};
+ghost use Rattle.core_rule.specs.Finds.{WaitsAreFinds, EachEventIsFollowed};
 ghost use Rattle.core_rule.specs.HeldLaws.{EachHeldIsTaken, NoClaimTakesHeld, NoFreeTakesHeld, EachHeldIsMarked, NoPlaceTakesHeld, NoCopyTakesHeld, EachStoreIsOwn, EachSpineStoreIsOwn, EachCopyStoreIsOwn};
 ghost use Rattle.core_rule.specs.TurnsLeft.{EachTurnLeavesFewer};
 
@@ -24,4 +25,6 @@ pub fn law_every_run()
     ensures spine_stores { EachSpineStoreIsOwn }
     ensures copy_stores { EachCopyStoreIsOwn }
     ensures fewer { EachTurnLeavesFewer }
+    ensures finds { WaitsAreFinds }
+    ensures looks { EachEventIsFollowed }
 {}

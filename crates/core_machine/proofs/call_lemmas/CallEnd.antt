@@ -189,7 +189,7 @@ pub record CallOver (heap : Heap) (old now : State) (number : ℕ) (command : Co
   pub leave : command ≡ Leave → TellsLeave old now number
   pub answer : IsRecordCall command → AnswersNew heap old now number command reply
   pub array : IsArrayCall command → AnswersArray heap old now number command reply
-  pub refused : IsPlaceRefusal reply → LeavesAll old now number
+  pub refused : IsPlaceRefusal reply → LeavesAll heap old now number reply
 
 pub call_over : {heap : Heap} {old : State} (now : MachineValue) {number : ℕ} {command : Command} {reply : Reply} → Playing heap old now.state number command
     → due_step heap number (seat_at now.state number) ≡ None → last_reply_of (log_of now number) ≡ Some reply → CallOver heap old now.state number command reply
@@ -204,7 +204,7 @@ call_over {heap} {old} now {number} {command} {reply} playing none last =
       leave = λ a_leave. all_mine heap old now.state number command playing none ∙ ap (λ (l : List Entry). (seat_at old number).mine ++ l) (ended.leave a_leave);
       answer = λ a_record. subst (AnswersNew heap old now.state number command) same (answer.answer a_record);
       array = λ an_array. subst (AnswersArray heap old now.state number command) same (answer.array an_array);
-      refused = λ refusal. answer.refused (subst IsPlaceRefusal (sym same) refusal);
+      refused = λ refusal. subst (LeavesAll heap old now.state number) same (answer.refused (subst IsPlaceRefusal (sym same) refusal));
     }
   where
     some_same : (a b : Reply) → Some a ≡ Some b → a ≡ b

@@ -24,8 +24,8 @@ use Rattle.core_machine.specs.seat.Collecting.{inner_place, after_asking, look_m
 use Rattle.core_machine.specs.seat.Fits.{FitsAnswer}
 use Rattle.core_machine.specs.seat.Handshake.{roots, answer_next}
 use Rattle.core_machine.specs.seat.HandshakeMoves.{poll_move, root_move, answer_move}
-use Rattle.core_machine.specs.seat.Looks.{compared, forgotten, seen_phase}
-use Rattle.core_machine.specs.seat.Seat.{Seat, call_over, with_entries}
+use Rattle.core_machine.specs.seat.Looks.{Looks, compared, forgotten, seen_phase}
+use Rattle.core_machine.specs.seat.Seat.{Seat, with_seen, call_over, with_entries}
 use Rattle.core_machine.specs.table.Layout.{at, put}
 use Rattle.core_machine.specs.table.Operation.{address_of, word_after}
 use Rattle.core_machine.proofs.table_lemmas.Addresses.{put-at}
@@ -36,6 +36,10 @@ module _ (heap : Heap) (start : List ℕ) (number : ℕ) (first : Seat) where
   -- the phase at the begin
   abbrev phase : ℕ
   phase = at heap start addresses.Phase
+
+  -- what the seat has found out once it has loaded that
+  abbrev seen : Looks
+  seen = seen_phase phase first.looks
 
   -- the call has begun and made no step
   pub record HasBegun (which inner : Inner) (words : List ℕ) (told : List Entry) (seat : Seat) : Type 0 where
@@ -57,7 +61,7 @@ module _ (heap : Heap) (start : List ℕ) (number : ℕ) (first : Seat) where
     is : inner ≡ inners.Answer
     none_told : told ≡ []
     found : seat.asked ≡ phase
-    seat_stays : seat ≡ record first { command = commands.Collect; place = seat.place; asked = seat.asked; shaded = seat.shaded }
+    seat_stays : seat ≡ record first { command = commands.Collect; place = seat.place; asked = seat.asked; shaded = seat.shaded; looks = seen }
 
   -- the call is over
   pub record IsDone (inner : Inner) (told : List Entry) (seat : Seat) : Type 0 where
@@ -129,7 +133,7 @@ module _ (heap : Heap) (start : List ℕ) (number : ℕ) (first : Seat) where
 
     note_leads : (reply : CollectReply) → InnerLeads (inners.Note reply) start [] (after_inner_begin first (inners.Note reply)) (note_move number (after_inner_begin first (inners.Note reply)) reply)
     note_leads reply = record {
-      seat_is = ap (λ (s : Seat). record s { command = commands.Collect; looks = forgotten first.looks; mine = first.mine ++ inner_entries heap start number first.answered (inners.Note reply) }) resting;
+      seat_is = ap (λ (s : Seat). record s { command = commands.Collect; looks = forgotten seen; mine = first.mine ++ inner_entries heap start number first.answered (inners.Note reply) }) resting;
       told_is = refl;
     }
 
@@ -156,10 +160,10 @@ module _ (heap : Heap) (start : List ℕ) (number : ℕ) (first : Seat) where
         let move = poll_move number seat in
         elim (eqb_tells phase first.answered) as (λ _. InnerLeads inners.Answer start [] seat move) [
           | inl known ↦ rw known.0 (record {
-            seat_is = rw known.0 (ap (λ (s : Seat). record s { command = commands.Collect; mine = first.mine ++ [] }) resting ∙ ap (λ (p : ℕ). record first { command = commands.Collect; answered = p; mine = first.mine ++ [] }) (sym known.1));
+            seat_is = rw known.0 (ap (λ (s : Seat). record s { command = commands.Collect; looks = seen; mine = first.mine ++ [] }) resting ∙ ap (λ (p : ℕ). record first { command = commands.Collect; answered = p; looks = seen; mine = first.mine ++ [] }) (sym known.1));
             told_is = rw known.0 refl;
           })
-          | inr new ↦ rw new.0 (prepared (put heap start addresses.Phase phase) inners.Answer [] (record seat { asked = phase }) (record { is = refl; none_told = refl; found = refl; seat_stays = refl }))
+          | inr new ↦ rw new.0 (prepared (put heap start addresses.Phase phase) inners.Answer [] (record (with_seen phase seat) { asked = phase }) (record { is = refl; none_told = refl; found = refl; seat_stays = refl }))
         ]
 
     root_leads : (inner : Inner) (words : List ℕ) (told : List Entry) (seat : Seat) → Prepares inner told seat → InnerLeads inner words told seat (root_move seat)
@@ -170,19 +174,19 @@ module _ (heap : Heap) (start : List ℕ) (number : ℕ) (first : Seat) where
 
     -- the seat that is about to store its answer
     abbrev stores : Place → ℕ → Seat
-    stores place shaded = record first { command = commands.Collect; place = place; asked = phase; shaded = shaded }
+    stores place shaded = record first { command = commands.Collect; place = place; asked = phase; shaded = shaded; looks = seen }
 
     answer_leads : (words : List ℕ) (place : Place) (shaded : ℕ) → phase ≢ first.answered → InnerLeads inners.Answer words [] (stores place shaded) (answer_move number (stores place shaded))
     answer_leads words place shaded anew =
         let none = ne_eqb phase first.answered anew in
         record {
-          seat_is = rw none (ap (λ (s : Seat). record s { command = commands.Collect; answered = phase; mine = first.mine ++ Answers number phase ∷ [] }) resting);
+          seat_is = rw none (ap (λ (s : Seat). record s { command = commands.Collect; answered = phase; looks = seen; mine = first.mine ++ Answers number phase ∷ [] }) resting);
           told_is = rw none refl;
         }
 
     answered_leads : (inner : Inner) (words : List ℕ) (told : List Entry) (seat : Seat) → seat.asked ≢ seat.answered → Prepares inner told seat → InnerLeads inner words told seat (answer_move number seat)
     answered_leads inner words told seat anew is =
-        let same : seat ≡ stores seat.place seat.shaded = is.seat_stays ∙ ap (λ (p : ℕ). record first { command = commands.Collect; place = seat.place; asked = p; shaded = seat.shaded }) is.found in
+        let same : seat ≡ stores seat.place seat.shaded = is.seat_stays ∙ ap (λ (p : ℕ). record first { command = commands.Collect; place = seat.place; asked = p; shaded = seat.shaded; looks = seen }) is.found in
         let stays : seat.answered ≡ first.answered = ap (λ (s : Seat). s.answered) is.seat_stays in
         subst (λ i. InnerLeads i words told seat (answer_move number seat)) (sym is.is)
         (subst (λ t. InnerLeads inners.Answer words t seat (answer_move number seat)) (sym is.none_told)

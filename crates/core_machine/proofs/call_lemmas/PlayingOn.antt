@@ -23,7 +23,7 @@ use Rattle.core_machine.specs.declared.place.Polling.TheVariants.{Asking, Shadin
 use Rattle.core_machine.specs.declared.place.Leaving.{Leaving}
 use Rattle.core_machine.specs.declared.place.Leaving.TheVariants.{Emptying, Parting}
 use Rattle.core_machine.specs.declared.seat.register.Register.{Register}
-use Rattle.core_machine.specs.machine.Calls.{IsPhaseNear, IsPlaceRefusal, LeavesAll}
+use Rattle.core_machine.specs.machine.Calls.{IsPhaseNear, IsPlaceRefusal, looks_refused, LeavesAll}
 use Rattle.core_machine.specs.seat.Commands.{MakesObject, IsRecordCall, IsArrayCall, source_of}
 use Rattle.core_machine.specs.table.Layout.{at, put, InTable}
 use Rattle.core_machine.specs.table.Operation.{address_of, word_after}
@@ -35,8 +35,8 @@ use Rattle.core_machine.specs.seat.AccessMoves.{reply_entries_if, got_adds, got_
 use Rattle.core_machine.specs.seat.HandshakeMoves.{poll_move, phase_told}
 use Rattle.core_machine.specs.seat.Local.{local_reply_of, local_registers}
 use Rattle.core_machine.specs.seat.Handshake.{roots, answer_next, polling_over}
-use Rattle.core_machine.specs.seat.Looks.{forgotten}
-use Rattle.core_machine.specs.seat.Seat.{Seat, with_entries, after_call}
+use Rattle.core_machine.specs.seat.Looks.{Looks, forgotten, seen_phase}
+use Rattle.core_machine.specs.seat.Seat.{Seat, with_seen, with_entries, after_call}
 use Rattle.core_machine.proofs.seat_lemmas.PollingOver.{over_cases}
 use Rattle.core_machine.specs.Moves.{Move, move_at, local_move, access_move, polling_move, leaving_move, next_move, seat_after}
 use Rattle.core_machine.specs.machine.Machine.{State, seat_at, found_by, state_after_move}
@@ -50,12 +50,17 @@ use Rattle.core_machine.proofs.seat_lemmas.Fitting.{array_makes, record_makes}
 use Rattle.core_machine.proofs.call_lemmas.Playing.{stage_making}
 use Rattle.core_machine.proofs.call_lemmas.Stages.{ComesDue, Answered, Untouched, Prepares, AccessStage, PollingStage, Stage, StageAfter}
 use Rattle.core_machine.proofs.machine_lemmas.Runs.{seat_at-set}
-use Rattle.core_machine.proofs.call_lemmas.RepliesAlone.{RepliesAlone, local_alone, object_alone, get_alone, set_alone, alone_makes_none, alone_comes, local_refused}
+use Rattle.core_machine.proofs.call_lemmas.RepliesAlone.{RepliesAlone, local_alone, object_alone, get_alone, set_alone, alone_makes_none, alone_comes, local_none, local_refused, IsBeyond, meta_beyond}
 
--- the reply is a refusal, where there is one
-abbrev IsPlaceRefusalOf : Option Reply → Type 0
-IsPlaceRefusalOf None = ⊥
-IsPlaceRefusalOf (Some reply) = IsPlaceRefusal reply
+-- the reply is a refusal, where there is one, and leaves all
+abbrev LeavesAllOf : Heap → State → State → ℕ → Option Reply → Type 0
+LeavesAllOf heap old new number None = Unit {0}
+LeavesAllOf heap old new number (Some reply) = IsPlaceRefusal reply → LeavesAll heap old new number reply
+
+-- a refusal beyond an object forgets what was found
+beyond_forgets : (heap : Heap) (words : List ℕ) (reply : Reply) (looks : Looks) → IsBeyond (Some reply) → looks_refused heap words reply looks ≡ forgotten looks
+beyond_forgets heap words replies.NoObject looks beyond = absurd beyond
+beyond_forgets heap words _ looks beyond = refl
 
 module _ (heap : Heap) (old : State) (number : ℕ) (command : Command) (now : State) (told_ : List Entry) (within : number < length now.seats) where
   abbrev the_seat : Seat
@@ -65,7 +70,7 @@ module _ (heap : Heap) (old : State) (number : ℕ) (command : Command) (now : S
   Leads = StageAfter heap old number command now told_
 
   -- the reply of a call that makes no object was told
-  ended : (new : State) (seat : Seat) (reply : Reply) → seat.command ≡ command → (MakesObject seat.command → ⊥) → (IsPlaceRefusal reply → LeavesAll old new number)
+  ended : (new : State) (seat : Seat) (reply : Reply) → seat.command ≡ command → (MakesObject seat.command → ⊥) → (IsPlaceRefusal reply → LeavesAll heap old new number reply)
       → (command ≢ commands.Leave → ComesDue heap old number command reply told_) → Answered heap old new number command (told_ ++ Said number seat.command reply ∷ [])
   ended new seat reply same none refused comes = record {
     reply = reply;
@@ -78,40 +83,50 @@ module _ (heap : Heap) (old : State) (number : ℕ) (command : Command) (now : S
   }
 
   -- so was that of a call which tells it alone
-  ended_alone : (new : State) (seat : Seat) (reply : Reply) → seat.command ≡ command → RepliesAlone seat.command → (IsPlaceRefusal reply → LeavesAll old new number) → told_ ≡ []
+  ended_alone : (new : State) (seat : Seat) (reply : Reply) → seat.command ≡ command → RepliesAlone seat.command → (IsPlaceRefusal reply → LeavesAll heap old new number reply) → told_ ≡ []
       → Answered heap old new number command (told_ ++ Said number seat.command reply ∷ [])
   ended_alone new seat reply same alone refused none =
       ended new seat reply same (alone_makes_none seat.command alone) refused
       (λ stays near. alone_comes number (length (seat_at old number).reserve) (seat_at old number).answered command reply told_ (subst RepliesAlone same alone) none)
 
-  -- the seat of the begin, with this command and these entries, which has forgotten what it found
-  abbrev replied_seat : Command → List Entry → Seat
-  replied_seat last mine = record (seat_at old number) { command = last; looks = forgotten (seat_at old number).looks; mine = mine }
+  -- the seat of the begin, with this command and these entries, which has found this out
+  abbrev replied_seat : Looks → Command → List Entry → Seat
+  replied_seat looks last mine = record (seat_at old number) { command = last; looks = looks; mine = mine }
 
   -- a seat that was left alone, and then has an entry more
-  left_alone : (seat : Seat) (more : List Entry) → Untouched old now number told_ seat
-      → with_entries (after_call seat) more ≡ replied_seat seat.command (seat.mine ++ more)
-  left_alone seat more is =
-      ap (λ (s : Seat). record (after_call s) { command = seat.command; mine = seat.mine ++ more }) is.seat_stays
-      ∙ ap (λ (s : Seat). record s { command = seat.command; mine = seat.mine ++ more }) is.resting
+  left_alone : (seat : Seat) (looks : Looks) (more : List Entry) → Untouched old now number told_ seat
+      → with_entries (after_call (record seat { looks = looks })) more ≡ replied_seat (forgotten looks) seat.command (seat.mine ++ more)
+  left_alone seat looks more is =
+      ap (λ (s : Seat). record (after_call s) { command = seat.command; looks = forgotten looks; mine = seat.mine ++ more }) is.seat_stays
+      ∙ ap (λ (s : Seat). record s { command = seat.command; looks = forgotten looks; mine = seat.mine ++ more }) is.resting
+
+  -- what such a seat had found out is what it had at the begin
+  looks_alone : (seat : Seat) → Untouched old now number told_ seat → seat.looks ≡ (seat_at old number).looks
+  looks_alone seat is = ap (λ (s : Seat). s.looks) is.seat_stays
 
   -- the state after the seat's last step, where its word was loaded
-  leaves_all : (seat : Seat) (move : Move) → seat_at now number ≡ seat → Untouched old now number told_ seat → put heap now.words (address_of move.step) (word_after move.step (found_by heap now move.step)) ≡ now.words
-      → seat_after move (found_by heap now move.step) ≡ replied_seat seat.command (seat_after move (found_by heap now move.step)).mine
-      → (seat_after move (found_by heap now move.step)).command ≡ seat.command → LeavesAll old (state_after_move heap now number move) number
-  leaves_all seat move here is words next same =
+  leaves_all : (seat : Seat) (move : Move) (reply : Reply) → seat_at now number ≡ seat → Untouched old now number told_ seat → put heap now.words (address_of move.step) (word_after move.step (found_by heap now move.step)) ≡ now.words
+      → seat_after move (found_by heap now move.step) ≡ replied_seat (looks_refused heap old.words reply (seat_at old number).looks) seat.command (seat_after move (found_by heap now move.step)).mine
+      → (seat_after move (found_by heap now move.step)).command ≡ seat.command → LeavesAll heap old (state_after_move heap now number move) number reply
+  leaves_all seat move reply here is words next same =
       let last = seat_after move (found_by heap now move.step) in
       let there : seat_at (state_after_move heap now number move) number ≡ last = seat_at-set now.seats number last within in
       record {
         words_stay = words ∙ is.words_stay;
-        seat_stays = subst (λ (s : Seat). s ≡ replied_seat s.command s.mine) (sym there)
-            (next ∙ ap (λ (c : Command). replied_seat c last.mine) (sym same));
+        seat_stays = subst (λ (s : Seat). s ≡ replied_seat (looks_refused heap old.words reply (seat_at old number).looks) s.command s.mine) (sym there)
+            (next ∙ ap (λ (c : Command). replied_seat (looks_refused heap old.words reply (seat_at old number).looks) c last.mine) (sym same));
       }
 
-  -- a seat with the same registers
-  told_alone : (seat : Seat) (registers : List Register) (more : List Entry) → registers ≡ seat.registers → Untouched old now number told_ seat
-      → with_entries (after_call (record seat { registers = registers })) more ≡ replied_seat seat.command (seat.mine ++ more)
-  told_alone seat registers more same is = ap (λ (r : List Register). with_entries (after_call (record seat { registers = r })) more) same ∙ left_alone seat more is
+  -- a seat with the same registers, which has loaded the phase and has no object
+  told_alone : (seat : Seat) (registers : List Register) (reply : Reply) (more : List Entry) → registers ≡ seat.registers → reply ≡ replies.NoObject → Untouched old now number told_ seat
+      → with_entries (after_call (record (with_seen (at heap now.words Phase) seat) { registers = registers })) more
+      ≡ replied_seat (looks_refused heap old.words reply (seat_at old number).looks) seat.command (seat.mine ++ more)
+  told_alone seat registers reply more same none is =
+      let found : ℕ = at heap now.words Phase in
+      ap (λ (r : List Register). with_entries (after_call (record (with_seen found seat) { registers = r })) more) same ∙ left_alone seat (seen_phase found seat.looks) more is
+      ∙ ap (λ (looks : Looks). replied_seat (forgotten (seen_phase found looks)) seat.command (seat.mine ++ more)) (looks_alone seat is)
+      ∙ ap (λ (words : List ℕ). replied_seat (forgotten (seen_phase (at heap words Phase) (seat_at old number).looks)) seat.command (seat.mine ++ more)) is.words_stay
+      ∙ ap (λ (r : Reply). replied_seat (looks_refused heap old.words r (seat_at old number).looks) seat.command (seat.mine ++ more)) (sym none)
 
   stage_telling : FitsPlace heap the_seat places.Local → FitsWay the_seat places.Local → the_seat.command ≡ command → Untouched old now number told_ the_seat
       → Leads (local_move number the_seat)
@@ -119,8 +134,9 @@ module _ (heap : Heap) (old : State) (number : ℕ) (command : Command) (now : S
       let seat = the_seat in
       let reply = local_reply_of seat.registers seat.command in
       ended_alone (state_after_move heap now number (local_move number seat)) seat reply same (local_alone seat.registers seat.command fits.2) (λ refusal.
-      leaves_all seat (local_move number seat) refl is (put-at heap now.words Phase)
-      (told_alone seat (local_registers seat.registers seat.command) (Said number seat.command reply ∷ []) (local_refused seat.registers seat.command refusal) is) refl) is.none_told
+      leaves_all seat (local_move number seat) reply refl is (put-at heap now.words Phase)
+      (told_alone seat (local_registers seat.registers seat.command) reply (Said number seat.command reply ∷ []) (local_refused seat.registers seat.command refusal)
+      (local_none seat.registers seat.command refusal) is) refl) is.none_told
 
   -- nothing was told, and nothing more is
   none_more : told_ ≡ [] → told_ ++ [] ≡ []
@@ -153,16 +169,29 @@ module _ (heap : Heap) (old : State) (number : ℕ) (command : Command) (now : S
   length_stage new found (Some cells) same none = (same, none_more none)
 
   met_stage : (reply : Option Reply) (found : ℕ) → the_seat.command ≡ command → NamesObject the_seat.command
-      → (new : State) → (IsPlaceRefusalOf reply → LeavesAll old new number) → told_ ≡ []
+      → (new : State) → LeavesAllOf heap old new number reply → told_ ≡ []
       → Stage heap old new number command (told_ ++ reply_entries_if number the_seat reply) (with_entries (after_meta the_seat found reply) (reply_entries_if number the_seat reply)) (with_entries (after_meta the_seat found reply) (reply_entries_if number the_seat reply)).place
   met_stage None found same names new refused none = length_stage new found (array_length_of found) same none
   met_stage (Some reply) found same names new refused none = ended_alone new the_seat reply same (object_alone the_seat.command names) refused none
 
-  closed_after : (reply : Option Reply) (found : ℕ) → IsPlaceRefusalOf reply → Untouched old now number told_ the_seat
-      → (with_entries (after_meta the_seat found reply) (reply_entries_if number the_seat reply) ≡ replied_seat the_seat.command (with_entries (after_meta the_seat found reply) (reply_entries_if number the_seat reply)).mine)
-      × ((with_entries (after_meta the_seat found reply) (reply_entries_if number the_seat reply)).command ≡ the_seat.command)
-  closed_after None found refusal is = absurd refusal
-  closed_after (Some reply) found refusal is = (left_alone the_seat (Said number the_seat.command reply ∷ []) is, refl)
+  closed_after : (reply : Reply) → IsBeyond (Some reply) → Untouched old now number told_ the_seat
+      → with_entries (after_call the_seat) (Said number the_seat.command reply ∷ [])
+      ≡ replied_seat (looks_refused heap old.words reply (seat_at old number).looks) the_seat.command (the_seat.mine ++ Said number the_seat.command reply ∷ [])
+  closed_after reply beyond is =
+      let more : List Entry = Said number the_seat.command reply ∷ [] in
+      left_alone the_seat the_seat.looks more is ∙ ap (λ (looks : Looks). replied_seat (forgotten looks) the_seat.command (the_seat.mine ++ more)) (looks_alone the_seat is)
+      ∙ ap (λ (looks : Looks). replied_seat looks the_seat.command (the_seat.mine ++ more)) (sym (beyond_forgets heap old.words reply (seat_at old number).looks beyond))
+
+  -- the meta was loaded
+  closes : (move : Move) (reply : Option Reply) (found : ℕ) → IsBeyond reply → Untouched old now number told_ the_seat
+      → put heap now.words (address_of move.step) (word_after move.step (found_by heap now move.step)) ≡ now.words
+      → seat_after move (found_by heap now move.step) ≡ with_entries (after_meta the_seat found reply) (reply_entries_if number the_seat reply)
+      → LeavesAllOf heap old (state_after_move heap now number move) number reply
+  closes move None found beyond is words next = tt
+  closes move (Some reply) found beyond is words next = λ refusal.
+      leaves_all the_seat move reply refl is words
+      (next ∙ closed_after reply beyond is ∙ ap (λ (mine : List Entry). replied_seat (looks_refused heap old.words reply (seat_at old number).looks) the_seat.command mine) (sym (ap (λ (s : Seat). s.mine) next)))
+      (ap (λ (s : Seat). s.command) next)
 
   old_stage : (new : State) (loaded : ℕ) → (the_seat.command ≡ command) × (told_ ≡ [])
       → Stage heap old new number command (told_ ++ []) (with_entries (after_old (record the_seat { loaded = loaded })) []) (with_entries (after_old (record the_seat { loaded = loaded })) []).place
@@ -177,9 +206,8 @@ module _ (heap : Heap) (old : State) (number : ℕ) (command : Command) (now : S
       let seat = the_seat in
       let move = access_move heap number seat LoadingMeta in
       let found = found_by heap now move.step in
-      met_stage (meta_reply_of seat.command found) found stage.0 is.names (state_after_move heap now number move) (λ refusal.
-      let after_ = closed_after (meta_reply_of seat.command found) found refusal stage.1 in
-      leaves_all seat move refl stage.1 (put-at heap now.words (Word seat.reached 0)) after_.0 after_.1) stage.1.none_told
+      met_stage (meta_reply_of seat.command found) found stage.0 is.names (state_after_move heap now number move)
+      (closes move (meta_reply_of seat.command found) found (meta_beyond seat.command found) stage.1 (put-at heap now.words (Word seat.reached 0)) refl) stage.1.none_told
   stage_access Walking is stage =
       let move = access_move heap number the_seat Walking in
       onward_stage (state_after_move heap now number move) (told_ ++ []) the_seat (found_by heap now move.step) [] stage.0 (none_more stage.1)
@@ -260,20 +288,23 @@ module _ (heap : Heap) (old : State) (number : ℕ) (command : Command) (now : S
       found : ℕ
       found = found_by heap now (poll_move number the_seat).step
 
+      seen : Seat
+      seen = with_seen found the_seat
+
       stays : the_seat.answered ≡ (seat_at old number).answered
       stays = ap (λ (s : Seat). s.answered) stage.2.seat_stays
 
       by : (known : Bool) → (known ≡ true → found ≡ the_seat.answered) → Stage heap old (state_after_move heap now number (poll_move number the_seat)) number command
           (told_ ++ cond known (phase_told number the_seat.command found) [])
-          (with_entries (cond known (polling_over the_seat.command the_seat) (answer_next (record the_seat { asked = found }))) (cond known (phase_told number the_seat.command found) []))
-          (with_entries (cond known (polling_over the_seat.command the_seat) (answer_next (record the_seat { asked = found }))) (cond known (phase_told number the_seat.command found) [])).place
+          (with_entries (cond known (polling_over the_seat.command seen) (answer_next (record seen { asked = found }))) (cond known (phase_told number the_seat.command found) []))
+          (with_entries (cond known (polling_over the_seat.command seen) (answer_next (record seen { asked = found }))) (cond known (phase_told number the_seat.command found) [])).place
       by true same =
-          over_cases (λ s more. Stage heap old (state_after_move heap now number (poll_move number the_seat)) number command (told_ ++ more) (with_entries s more) s.place) number the_seat.command the_seat found
+          over_cases (λ s more. Stage heap old (state_after_move heap now number (poll_move number the_seat)) number command (told_ ++ more) (with_entries s more) s.place) number the_seat.command seen found
           (λ collects. absurd (no_collect collects (stage.0 ∙ stage.1)))
           (λ tells. ended (state_after_move heap now number (poll_move number the_seat)) the_seat (replies.Phase found) stage.0 (poll_makes_none (stage.0 ∙ stage.1)) (λ refusal. absurd refusal)
           (λ not_leave. poll_comes found told_ stage.1 (λ near. inl (same refl ∙ stays, stage.2.none_told))))
       by false same =
-          prepared (state_after_move heap now number (poll_move number the_seat)) (record the_seat { asked = found }) stage.0
+          prepared (state_after_move heap now number (poll_move number the_seat)) (record seen { asked = found }) stage.0
           (record { found = ap (λ (words : List ℕ). at heap words Phase) stage.2.words_stay; answered_stays = stays; none_told = none_more stage.2.none_told }) stage.1
   stage_polling Shading is stage =
       prepared (state_after_move heap now number (polling_move number the_seat Shading)) (record the_seat { shaded = the_seat.shaded + 1 }) stage.0

@@ -1,14 +1,19 @@
 -- Commands whose calls tell their reply alone, and refusals that leave the registers.
-use Rattle.std.proofs.Common.{◌≡◌, ℕ, List, [], refl}
+use Rattle.std.specs.Prelude.{nat_lt, if◌then◌else◌}
+use Rattle.std.proofs.Common.{◌≡◌, ℕ, Bool, true, false, List, [], Option, Some, None, refl}
 use Rattle.heap_model.specs.declared.command.Command.{Command}
 use Rattle.heap_model.specs.declared.command.Command.TheVariants as commands
 use Rattle.heap_model.specs.declared.entry.Entry.{Entry}
 use Rattle.heap_model.specs.declared.reply.Reply.{Reply}
+use Rattle.heap_model.specs.declared.reply.Reply.TheVariants.{NoObject, NoField}
 use Rattle.heap_model.specs.calls.SeatCalls.{ComesBefore}
 use Rattle.core_machine.specs.declared.seat.register.Register.{Register}
 use Rattle.core_machine.specs.machine.Calls.{IsPlaceRefusal}
 use Rattle.core_machine.specs.seat.Commands.{MakesObject}
-use Rattle.core_machine.specs.seat.Local.{local_reply_of, local_registers}
+use Rattle.core_machine.specs.seat.Access.{field_reply_of, meta_reply_of}
+use Rattle.core_machine.specs.seat.Local.{answer_of, local_reply_of, local_registers}
+use Rattle.core_machine.specs.seat.Registers.{register_in, value_of, is_same_value}
+use Rattle.heap_words.specs.Loaded.{length_of}
 use Rattle.core_machine.specs.seat.FitsAccess.{IsGet, IsSet, NamesObject}
 use Rattle.core_machine.specs.seat.Fits.{IsLocal}
 
@@ -57,6 +62,35 @@ alone_comes number unborn last commands.Poll reply before alone none = absurd al
 alone_comes number unborn last commands.Collect reply before alone none = absurd alone
 alone_comes number unborn last commands.Leave reply before alone none = absurd alone
 alone_comes number unborn last _ reply before alone none = none
+
+-- such a call that looks at no word is refused without an object alone
+pub local_none : (registers : List Register) (command : Command) → IsPlaceRefusal (local_reply_of registers command) → local_reply_of registers command ≡ NoObject
+local_none registers (commands.Num d n) refusal = absurd refusal
+local_none registers (commands.Nil d) refusal = absurd refusal
+local_none registers (commands.Copy d r) refusal = absurd refusal
+local_none registers (commands.Same a b) refusal = by (is_same_value (value_of (register_in registers a)) (value_of (register_in registers b))) refusal
+  where
+    by : (same : Bool) → IsPlaceRefusal (answer_of same) → answer_of same ≡ NoObject
+    by true refused = absurd refused
+    by false refused = absurd refused
+local_none registers _ refusal = refl
+
+-- the reply, where there is one, isn't that of a call without an object
+abbrev pub IsBeyond : Option Reply → Type 0
+IsBeyond (Some NoObject) = ⊥
+IsBeyond _ = Unit {0}
+
+field_beyond : (field found : ℕ) → IsBeyond (field_reply_of field found)
+field_beyond field found = by (nat_lt field (length_of found))
+  where
+    by : (b : Bool) → IsBeyond (if b then None else Some NoField)
+    by true = tt
+    by false = tt
+
+pub meta_beyond : (command : Command) (found : ℕ) → IsBeyond (meta_reply_of command found)
+meta_beyond (commands.Get d r i) found = field_beyond i found
+meta_beyond (commands.Set r i v) found = field_beyond i found
+meta_beyond _ found = tt
 
 -- a refusal leaves the registers
 pub local_refused : (registers : List Register) (command : Command) → IsPlaceRefusal (local_reply_of registers command) → local_registers registers command ≡ registers

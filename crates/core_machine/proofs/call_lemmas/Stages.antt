@@ -75,7 +75,7 @@ pub record Answered (heap : Heap) (old new : State) (number : ℕ) (command : Co
   pub last : told ≡ before ++ Said number command reply ∷ []
   pub answer : IsRecordCall command → AnswersNew heap old new number command reply
   pub array : IsArrayCall command → AnswersArray heap old new number command reply
-  pub refused : IsPlaceRefusal reply → LeavesAll old new number
+  pub refused : IsPlaceRefusal reply → LeavesAll heap old new number reply
   pub comes : command ≢ Leave → ComesDue heap old number command reply before
 
 -- while nothing was changed or told, but for the call itself

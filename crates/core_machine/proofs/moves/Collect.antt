@@ -16,7 +16,7 @@ use Rattle.core_machine.specs.machine.Machine.{MayBeginInner, after_inner_begin}
 use Rattle.core_machine.specs.seat.Awaiting.{entries_awaited, entries_awaited_at}
 use Rattle.core_machine.specs.seat.Collecting.{after_asking, look_move, asking_move, comparing_move, note_move}
 use Rattle.core_machine.specs.seat.Fits.{Fits, FitsPlace, FitsWay, FitsAnswer, IsAtRest}
-use Rattle.core_machine.specs.seat.Looks.{Looks, MayMake, looked, compared}
+use Rattle.core_machine.specs.seat.Looks.{Looks, MayMake, looked, seen_phase, compared}
 use Rattle.core_machine.specs.seat.Seat.{Seat, call_over, after_call}
 use Rattle.core_machine.proofs.call_lemmas.Awaits.{plain}
 use Rattle.core_machine.proofs.call_lemmas.Owes.{owes, owes_at}
@@ -84,7 +84,7 @@ comparing_stands other phase heap number seat here = record {
 pub note_stands : (reply : CollectReply) → PlaceStands (places.Collecting (Noting reply))
 note_stands reply heap number seat here = record {
   step = load_stands heap PollLoad refl tt;
-  fits = λ found small led. fits_told heap number seat (Noting reply) seat.looks here;
+  fits = λ found small led. fits_told heap number seat (Noting reply) (seen_phase found seat.looks) here;
   near = λ found. record { fewer = omega arith; paid = omega arith };
   adds = λ now. plain heap now number seat (note_move number seat reply) refl (rw here.placed refl) refl refl;
   says = λ old command words told is found. absurd is;

@@ -21,7 +21,7 @@ use Rattle.core_machine.specs.machine.Machine.{found_by, MayBegin, after_begin}
 use Rattle.core_machine.specs.seat.Awaiting.{entries_awaited}
 use Rattle.core_machine.specs.seat.Fits.{Fits, MakesNext, SeatIsGathering, SeatIsRefusing, FitsPlace}
 use Rattle.core_machine.specs.seat.Making.{after_gather, after_claim, after_give_back, next_group_of, first_group_of, refusal_place, fragments_gathered, gather_next}
-use Rattle.core_machine.specs.seat.MakingMoves.{claim_move, first_part, give_back_move, refusal_move}
+use Rattle.core_machine.specs.seat.MakingMoves.{claim_move, first_part, give_back_move, refusal_looks, refusal_move}
 use Rattle.core_machine.specs.seat.Seat.{Seat, need, spine_need, with_entries}
 use Rattle.core_machine.specs.table.Fragments.{clear_in, part_out, in_group, out_of_group, part_in, mask_of}
 use Rattle.core_machine.specs.table.Operation.{all_taken}
@@ -184,7 +184,7 @@ refusal_step_stands heap _ words = load_stands heap PollLoad refl tt
 pub refusal_stands : PlaceStands (places.Making Refusing)
 refusal_stands heap number seat here = record {
   step = refusal_step_stands heap seat.command (spine_need seat);
-  fits = λ found small led. fits_over heap seat here.fits.own.registers_whole here.fits.own.registers_fit here.fits.own.cursor_within here.fits.own.small_reserve
+  fits = λ found small led. fits_over heap (record seat { looks = refusal_looks seat.command found seat.looks }) here.fits.own.registers_whole here.fits.own.registers_fit here.fits.own.cursor_within here.fits.own.small_reserve
       here.fits.own.reserve_of_cursor (gone_aside (present_at heap number seat (places.Making Refusing) here (λ e. cc)));
   near = λ found. record { fewer = omega arith; paid = omega arith };
   adds = λ now. plain heap now number seat (refusal_move number seat) refl (rw here.placed refl) refl refl;

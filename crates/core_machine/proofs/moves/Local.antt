@@ -14,7 +14,7 @@ use Rattle.core_machine.specs.declared.seat.register.Register.TheVariants.{Nil, 
 use Rattle.core_machine.specs.declared.step.Step.TheVariants.{PollLoad}
 use Rattle.core_machine.specs.seat.Fits.{Fits, FitsRegister, IsLocal}
 use Rattle.core_machine.specs.seat.Registers.{register_in}
-use Rattle.core_machine.specs.seat.Seat.{Seat}
+use Rattle.core_machine.specs.seat.Seat.{Seat, with_seen}
 use Rattle.core_machine.specs.seat.Local.{after_local, local_registers}
 use Rattle.core_machine.proofs.call_lemmas.Awaits.{plain}
 use Rattle.core_machine.proofs.call_lemmas.Saying.{ends}
@@ -38,16 +38,16 @@ local_whole registers (commands.Copy d r) = length-set registers d (register_in 
 local_whole registers _ = refl
 
 -- the reply of a local command was told
-fits_local : (heap : Heap) (seat : Seat) → Fits heap seat → seat.left ≡ false → IsCommand seat.command → Fits heap (after_local seat)
-fits_local heap seat fits present range =
-    fits_over heap (record seat { registers = local_registers seat.registers seat.command }) (local_whole seat.registers seat.command ∙ fits.own.registers_whole)
+fits_local : (heap : Heap) (seat : Seat) (found : ℕ) → Fits heap seat → seat.left ≡ false → IsCommand seat.command → Fits heap (after_local (with_seen found seat))
+fits_local heap seat found fits present range =
+    fits_over heap (record (with_seen found seat) { registers = local_registers seat.registers seat.command }) (local_whole seat.registers seat.command ∙ fits.own.registers_whole)
     (local_fit heap seat.registers seat.command range fits.own.registers_fit) fits.own.cursor_within fits.own.small_reserve fits.own.reserve_of_cursor (gone_aside present)
 
 -- a reply is told
 pub telling_stands : PlaceStands places.Local
 telling_stands heap number seat here = record {
   step = load_stands heap PollLoad refl tt;
-  fits = λ found small led. fits_local heap seat here.fits (present_at heap number seat places.Local here (λ e. cc)) here.hand.1;
+  fits = λ found small led. fits_local heap seat found here.fits (present_at heap number seat places.Local here (λ e. cc)) here.hand.1;
   near = λ found. record { fewer = omega arith; paid = omega arith };
   adds = λ now. plain heap now number seat (local_move number seat) refl (rw here.placed refl) refl refl;
   says = λ old command words told is found. ends old number command seat _ told [] _ is (omega arith) (omega arith) refl tt;

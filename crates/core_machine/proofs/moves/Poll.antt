@@ -1,5 +1,5 @@
 -- A poll, and the answer to a new phase.
-use Rattle.std.proofs.Common.{◌≡◌, ℕ, ◌+◌, ◌-◌, ◌^◌, ◌<◌, ◌≤◌, false, [], length, inl, inr, refl, arith, List, ◌∷◌, ◌++◌, get_or, suc, ◌≢◌}
+use Rattle.std.proofs.Common.{◌≡◌, ℕ, ◌+◌, ◌-◌, ◌^◌, ◌<◌, ◌≤◌, false, [], length, inl, inr, refl, sym, subst, arith, List, ◌∷◌, ◌++◌, get_or, suc, ◌≢◌}
 use Rattle.std.proofs.lemmas.Bool.Decides.{eqb_tells, leb_tells}
 use Rattle.heap_model.specs.declared.command.Command.TheVariants as commands
 use Rattle.heap_model.specs.declared.entry.Entry.{Entry}
@@ -19,7 +19,7 @@ use Rattle.core_machine.specs.seat.Fits.{FitsPlace, FitsWay, FitsAnswer, IsAtRes
 use Rattle.core_machine.specs.seat.FitsAccess.{IsNowhere}
 use Rattle.core_machine.proofs.seat_lemmas.PollingOver.{over_cases}
 use Rattle.core_machine.specs.seat.Handshake.{polling_over, after_phase_load, after_root_shade, after_answer, roots, answer_next}
-use Rattle.core_machine.specs.seat.Seat.{Seat, after_call, with_entries, seat_after_reply}
+use Rattle.core_machine.specs.seat.Seat.{Seat, with_seen, after_call, with_entries, seat_after_reply}
 use Rattle.core_machine.proofs.call_lemmas.Awaits.{plain, after_words}
 use Rattle.core_machine.proofs.call_lemmas.Owes.{Nears}
 use Rattle.core_machine.proofs.call_lemmas.Saying.{Says, on, ends}
@@ -100,6 +100,27 @@ polls_at : (heap : Heap) (number : ℕ) (seat : Seat) (place : Polling) → IsAt
 polls_at heap number seat place here polls =
     record { fits = here.fits; rest = here.hand; nowhere = here.way; present = present_at heap number seat (places.Polling place) here (λ e. cc); polls = polls }
 
+-- the seat has loaded the phase
+seen_at : (heap : Heap) (number : ℕ) (seat : Seat) (found : ℕ) → IsAt heap number seat (places.Polling Asking) → Polls heap (with_seen found seat)
+seen_at heap number seat found here =
+    let present = present_at heap number seat (places.Polling Asking) here (λ e. cc) in
+    record {
+      fits = record {
+        own = here.fits.own;
+        hand = here.fits.hand;
+        way = here.fits.way;
+        asked_small = here.fits.asked_small;
+        at_place = subst (FitsPlace heap (with_seen found seat)) (sym here.placed) here.hand;
+        way_at_place = subst (FitsWay (with_seen found seat)) (sym here.placed) here.way;
+        answer_at_place = subst (FitsAnswer (with_seen found seat)) (sym here.placed) here.answer;
+        gone = gone_aside present;
+      };
+      rest = here.hand;
+      nowhere = here.way;
+      present = present;
+      polls = here.answer.1;
+    }
+
 -- an answer is under way
 nears_shades_on : (heap : Heap) (seat : Seat) (steps : ℕ) → (length (roots seat) - seat.shaded) + 1 < steps → Nears heap (with_entries (answer_next seat) []) 2 steps 0
 nears_shades_on heap seat steps more =
@@ -113,9 +134,9 @@ nears_phase : (heap : Heap) (number : ℕ) (seat : Seat) (found : ℕ)
 nears_phase heap number seat found =
     let few = few_roots (record seat { asked = found }) in
     elim (eqb_tells found seat.answered) as (λ _. Nears heap (seat_after (poll_move number seat) found) 2 (length seat.registers + 2) (length ((poll_move number seat).adds found))) [
-      | inl same ↦ rw same.0 (over_cases (λ s more. Nears heap (with_entries s more) 2 (length seat.registers + 2) (length more)) number seat.command seat found
+      | inl same ↦ rw same.0 (over_cases (λ s more. Nears heap (with_entries s more) 2 (length seat.registers + 2) (length more)) number seat.command (with_seen found seat) found
           (λ collects. record { fewer = omega arith; paid = omega arith }) (λ tells. record { fewer = omega arith; paid = omega arith }))
-      | inr new ↦ rw new.0 (nears_shades_on heap (record seat { asked = found }) (length seat.registers + 2) (omega arith))
+      | inr new ↦ rw new.0 (nears_shades_on heap (record (with_seen found seat) { asked = found }) (length seat.registers + 2) (omega arith))
     ]
 
 module _ (heap : Heap) (number : ℕ) (seat : Seat) where
@@ -132,16 +153,16 @@ poll_stands heap number seat here =
     let move = poll_move number seat in
     record {
       step = load_stands heap PollLoad refl tt;
-      fits = λ found small led. fits_phase heap seat found (polls_at heap number seat Asking here here.answer.1) small here.answer.0.none_shaded;
+      fits = λ found small led. fits_phase heap (with_seen found seat) found (seen_at heap number seat found here) small here.answer.0.none_shaded;
       near = λ found. nears_phase heap number seat found;
       adds = λ now. let found = found_by heap now move.step in
-          let by = phase_adds heap number seat (after_words heap now number seat move) found (move.adds found) in
+          let by = phase_adds heap number (with_seen found seat) (after_words heap now number seat move) found (move.adds found) in
           plain heap now number seat move by.0 (rw here.placed refl) by.1 refl;
       says = λ old command words told is found.
-          elim (eqb_tells found seat.answered) as (λ _. Says old number command (with_entries (after_phase_load seat found) (poll_adds number seat found)) (told ++ poll_adds number seat found) (after_phase_load seat found).place) [
-            | inl known ↦ rw known.0 (over_cases (λ s more. Says old number command (with_entries s more) (told ++ more) s.place) number seat.command seat found (λ collects. absurd (cc (collects, is.0.same, is.1)))
-                (λ tells. ends old number command seat (seat_after_reply number seat (replies.Phase found)) told [] (replies.Phase found) (is.0, λ e. cc (e, is.1)) (omega arith) (omega arith) refl tt))
-            | inr new ↦ rw new.0 (on old number command seat (with_entries (answer_next (record seat { asked = found })) []) told [] is.0 refl refl refl refl tt, is.1)
+          elim (eqb_tells found seat.answered) as (λ _. Says old number command (with_entries (after_phase_load (with_seen found seat) found) (poll_adds number seat found)) (told ++ poll_adds number seat found) (after_phase_load (with_seen found seat) found).place) [
+            | inl known ↦ rw known.0 (over_cases (λ s more. Says old number command (with_entries s more) (told ++ more) s.place) number seat.command (with_seen found seat) found (λ collects. absurd (cc (collects, is.0.same, is.1)))
+                (λ tells. ends old number command seat (seat_after_reply number (with_seen found seat) (replies.Phase found)) told [] (replies.Phase found) (is.0, λ e. cc (e, is.1)) (omega arith) (omega arith) refl tt))
+            | inr new ↦ rw new.0 (on old number command seat (with_entries (answer_next (record (with_seen found seat) { asked = found })) []) told [] is.0 refl refl refl refl tt, is.1)
           ];
     }
 

@@ -72,7 +72,7 @@ advance_turn collector = record {
 -- the cycle ends and the next phase begins: so many fragments were taken as the marks were cleared
 abbrev pub end_turn : Collector → ℕ → Turn
 end_turn collector kept = record {
-  step = Turning (turning.EndAdvance (collector.phase + 1));
+  step = Turning (turning.EndAdvance (collector.phase + 1) kept);
   told = λ found. after_advance collector;
   adds = Ends (collector.phase / cycle_phases) kept ∷ [];
   answer = λ found. Ended (collector.phase / cycle_phases) kept;

@@ -18,7 +18,7 @@ use Rattle.core_machine.specs.table.Layout.{at, SameTable}
 use Rattle.core_machine.specs.machine.Machine.{State, seat_at, Event, Begins, Steps, Run, state_after_all, history}
 use Rattle.core_machine.specs.seat.Making.{next_object_id}
 use Rattle.core_machine.specs.seat.Seat.{Seat}
-use Rattle.core_machine.specs.seat.Looks.{forgotten}
+use Rattle.core_machine.specs.seat.Looks.{Looks, forgotten, seen_phase}
 use Rattle.core_machine.specs.machine.Sums.{sum_upto}
 
 -- a command is begun, and the seat makes this many steps
@@ -110,13 +110,18 @@ IsPlaceRefusal NoObject = Unit {0}
 IsPlaceRefusal NoField = Unit {0}
 IsPlaceRefusal _ = ⊥
 
--- no word was changed, and of the seat only its command, its entries and what it had found, which it has forgotten
-pub record LeavesAll (old new : State) (number : ℕ) : Type 0 where
+-- what the seat has found out after such a refusal: it has forgotten what it had found, and where it was told at a load of the phase it has seen that
+abbrev pub looks_refused : Heap → List ℕ → Reply → Looks → Looks
+looks_refused heap words NoObject looks = forgotten (seen_phase (at heap words Phase) looks)
+looks_refused heap words _ looks = forgotten looks
+
+-- no word was changed, and of the seat only its command, its entries and what it has found out
+pub record LeavesAll (heap : Heap) (old new : State) (number : ℕ) (reply : Reply) : Type 0 where
   pub words_stay : new.words ≡ old.words
   pub seat_stays : seat_at new number
       ≡ record (seat_at old number) {
         command = (seat_at new number).command;
-        looks = forgotten (seat_at old number).looks;
+        looks = looks_refused heap old.words reply (seat_at old number).looks;
         mine = (seat_at new number).mine;
       }
 

@@ -19,10 +19,10 @@ inner_events number inner steps = BeginsInner number inner ∷ replicate steps (
 -- what the seat has found after the inner call, by the words at its begin
 abbrev pub looks_after : Heap → List ℕ → Looks → Inner → Looks
 looks_after heap words looks Look = looked (at heap words addresses.Phase) looks
-looks_after heap words looks Answer = looks
+looks_after heap words looks Answer = seen_phase (at heap words addresses.Phase) looks
 looks_after heap words looks (Behind other) =
     compared other (at heap words addresses.Phase) (at heap words (addresses.Answer other)) (seen_phase (at heap words addresses.Phase) looks)
-looks_after heap words looks (Note reply) = forgotten looks
+looks_after heap words looks (Note reply) = forgotten (seen_phase (at heap words addresses.Phase) looks)
 
 -- the phase that the seat has answered last after the inner call
 abbrev pub answered_after : Heap → List ℕ → ℕ → Inner → ℕ

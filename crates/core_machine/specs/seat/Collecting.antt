@@ -13,7 +13,7 @@ use Rattle.core_machine.specs.declared.place.Polling.TheVariants as polling
 use Rattle.core_machine.specs.declared.step.Step.TheVariants as steps
 use Rattle.core_machine.specs.declared.step.TurningStep.TheVariants as turning
 use Rattle.core_machine.specs.seat.Looks.{MayNote, looked, seen_phase, compared, noted_reply}
-use Rattle.core_machine.specs.seat.Seat.{Seat, call_over, after_call}
+use Rattle.core_machine.specs.seat.Seat.{Seat, with_seen, call_over, after_call}
 use Rattle.core_machine.specs.Move.{Move, plain_move}
 
 -- where an inner call begins
@@ -50,7 +50,7 @@ comparing_move seat other phase = plain_move (steps.Turning (turning.LookLoad ot
 -- the reply is told, at a load of the phase
 abbrev pub note_move : ℕ → Seat → CollectReply → Move
 note_move number seat reply =
-    plain_move steps.PollLoad (λ found. after_call seat) (λ found. Said number seat.command (noted_reply reply) ∷ [])
+    plain_move steps.PollLoad (λ found. after_call (with_seen found seat)) (λ found. Said number seat.command (noted_reply reply) ∷ [])
 
 -- the move at each place of an inner call
 abbrev pub collecting_move : ℕ → Seat → Collecting → Move

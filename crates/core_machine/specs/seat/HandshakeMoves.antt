@@ -15,14 +15,14 @@ use Rattle.core_machine.specs.declared.step.AccessStep.TheVariants.{Shade}
 use Rattle.core_machine.specs.declared.step.HandshakeStep.TheVariants.{AnswerStore, LeaveStore}
 use Rattle.core_machine.specs.table.Fragments.{mask_of}
 use Rattle.core_machine.specs.seat.Handshake.{roots, after_phase_load, after_root_shade, after_answer, after_emptying, after_leave}
-use Rattle.core_machine.specs.seat.Seat.{Seat}
+use Rattle.core_machine.specs.seat.Seat.{Seat, with_seen}
 use Rattle.core_machine.specs.seat.Local.{local_reply_of, after_local}
 use Rattle.core_machine.specs.Move.{Move, plain_move}
 
 -- the reply of a command that looks at no word, told at a load of the phase
 abbrev pub local_move : ℕ → Seat → Move
 local_move number seat =
-    plain_move steps.PollLoad (λ found. after_local seat) (λ found. Said number seat.command (local_reply_of seat.registers seat.command) ∷ [])
+    plain_move steps.PollLoad (λ found. after_local (with_seen found seat)) (λ found. Said number seat.command (local_reply_of seat.registers seat.command) ∷ [])
 
 -- a poll tells the phase, which the answer of a collect doesn't
 abbrev pub phase_told : ℕ → Command → ℕ → List Entry
@@ -35,7 +35,7 @@ poll_adds number seat found = if found == seat.answered then phase_told number s
 
 -- a poll loads the phase
 abbrev pub poll_move : ℕ → Seat → Move
-poll_move number seat = plain_move steps.PollLoad (after_phase_load seat) (poll_adds number seat)
+poll_move number seat = plain_move steps.PollLoad (λ found. after_phase_load (with_seen found seat) found) (poll_adds number seat)
 
 -- the next root is shaded
 abbrev pub root_move : Seat → Move

@@ -28,7 +28,7 @@ first_of (Some p) found = Some p
 abbrev pub looked : ℕ → Looks → Looks
 looked found looks = record looks { first = first_of looks.first found; seen = found }
 
--- this phase was found, with which the answer of a seat is to be compared
+-- this phase was loaded
 abbrev pub seen_phase : ℕ → Looks → Looks
 seen_phase found looks = record looks { seen = found }
 

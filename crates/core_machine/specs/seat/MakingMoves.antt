@@ -17,6 +17,7 @@ use Rattle.core_machine.specs.declared.step.Step.{Step}
 use Rattle.core_machine.specs.declared.step.SpineStep.TheVariants.{BudgetAdd, BudgetTakeBack, SpotClaim, SpineStore}
 use Rattle.core_machine.specs.table.Fragments.{in_group, part_in, clear_in, mask_of}
 use Rattle.core_machine.specs.seat.Seat.{Seat, need, spine_need, after_call}
+use Rattle.core_machine.specs.seat.Looks.{Looks, seen_phase}
 use Rattle.core_machine.specs.seat.Making.{next_group_of, after_claim, after_budget, after_placing, after_listing, first_group_of, last_group_of, run_of, after_give_back, next_object_id, newborn_word_of, after_store, after_birth, after_last_birth}
 use Rattle.core_machine.specs.Move.{Move, plain_move}
 
@@ -62,9 +63,18 @@ abbrev pub refusal_step : Command → ℕ → Step
 refusal_step (commands.Array d cells) words = steps.Spine (BudgetTakeBack words)
 refusal_step _ words = steps.PollLoad
 
+-- what the seat has found out at that step: where the phase is loaded, this one
+abbrev pub refusal_looks : Command → ℕ → Looks → Looks
+refusal_looks (commands.Array d cells) found looks = looks
+refusal_looks _ found looks = seen_phase found looks
+
+-- the seat once the refusal was told
+abbrev pub after_refusal : Seat → ℕ → Seat
+after_refusal seat found = after_call (record seat { looks = refusal_looks seat.command found seat.looks })
+
 -- the refusal is told
 abbrev pub refusal_move : ℕ → Seat → Move
-refusal_move number seat = plain_move (refusal_step seat.command (spine_need seat)) (λ found. after_call seat) (λ found. full_entry number seat ∷ [])
+refusal_move number seat = plain_move (refusal_step seat.command (spine_need seat)) (after_refusal seat) (λ found. full_entry number seat ∷ [])
 
 -- the array's spine gets its place
 abbrev pub placing_move : Seat → Move

@@ -12,7 +12,7 @@ use Rattle.heap_model.specs.account.Space.{need_of}
 use Rattle.core_machine.specs.declared.place.Place.{Place}
 use Rattle.core_machine.specs.declared.place.Place.TheVariants.{Idle}
 use Rattle.core_machine.specs.declared.seat.register.Register.{Register}
-use Rattle.core_machine.specs.seat.Looks.{Looks, no_looks, forgotten}
+use Rattle.core_machine.specs.seat.Looks.{Looks, no_looks, forgotten, seen_phase}
 
 -- the place of a spine while the seat knows of none
 abbrev pub no_spot : Spot
@@ -126,6 +126,10 @@ HasNumberLeft made sets (commands.Len r) = Unit {0}
 HasNumberLeft made sets commands.Poll = Unit {0}
 HasNumberLeft made sets commands.Collect = Unit {0}
 HasNumberLeft made sets commands.Leave = Unit {0}
+
+-- the seat has loaded this phase
+abbrev pub with_seen : ℕ → Seat → Seat
+with_seen found seat = record seat { looks = seen_phase found seat.looks }
 
 -- the call is over, and nothing of it is left
 abbrev pub call_over : Seat → Seat

@@ -75,7 +75,7 @@ turning_address (turning.Blacken fragment) = addresses.Control (fragment / group
 turning_address (turning.MetaLoad fragment) = addresses.Word fragment 0
 turning_address (turning.Free group bits) = addresses.Control group
 turning_address (turning.Clear group) = addresses.Control group
-turning_address (turning.EndAdvance phase) = addresses.Phase
+turning_address (turning.EndAdvance phase kept) = addresses.Phase
 
 -- the word that a step touches
 abbrev pub address_of : Step → Address
@@ -138,7 +138,7 @@ turning_operation (turning.Blacken fragment) = Or (blacken_bit_of fragment)
 turning_operation (turning.MetaLoad fragment) = Load
 turning_operation (turning.Free group bits) = And (free_mask_of bits)
 turning_operation (turning.Clear group) = And marks_cleared
-turning_operation (turning.EndAdvance phase) = Store phase
+turning_operation (turning.EndAdvance phase kept) = Store phase
 
 -- what a step does with its word
 abbrev pub operation_of : Step → Operation

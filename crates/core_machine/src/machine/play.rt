@@ -21,7 +21,7 @@ impl Machine {
         ensures leave { command.now ≡ Leave → TellsLeave self.old.state self.new.state seat }
         ensures answer { IsRecordCall command.now → AnswersNew self.old.heap self.old.state self.new.state seat command.now result }
         ensures array { IsArrayCall command.now → AnswersArray self.old.heap self.old.state self.new.state seat command.now result }
-        ensures refused { IsPlaceRefusal result → LeavesAll self.old.state self.new.state seat }
+        ensures refused { IsPlaceRefusal result → LeavesAll self.old.heap self.old.state self.new.state seat result }
         ensures spent { SpendsRoom self.old self.new seat }
     {
         // What is true of every machine is known from here on.

@@ -69,6 +69,16 @@ impl SeatParty {
         self.finish();
     }
 
+    /// Tells the reply, at a load of the phase.
+    fn learn_note(&mut self, number: u8, reply: CollectReply, found: u64)
+        requires { 0 < self.old.spare }
+        ensures seat { self.new.seat ≡ seat_after (note_move number self.old.seat reply) found }
+        ensures spare { KeepsRoom self.old self.new }
+    {
+        self.looks.see(found);
+        self.reply(number, noted(reply));
+    }
+
     /// Learns what a step of an inner call of a collect found.
     pub(crate) fn learn_collecting(&mut self, number: u8, place: Collecting, found: u64)
         requires { 0 < self.old.spare }
@@ -79,7 +89,7 @@ impl SeatParty {
             Collecting::Looking => self.learn_look(found),
             Collecting::Asking { other } => self.learn_asking(other, found),
             Collecting::Comparing { other, phase } => self.learn_comparing(other, phase, found),
-            Collecting::Noting(reply) => self.reply(number, noted(reply)),
+            Collecting::Noting(reply) => self.learn_note(number, reply, found),
         }
     }
 }

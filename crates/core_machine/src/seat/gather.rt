@@ -5,7 +5,7 @@ ghost use Rattle.core_machine.specs.declared.step.Step.TheVariants.{Making as Ma
 ghost use Rattle.core_machine.specs.seat.Fits.{SeatIsGathering, SeatIsRefusing};
 ghost use Rattle.core_machine.specs.seat.Seat.{need};
 ghost use Rattle.core_machine.specs.seat.Making.{next_group_of, last_claimed, gather_next, after_gather, refusal_place, settled_place};
-ghost use Rattle.core_machine.specs.Moves.{claim_move, give_back_move, refusal_move, seat_after, first_part};
+ghost use Rattle.core_machine.specs.Moves.{claim_move, give_back_move, refusal_looks, refusal_move, seat_after, first_part};
 ghost use Rattle.core_machine.specs.machine.Value.{KeepsRoom};
 
 use crate::place::{Making, Place};
@@ -141,17 +141,28 @@ impl SeatParty {
         });
     }
 
-    /// Told the refusal.
-    pub(crate) fn learn_refusal(&mut self, number: u8)
+    /// Learns what the step found at which the refusal is told: the phase, but for an array.
+    fn see_at_refusal(&mut self, found: u64)
+        ensures seat { self.new.seat ≡ record self.old.seat { looks = refusal_looks self.old.seat.command found self.old.seat.looks } }
+        ensures spare { self.new.spare ≡ self.old.spare }
+    {
+        match self.command {
+            Command::Array { .. } => (),
+            _ => self.looks.see(found),
+        }
+    }
+
+    /// Tells the refusal.
+    pub(crate) fn learn_refusal(&mut self, number: u8, found: u64)
         requires { 0 < self.old.spare }
-        ensures seat { self.new.seat ≡ seat_after (refusal_move number self.old.seat) 0 }
+        ensures seat { self.new.seat ≡ seat_after (refusal_move number self.old.seat) found }
         ensures spare { KeepsRoom self.old self.new }
     {
+        self.see_at_refusal(found);
         let given: u16 = self.given;
-        let found = self.reserve.len() as u32 + u32::from(given);
         let reply = Reply::Full {
             need: self.command.need(),
-            found,
+            found: self.reserve.len() as u32 + u32::from(given),
         };
         self.reply(number, reply);
     }

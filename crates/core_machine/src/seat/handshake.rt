@@ -104,6 +104,7 @@ impl SeatParty {
         ensures seat { self.new.seat ≡ seat_after (poll_move number self.old.seat) found }
         ensures spare { KeepsRoom self.old self.new }
     {
+        self.looks.see(found);
         if found != self.answered {
             self.asked = found;
             self.shade_on();

@@ -47,14 +47,15 @@ impl SeatParty {
         }
     }
 
-    /// Tells the reply.
-    pub(crate) fn learn_local(&mut self, number: u8)
+    /// Tells the reply, at a load of the phase.
+    pub(crate) fn learn_local(&mut self, number: u8, found: u64)
         requires command { IsCommand self.old.seat.command }
         requires spare { 0 < self.old.spare }
-        ensures seat { self.new.seat ≡ seat_after (local_move number self.old.seat) 0 }
+        ensures seat { self.new.seat ≡ seat_after (local_move number self.old.seat) found }
         ensures spare { KeepsRoom self.old self.new }
     {
         let reply = self.local_reply();
+        self.looks.see(found);
         self.change_register();
         self.reply(number, reply);
     }

@@ -10,7 +10,7 @@ use heap_model::{CollectReply, Heap, Inner};
 pub struct Looks {
     /// The phase that its first look since its last reply loaded.
     pub first: Option<u64>,
-    /// The phase that it last loaded to look at it; 0 at the opening.
+    /// The phase that it last loaded, in whatever call; 0 at the opening.
     pub seen: u64,
     /// What it last found since its last reply when it asked whether another seat is behind.
     pub behind: Option<FoundBehind>,
@@ -57,7 +57,7 @@ impl Looks {
         self.seen = found;
     }
 
-    /// This phase was found, with which the answer of a seat is to be compared.
+    /// This phase was loaded.
     pub fn see(&mut self, found: u64)
         ensures { self.new ≡ seen_phase found self.old }
     {

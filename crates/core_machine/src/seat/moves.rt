@@ -28,7 +28,7 @@ impl SeatParty {
             Making::Withdrawing => self.learn_withdrawal(number),
             Making::Gathering => self.learn_claim(heap, number, found),
             Making::Returning => self.learn_give_back(heap, number),
-            Making::Refusing => self.learn_refusal(number),
+            Making::Refusing => self.learn_refusal(number, found),
             Making::Placing => self.learn_spine(found),
             Making::Listing => self.learn_listing(),
             Making::Storing => self.learn_store(),
@@ -102,7 +102,7 @@ impl SeatParty {
         match self.place {
             Place::Idle => (),
             Place::Making(place) => self.learn_making(heap, number, place, found),
-            Place::Local => self.learn_local(number),
+            Place::Local => self.learn_local(number, found),
             Place::Access(place) => self.learn_access(heap, number, place, found),
             Place::Polling(place) => self.learn_polling(number, place, found),
             Place::Collecting(place) => self.learn_collecting(number, place, found),

@@ -33,6 +33,19 @@ module _ (heap : Heap) (state : State) (book : Book) (rule : Rule heap state boo
   is_phase : found ≡ phase history
   is_phase = rule.heap_stands.cycle.word
 
+  -- a load of the phase
+  pub looks_seen : (place : Place) (looks : Looks) → ((other p : ℕ) → place ≢ places.Collecting (Comparing other p)) → LooksStand heap history number place looks → LooksStand heap history number place (seen_phase found looks)
+  looks_seen place looks uncompared stands = record {
+    seen = omega (arith, is_phase);
+    found = λ unnamed. record { first = (stands.found unnamed).first; behind = (stands.found unnamed).behind };
+    asks = stands.asks;
+    compares = λ other p comparing. absurd (uncompared other p comparing);
+  }
+
+  -- nothing is compared any more
+  over : (looks : Looks) (other p : ℕ) → places.Idle ≡ places.Collecting (Comparing other p) → p ≡ looks.seen
+  over looks other p comparing = absurd (cc comparing)
+
   seen_now : WasSeen history number found
   seen_now = record { since = omega (arith, is_phase, all_since number (λ e. e.phases) history); begun = omega (arith, is_phase) }
 
@@ -44,7 +57,7 @@ module _ (heap : Heap) (state : State) (book : Book) (rule : Rule heap state boo
   pub looks_looked : (place : Place) (looks : Looks) → place ≢ places.Access Naming → LooksStand heap history number place looks → LooksStand heap history number places.Idle (looked found looks)
   looks_looked place looks unnamed stands =
       let was = stands.found unnamed in
-      record { seen = omega (arith, is_phase); found = λ still. record { first = first_now looks.first was.first; behind = was.behind }; asks = tt }
+      record { seen = omega (arith, is_phase); found = λ still. record { first = first_now looks.first was.first; behind = was.behind }; asks = tt; compares = over (looked found looks) }
 
   -- the phase with which another seat's word is to be compared
   pub looks_asked : (other : ℕ) (looks : Looks) → LooksStand heap history number (places.Collecting (Asking other)) looks
@@ -56,6 +69,7 @@ module _ (heap : Heap) (state : State) (book : Book) (rule : Rule heap state boo
         seen = omega (arith, is_phase);
         found = λ still. record { first = was.first; behind = was.behind };
         asks = record { asked = asked; begun = omega (arith, is_phase); behind = behind asked };
+        compares = λ one p comparing. cc comparing;
       }
     where
       behind : IsOther heap number other → has_left other history ≡ false → last_answer other history < found
@@ -81,9 +95,9 @@ module _ (heap : Heap) (state : State) (book : Book) (rule : Rule heap state boo
   looks_compared other p looks stands =
       elim (leb_tells (suc word) p) as (λ _. LooksStand heap history number places.Idle (compared other p word looks)) [
         | inl less ↦ subst (λ b. LooksStand heap history number places.Idle (if b then found_behind (record { seat = other; answered = word; phase = p }) looks else record looks { behind = None }))
-            (sym less.0) record { seen = stands.seen; found = λ still. record { first = (stands.found (λ named. cc named)).first; behind = behind less.1 }; asks = tt }
+            (sym less.0) record { seen = stands.seen; found = λ still. record { first = (stands.found (λ named. cc named)).first; behind = behind less.1 }; asks = tt; compares = over looks }
         | inr more ↦ subst (λ b. LooksStand heap history number places.Idle (if b then found_behind (record { seat = other; answered = word; phase = p }) looks else record looks { behind = None }))
-            (sym more.0) record { seen = stands.seen; found = λ still. record { first = (stands.found (λ named. cc named)).first; behind = tt }; asks = tt }
+            (sym more.0) record { seen = stands.seen; found = λ still. record { first = (stands.found (λ named. cc named)).first; behind = tt }; asks = tt; compares = over looks }
       ]
     where
       word : ℕ

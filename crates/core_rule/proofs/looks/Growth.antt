@@ -99,6 +99,7 @@ module _ (heap : Heap) (number : ℕ) (before added : List Entry) (none : NoneOf
       behind = if_some (WasFound heap before number) (WasFound heap now number) found_on looks.behind was.behind;
     };
     asks = asks_on place stands.asks;
+    compares = stands.compares;
   }
 
 -- the place is none of an inner call of its own
@@ -110,20 +111,24 @@ nothing_asked : (P : Collecting → Type 0) (place : Place) → IsElsewhere plac
 nothing_asked P (places.Collecting place) elsewhere = absurd elsewhere
 nothing_asked P _ elsewhere = tt
 
+-- there nothing is compared
+nothing_compared : (place : Place) (looks : Looks) → IsElsewhere place → (other p : ℕ) → place ≡ places.Collecting (Comparing other p) → p ≡ looks.seen
+nothing_compared place looks elsewhere other p comparing = absurd (subst IsElsewhere comparing elsewhere)
+
 -- where the seat goes elsewhere
 pub looks_elsewhere : (heap : Heap) (history : List Entry) (number : ℕ) (place next : Place) (looks : Looks) → place ≢ places.Access Naming → IsElsewhere next
     → LooksStand heap history number place looks → LooksStand heap history number next looks
 looks_elsewhere heap history number place next looks unnamed elsewhere stands =
-    record { seen = stands.seen; found = λ still. stands.found unnamed; asks = nothing_asked (CollectingStands heap history number) next elsewhere }
+    record { seen = stands.seen; found = λ still. stands.found unnamed; asks = nothing_asked (CollectingStands heap history number) next elsewhere; compares = nothing_compared next looks elsewhere }
 
 -- after a reply all is forgotten
 pub looks_forgotten : (heap : Heap) (before added : List Entry) (number : ℕ) (place : Place) (looks : Looks) → LooksStand heap before number place looks
     → LooksStand heap (before ++ added) number places.Idle (forgotten looks)
 looks_forgotten heap before added number place looks stands =
-    record { seen = omega (arith, stands.seen, phase_grows before added); found = λ unnamed. record { first = tt; behind = tt }; asks = tt }
+    record { seen = omega (arith, stands.seen, phase_grows before added); found = λ unnamed. record { first = tt; behind = tt }; asks = tt; compares = nothing_compared places.Idle (forgotten looks) tt }
 
 -- and where a name is awaited it is about to be
 pub looks_awaiting : (heap : Heap) (before added : List Entry) (number : ℕ) (place : Place) (looks : Looks) → LooksStand heap before number place looks
     → LooksStand heap (before ++ added) number (places.Access Naming) looks
 looks_awaiting heap before added number place looks stands =
-    record { seen = omega (arith, stands.seen, phase_grows before added); found = λ unnamed. absurd (unnamed refl); asks = tt }
+    record { seen = omega (arith, stands.seen, phase_grows before added); found = λ unnamed. absurd (unnamed refl); asks = tt; compares = nothing_compared (places.Access Naming) looks tt }

@@ -18,8 +18,8 @@ use Rattle.core_machine.specs.declared.place.Place.{Place}
 use Rattle.core_machine.specs.declared.place.Place.TheVariants as places
 use Rattle.core_machine.specs.declared.place.Polling.TheVariants.{Asking, Shading, Answering}
 use Rattle.core_machine.specs.machine.Machine.{State, seat_at, found_by}
-use Rattle.core_machine.specs.Moves.{Move, move_at, is_last_birth, last_birth_move, birth_move, seat_after, takes_some}
-use Rattle.core_machine.specs.declared.table.address.Address.TheVariants.{Word}
+use Rattle.core_machine.specs.Moves.{Move, move_at, is_last_birth, last_birth_move, birth_move, refusal_step, refusal_looks, seat_after, takes_some}
+use Rattle.core_machine.specs.declared.table.address.Address.TheVariants.{Phase, Word}
 use Rattle.heap_words.specs.Loaded.{head_of, array_length_of}
 use Rattle.core_machine.specs.table.Layout.{at}
 use Rattle.core_machine.specs.seat.Access.{meta_reply_of, after_meta, after_get, after_old_load}
@@ -27,12 +27,12 @@ use Rattle.core_machine.specs.seat.AccessMoves.{got_shows, reply_entries_if}
 use Rattle.core_machine.specs.seat.Handshake.{answer_next, polling_over}
 use Rattle.core_machine.specs.seat.HandshakeMoves.{phase_told}
 use Rattle.core_machine.specs.seat.Looks.{forgotten}
-use Rattle.core_machine.specs.seat.Seat.{Seat}
+use Rattle.core_machine.specs.seat.Seat.{Seat, with_seen, spine_need, after_call}
 use Rattle.core_rule.specs.Book.{Book}
 use Rattle.core_rule.specs.Looks.{LooksStand}
 use Rattle.core_rule.specs.Rule.{Rule}
 use Rattle.core_rule.proofs.entries.Others.{of_other}
-use Rattle.core_rule.proofs.looks.Finding.{looks_looked, looks_asked, looks_compared}
+use Rattle.core_rule.proofs.looks.Finding.{looks_seen, looks_looked, looks_asked, looks_compared}
 use Rattle.core_rule.proofs.looks.Ways.{StaysFound, IsNote, elsewhere_unnoted, stays_claim, stays_budget, stays_walk, stays_length}
 use Rattle.core_rule.proofs.looks.Growth.{NoneOf, IsElsewhere, looks_on, looks_elsewhere, looks_forgotten, looks_awaiting}
 
@@ -82,6 +82,18 @@ module _ (heap : Heap) (number : ℕ) (before : List Entry) (seat : Seat) where
     stands = λ stands. rw (looks, naming) (looks_awaiting heap before shown number seat.place seat.looks stands);
   }
 
+-- a poll tells its reply, and the answer of a collect ends without one
+polling_ends : (heap : Heap) (number : ℕ) (before : List Entry) (seat : Seat) (command : Command) (answered p : ℕ) (adds : List Entry) → seat.place ≢ places.Access Naming
+    → LooksGo heap number before seat (record (polling_over command (record seat { answered = answered })) { mine = adds }) (phase_told number command p)
+polling_ends heap number before seat commands.Collect answered p adds unnamed = quiet heap number before seat _ _ unnamed no_entries record { looks = refl; elsewhere = tt }
+polling_ends heap number before seat _ answered p adds unnamed = ends heap number before seat _ _ refl refl (one_own number)
+
+-- a phase that was answered is told, and a new one is about to be answered
+polling_goes : (heap : Heap) (number : ℕ) (before : List Entry) (seat : Seat) (b : Bool) (p : ℕ) (adds : List Entry) → seat.place ≢ places.Access Naming
+    → LooksGo heap number before seat (record (if b then polling_over seat.command seat else answer_next (record seat { asked = p })) { mine = adds }) (if b then phase_told number seat.command p else [])
+polling_goes heap number before seat true p adds unnamed = polling_ends heap number before seat seat.command seat.answered p adds unnamed
+polling_goes heap number before seat false p adds unnamed = quiet heap number before seat _ _ unnamed no_entries record { looks = refl; elsewhere = tt }
+
 -- what a claim tells is no reply
 none_claimed : (number count : ℕ) → NoReplies (takes_some number count)
 none_claimed number count r = by (count == 0)
@@ -130,21 +142,24 @@ module _ (heap : Heap) (state : State) (book : Book) (rule : Rule heap state boo
   olds found None adds unnamed = on_way _ unnamed record { looks = refl; elsewhere = tt }
   olds found (Some head) adds unnamed = on_way _ unnamed record { looks = refl; elsewhere = tt }
 
-  -- a poll tells its reply, and the answer of a collect ends without one
-  over : (command : Command) (answered p : ℕ) (adds : List Entry) → seat.place ≢ places.Access Naming
-      → Goes (record (polling_over command (record seat { answered = answered })) { mine = adds }) (phase_told number command p)
-  over commands.Collect answered p adds unnamed = on_way _ unnamed record { looks = refl; elsewhere = tt }
-  over _ answered p adds unnamed = ends heap number book.history seat _ _ refl refl (one_own number)
-
   answers : (command : Command) (answered p : ℕ) (adds : List Entry) → seat.place ≢ places.Access Naming
       → Goes (record (polling_over command (record seat { answered = answered })) { mine = adds }) (entries.Answers number p ∷ phase_told number command p)
   answers commands.Collect answered p adds unnamed = quiet heap number book.history seat _ _ unnamed (λ r. refl) record { looks = refl; elsewhere = tt }
   answers _ answered p adds unnamed = ends heap number book.history seat _ _ refl refl (one_own number)
 
-  polls : (b : Bool) (p : ℕ) (adds : List Entry) → seat.place ≢ places.Access Naming
-      → Goes (record (if b then polling_over seat.command seat else answer_next (record seat { asked = p })) { mine = adds }) (if b then phase_told number seat.command p else [])
-  polls true p adds unnamed = over seat.command seat.answered p adds unnamed
-  polls false p adds unnamed = on_way _ unnamed record { looks = refl; elsewhere = tt }
+  -- the phase is loaded, and the seat goes on from there
+  abbrev found : ℕ
+  found = at heap state.words Phase
+
+  seen_first : (now : Seat) (shown : List Entry) → ((other p : ℕ) → seat.place ≢ places.Collecting (Comparing other p)) → LooksGo heap number book.history (with_seen found seat) now shown → Goes now shown
+  seen_first now shown uncompared goes =
+      record { others = goes.others; unnoted = goes.unnoted; stands = λ was. goes.stands (looks_seen heap state book rule number seat.place seat.looks uncompared was) }
+
+  -- a refusal is told, where the phase is loaded or an array's spine words are taken back
+  refuses : (command : Command) (words : ℕ) (reply : Reply) (adds : List Entry) → seat.place ≡ places.Making Refusing
+      → Goes (record (after_call (record seat { looks = refusal_looks command (found_by heap state (refusal_step command words)) seat.looks })) { mine = adds }) (entries.Said number seat.command reply ∷ [])
+  refuses (commands.Array d cells) words reply adds placed = tells _ _ refl refl
+  refuses _ words reply adds placed = seen_first _ _ (λ other p comparing. cc (placed, comparing)) (ends heap number book.history (with_seen found seat) _ _ refl refl (one_own number))
 
   finds : (now : Seat) → ¬ IsNote now.place → (LooksStand heap book.history number seat.place seat.looks → LooksStand heap book.history number now.place now.looks) → Goes now []
   finds now unnoted stands = record { others = λ r apart. refl; unnoted = unnoted; stands = λ was. subst (λ es. LooksStand heap es number now.place now.looks) (sym (append-nil book.history)) (stands was) }
@@ -162,10 +177,10 @@ module _ (heap : Heap) (state : State) (book : Book) (rule : Rule heap state boo
       let stays = stays_claim heap seat _ in
       quiet heap number book.history seat _ _ (λ named. cc (placed, named)) (none_claimed number _) record { looks = stays.looks; elsewhere = stays.elsewhere }
   goes_at (places.Making Returning) placed = quiet heap number book.history seat _ _ (λ named. cc (placed, named)) (λ r. refl) record { looks = refl; elsewhere = tt }
-  goes_at (places.Making Refusing) placed = tells _ _ refl refl
+  goes_at (places.Making Refusing) placed = refuses seat.command (spine_need seat) _ _ placed
   goes_at (places.Making Storing) placed = on_way _ (λ named. cc (placed, named)) record { looks = refl; elsewhere = tt }
   goes_at (places.Making Bearing) placed = bears (is_last_birth seat) placed
-  goes_at places.Local placed = tells _ _ refl refl
+  goes_at places.Local placed = seen_first _ _ (λ other p comparing. cc (placed, comparing)) (ends heap number book.history (with_seen found seat) _ _ refl refl (one_own number))
   goes_at (places.Access LoadingMeta) placed = metas (at heap state.words (Word seat.reached 0)) (meta_reply_of seat.command (at heap state.words (Word seat.reached 0))) placed _
   goes_at (places.Access Walking) placed =
       let stays = stays_walk seat (at heap state.words (Word seat.reached 0)) in
@@ -178,7 +193,7 @@ module _ (heap : Heap) (state : State) (book : Book) (rule : Rule heap state boo
   goes_at (places.Access ShadingOld) placed = on_way _ (λ named. cc (placed, named)) record { looks = refl; elsewhere = tt }
   goes_at (places.Access ShadingNew) placed = on_way _ (λ named. cc (placed, named)) record { looks = refl; elsewhere = tt }
   goes_at (places.Access Swapping) placed = tells _ _ refl refl
-  goes_at (places.Polling Asking) placed = polls _ _ _ (λ named. cc (placed, named))
+  goes_at (places.Polling Asking) placed = seen_first _ _ (λ other p comparing. cc (placed, comparing)) (polling_goes heap number book.history (with_seen found seat) (found == seat.answered) found _ (λ named. cc (placed, named)))
   goes_at (places.Polling Shading) placed = on_way _ (λ named. cc (placed, named)) record { looks = refl; elsewhere = tt }
   goes_at (places.Polling Answering) placed = answers seat.command _ _ _ (λ named. cc (placed, named))
   goes_at (places.Collecting Looking) placed = finds _ (λ note. note) (looks_looked heap state book rule number seat.place seat.looks (λ named. cc (placed, named)))
@@ -186,6 +201,6 @@ module _ (heap : Heap) (state : State) (book : Book) (rule : Rule heap state boo
       finds _ (λ note. note) (λ was. looks_asked heap state book rule number other seat.looks (subst (λ p. LooksStand heap book.history number p seat.looks) placed was))
   goes_at (places.Collecting (Comparing other p)) placed =
       finds _ (λ note. note) (λ was. looks_compared heap state book rule number other p seat.looks (subst (λ q. LooksStand heap book.history number q seat.looks) placed was))
-  goes_at (places.Collecting (Noting reply)) placed = tells _ _ refl refl
+  goes_at (places.Collecting (Noting reply)) placed = seen_first _ _ (λ other p comparing. cc (placed, comparing)) (ends heap number book.history (with_seen found seat) _ _ refl refl (one_own number))
   goes_at (places.Leaving Emptying) placed = quiet heap number book.history seat _ _ (λ named. cc (placed, named)) (λ r. refl) record { looks = refl; elsewhere = tt }
   goes_at (places.Leaving Parting) placed = tells _ _ refl refl

@@ -25,7 +25,7 @@ use Rattle.core_machine.specs.seat.Making.{gather_next, next_group_of, after_cla
 use Rattle.heap_words.specs.Loaded.{head_of, array_length_of}
 use Rattle.core_machine.specs.table.Fragments.{clear_in}
 use Rattle.core_machine.specs.seat.Registers.{register_in, register_head}
-use Rattle.core_machine.specs.seat.Seat.{Seat, spine_need}
+use Rattle.core_machine.specs.seat.Seat.{Seat, with_seen, spine_need}
 use Rattle.core_machine.proofs.seat_lemmas.Fitting.{goes_on_cases, settled_cases, returning_cases, budget_cases, listing_cases}
 use Rattle.core_rule.proofs.entries.PhasesTold.{over_cases}
 
@@ -148,7 +148,7 @@ comes_from heap number seat found (places.Access ShadingOld) placed =
     from_usual _ (after_old seat).place (new_usual (register_head (register_in seat.registers (source_of seat.command))))
 comes_from heap number seat found (places.Access ShadingNew) placed = tt
 comes_from heap number seat found (places.Access Swapping) placed = tt
-comes_from heap number seat found (places.Polling polling.Asking) placed = from_usual _ (after_phase_load seat found).place (phase_usual seat found)
+comes_from heap number seat found (places.Polling polling.Asking) placed = from_usual _ (after_phase_load (with_seen found seat) found).place (phase_usual (with_seen found seat) found)
 comes_from heap number seat found (places.Polling polling.Shading) placed = tt
 comes_from heap number seat found (places.Polling polling.Answering) placed =
     from_usual _ (polling_over seat.command (record seat { answered = seat.asked })).place (over_usual seat.command (record seat { answered = seat.asked }))

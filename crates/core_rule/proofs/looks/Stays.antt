@@ -1,5 +1,5 @@
 -- What the seats have found stands after each event.
-use Rattle.std.proofs.Common.{◌≡◌, ℕ, ◌<◌, List, [], ◌++◌, Option, Some, None, length, slice_set, slice_index_or, inl, inr, refl, sym, subst}
+use Rattle.std.proofs.Common.{◌≡◌, ◌≢◌, ℕ, ◌<◌, List, [], ◌++◌, Option, Some, None, length, slice_set, slice_index_or, inl, inr, refl, sym, subst}
 use Rattle.std.proofs.lemmas.Bool.Decides.{eqb_tells}
 use Rattle.std.proofs.lemmas.List.{append-nil, get_or-set_same, get_or-set_other}
 use Rattle.heap_model.specs.declared.calls.collect.Inner.{Inner}
@@ -12,7 +12,9 @@ use Rattle.core_machine.specs.collector.Collector.{Collector, turn_at}
 use Rattle.core_machine.specs.declared.collector.stage.Stage.{Stage}
 use Rattle.core_machine.specs.declared.collector.stage.Copying.TheVariants as copying
 use Rattle.core_machine.specs.declared.collector.stage.Stage.TheVariants as stages
+use Rattle.core_machine.specs.declared.place.Collecting.TheVariants.{Comparing}
 use Rattle.core_machine.specs.declared.place.Place.{Place}
+use Rattle.core_machine.specs.declared.place.Place.TheVariants as places
 use Rattle.core_machine.specs.machine.Machine.{State, seat_at, Begins, BeginsInner, Steps, state_after, state_after_due, state_after_turn, entries, entries_shown, after_begin, after_inner_begin, MayBegin, MayBeginInner}
 use Rattle.core_machine.specs.Moves.{Move, move_at}
 use Rattle.core_machine.specs.seat.Collecting.{inner_place}
@@ -96,6 +98,12 @@ inner_asks heap before number looks inners.Answer may = tt
 inner_asks heap before number looks (inners.Behind other) may = record { below = may.0; apart = may.1 }
 inner_asks heap before number looks (inners.Note reply) may = tt
 
+inner_uncompared : (inner : Inner) (other p : ℕ) → inner_place inner ≢ places.Collecting (Comparing other p)
+inner_uncompared inners.Look other p comparing = cc comparing
+inner_uncompared inners.Answer other p comparing = cc comparing
+inner_uncompared (inners.Behind one) other p comparing = cc comparing
+inner_uncompared (inners.Note reply) other p comparing = cc comparing
+
 pub inner_looks : (heap : Heap) (state : State) (before now : List Entry) (number : ℕ) (inner : Inner) → number < length state.seats → number < heap.seats → MayBeginInner heap number (seat_at state number) inner
     → AllLooksStand heap state before → now ≡ before ++ [] → AllLooksStand heap (state_after heap state (BeginsInner number inner)) now
 inner_looks heap state before now number inner there here may looks grown =
@@ -107,4 +115,5 @@ inner_looks heap state before now number inner there here may looks grown =
       seen = stands.seen;
       found = λ unnamed. stands.found (λ named. cc (may.idle, named));
       asks = inner_asks heap before number seat.looks inner may.makes;
+      compares = λ other p comparing. absurd (inner_uncompared inner other p comparing);
     }))

@@ -1,5 +1,5 @@
 -- What an inner call of a collect tells.
-use Rattle.std.proofs.Common.{ℕ, ◌-◌, ◌≤◌, List, length, inl, inr, arith}
+use Rattle.std.proofs.Common.{ℕ, ◌≤◌, List, length, inl, inr, arith}
 use Rattle.std.proofs.lemmas.Bool.Decides.{eqb_tells}
 use Rattle.heap_model.specs.declared.calls.collect.Inner.{Inner}
 use Rattle.heap_model.specs.declared.calls.collect.Inner.TheVariants as inners

@@ -153,6 +153,6 @@ opening_stands heap state fits opens = record {
   stands = record {
     rule = opening_rule heap state fits (opening_machine heap state fits opens) opens;
     cycle = λ running. absurd (running refl);
-    looks = λ number below. subst (λ (s : Seat). LooksStand heap [] number s.place s.looks) (sym (opening_seat_at heap state number opens below)) record { seen = omega arith; found = λ unnamed. record { first = tt; behind = tt }; asks = tt };
+    looks = λ number below. subst (λ (s : Seat). LooksStand heap [] number s.place s.looks) (sym (opening_seat_at heap state number opens below)) record { seen = omega arith; found = λ unnamed. record { first = tt; behind = tt }; asks = tt; compares = λ other p comparing. absurd (cc comparing) };
   };
 }

@@ -3,6 +3,8 @@ use Rattle.core_rule.proofs.counts.FreeSums.{free_is_unused}
 use Rattle.core_rule.proofs.held.FreedFragments.{no_free_takes_held}
 use Rattle.core_rule.proofs.held.HeldWordLaws.{no_place_takes_held, no_copy_takes_held, each_store_is_own, each_spine_store_is_own, each_copy_store_is_own}
 use Rattle.core_rule.proofs.held.HeldFragments.{each_held_is_taken, no_claim_takes_held, each_held_is_marked}
+use Rattle.core_rule.proofs.looks.Finds.{each_event_is_followed}
+use Rattle.core_rule.proofs.runs.CountedFinds.{waits_are_finds}
 use Rattle.core_rule.proofs.runs.BornWords.{each_birth_has_its_colour}
 use Rattle.core_rule.proofs.runs.MarkedAnswers.{each_answer_is_marked}
 use Rattle.core_rule.proofs.runs.Waits.{each_wait_is_behind}
@@ -75,3 +77,9 @@ returns-clause-copy_stores c = each_copy_store_is_own
 
 pub returns-clause-fewer : goal.returns-clause-fewer
 returns-clause-fewer c = each_turn_leaves_fewer
+
+pub returns-clause-finds : goal.returns-clause-finds
+returns-clause-finds c = waits_are_finds (each_event_keeps machine_after each_step_keeps each_begin_keeps each_inner_keeps each_turn_keeps) opening_stands
+
+pub returns-clause-looks : goal.returns-clause-looks
+returns-clause-looks c = each_event_is_followed

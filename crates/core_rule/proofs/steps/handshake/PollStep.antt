@@ -21,7 +21,8 @@ use Rattle.core_machine.specs.seat.Fits.{IsAtRest, IsSilent, AnswersThePhase}
 use Rattle.core_machine.specs.table.Layout.{at, put}
 use Rattle.core_machine.specs.machine.Machine.{State, seat_at}
 use Rattle.core_machine.specs.seat.Handshake.{roots, answer_next, polling_over}
-use Rattle.core_machine.specs.seat.Seat.{Seat, with_entries, after_call}
+use Rattle.core_machine.specs.seat.Looks.{seen_phase}
+use Rattle.core_machine.specs.seat.Seat.{Seat, with_seen, with_entries, after_call}
 use Rattle.core_machine.specs.machine.Value.{IsMachine}
 use Rattle.core_machine.proofs.table_lemmas.Addresses.{put-at}
 use Rattle.core_rule.specs.Book.{Book}
@@ -53,7 +54,7 @@ use Rattle.heap_model.specs.declared.command.Command.{Command}
 
 -- the seat after the load, by whether it has answered the phase found
 abbrev polled : ℕ → Command → Seat → ℕ → Bool → Seat
-polled number command seat found same = with_entries (if same then polling_over command seat else answer_next (record seat { asked = found }))
+polled number command seat found same = with_entries (if same then polling_over command (with_seen found seat) else answer_next (record (with_seen found seat) { asked = found }))
     (if same then phase_told number command found else [])
 
 abbrev polls : Heap → State → ℕ → Command → Bool → State
@@ -113,7 +114,7 @@ module _ (heap : Heap) (state : State) (book : Book) (number : ℕ) (rule : Rule
         only = only_none g number;
         registers = holds;
       } in
-      let next = λ (c : Command). with_entries (after_call seat) (entries.Said number c (replies.Phase found) ∷ []) in
+      let next = λ (c : Command). with_entries (after_call (with_seen found seat)) (entries.Said number c (replies.Phase found) ∷ []) in
       subst (λ c. IsMachine heap (record state { words = put heap state.words Phase found; seats = slice_set state.seats number (next c) })
       → Keeps heap state (record state { words = put heap state.words Phase found; seats = slice_set state.seats number (next c) }) book book.begun (entries.Said number c (replies.Phase found) ∷ [])) polls
       (λ machine. local_reply_keeps heap state book number Phase (next seat.command) (replies.Phase found) rule here machine (rw place tt) rest mine_told (stands.told.counts.leaves ∙ stays)
@@ -125,7 +126,7 @@ module _ (heap : Heap) (state : State) (book : Book) (number : ℕ) (rule : Rule
 
   -- and a collect doesn't
   collect_ends : PollKeeps heap state book number commands.Collect true
-  collect_ends = quiet_ends heap state book number rule here Phase seat.looks (rw place tt) rest asks.0 (rw place (λ same. same)) (λ r awaited. subst (λ x. IsAwaited x (target_of seat.command) r) place awaited) mine_told
+  collect_ends = quiet_ends heap state book number rule here Phase (seen_phase found seat.looks) (rw place tt) rest asks.0 (rw place (λ same. same)) (λ r awaited. subst (λ x. IsAwaited x (target_of seat.command) r) place awaited) mine_told
 
   -- it hasn't, so that it is one phase behind
   own_cycle : found ≢ seat.answered

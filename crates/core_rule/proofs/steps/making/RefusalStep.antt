@@ -26,7 +26,9 @@ use Rattle.core_machine.specs.seat.Commands.{MakesObject}
 use Rattle.core_machine.specs.seat.Fits.{SeatIsRefusing}
 use Rattle.core_machine.specs.table.Layout.{at, put}
 use Rattle.core_machine.specs.machine.Machine.{State, seat_at}
-use Rattle.core_machine.specs.Moves.{Move, plain_move, refusal_step, refusal_move, full_entry}
+use Rattle.core_machine.specs.Moves.{Move, plain_move, refusal_step, refusal_looks, refusal_move, full_entry}
+use Rattle.core_machine.specs.declared.seat.looks.Looks.{Looks}
+use Rattle.core_machine.specs.seat.Looks.{forgotten, seen_phase}
 use Rattle.core_machine.specs.seat.Seat.{Seat, need, spine_need, after_call, seat_after_reply}
 use Rattle.core_machine.specs.machine.Value.{IsMachine}
 use Rattle.core_machine.proofs.table_lemmas.Addresses.{put-at, at-put_same}
@@ -51,15 +53,15 @@ use Rattle.core_rule.proofs.spines.BudgetSteps.{budgets_change, budget_small, bu
 use Rattle.core_rule.proofs.spines.OtherWords.{LeavesPlaces, places_of, spines_left_none}
 
 -- a record's refusal is told at a load, an array's at the step that takes its spine words back
-refusal_cases : (P : Step → Type 0) (command : Command) (words : ℕ) → MakesObject command → (spine_need_of command ≡ 0 → P steps.PollLoad)
-    → P (steps.Spine (BudgetTakeBack words)) → P (refusal_step command words)
+refusal_cases : (P : Step → (ℕ → Looks → Looks) → Type 0) (command : Command) (words : ℕ) → MakesObject command → (spine_need_of command ≡ 0 → P steps.PollLoad seen_phase)
+    → P (steps.Spine (BudgetTakeBack words)) (λ found looks. looks) → P (refusal_step command words) (refusal_looks command)
 refusal_cases P (commands.New d fields) words makes a_record an_array = a_record refl
 refusal_cases P (commands.Array d cells) words makes a_record an_array = an_array
 refusal_cases P _ words makes a_record an_array = absurd makes
 
--- the move by which it is told at this step
-abbrev refusal_at : ℕ → Seat → Step → Move
-refusal_at number seat step = plain_move step (λ found. after_call seat) (λ found. full_entry number seat ∷ [])
+-- the move by which it is told at this step, where the seat finds this out
+abbrev refusal_at : ℕ → Seat → Step → (ℕ → Looks → Looks) → Move
+refusal_at number seat step sees = plain_move step (λ found. after_call (record seat { looks = sees found seat.looks })) (λ found. full_entry number seat ∷ [])
 
 module _ (heap : Heap) (state : State) (book : Book) (number : ℕ) (rule : Rule heap state book) (here : number < heap.seats) (place : (seat_at state number).place ≡ places.Making Refusing) where
   abbrev seat : Seat
@@ -74,8 +76,8 @@ module _ (heap : Heap) (state : State) (book : Book) (number : ℕ) (rule : Rule
   abbrev entry : Entry
   entry = full_entry number seat
 
-  abbrev refused : Seat
-  refused = seat_after_reply number seat reply
+  abbrev refused : Looks → Seat
+  refused looks = record (seat_after_reply number seat reply) { looks = looks }
 
   stands : SeatStands heap state.words book number seat
   stands = rule.seats_stand number here
@@ -109,49 +111,51 @@ module _ (heap : Heap) (state : State) (book : Book) (number : ℕ) (rule : Rule
   no_place has = rw place at has
 
   module _ (words : List ℕ) (heap_stands : HeapStands heap words book) (seats_stand : (r : ℕ) → r < heap.seats → SeatStands heap words book r (seat_at state r))
-      (sources : (f : ℕ) → SameSources heap state.words words f) where
+      (sources : (f : ℕ) → SameSources heap state.words words f) (looks : Looks) where
     -- as many spine words are granted by the book
     grants : SameGrants heap book (with_entry book entry)
-    grants = grants_refused heap state book number rule here Refusing place reply makes refl graph words heap_stands seats_stand sources
+    grants = grants_refused heap state book number rule here Refusing place reply looks makes refl graph words heap_stands seats_stand sources
 
     -- so it is told where the heap, each seat and the budget stand
-    tells : LeavesPlaces heap state.words words → BudgetsStand heap (stepped state number words refused) (with_entry book entry) → IsMachine heap (stepped state number words refused)
-        → Keeps heap state (stepped state number words refused) book book.begun (entry ∷ [])
-    tells = told_refusal heap state book number rule here Refusing place reply makes refl graph words heap_stands seats_stand sources at_place.1 at_place.0.no_body no_place accepts keeps
+    tells : LeavesPlaces heap state.words words → BudgetsStand heap (stepped state number words (refused looks)) (with_entry book entry) → IsMachine heap (stepped state number words (refused looks))
+        → Keeps heap state (stepped state number words (refused looks)) book book.begun (entry ∷ [])
+    tells = told_refusal heap state book number rule here Refusing place reply looks makes refl graph words heap_stands seats_stand sources at_place.1 at_place.0.no_body no_place accepts keeps
 
   -- at a load, where the call needs no spine words
-  at_load : spine_need seat ≡ 0 → MoveKeeps heap state book number (refusal_at number seat steps.PollLoad)
+  at_load : spine_need seat ≡ 0 → MoveKeeps heap state book number (refusal_at number seat steps.PollLoad seen_phase)
   at_load none machine =
+      let looks : Looks = forgotten (seen_phase (at heap state.words Phase) seat.looks) in
       let words_stay : put heap state.words Phase (at heap state.words Phase) ≡ state.words = put-at heap state.words Phase in
-      subst (λ words. Keeps heap state (stepped state number words refused) book book.begun (entry ∷ [])) (sym words_stay)
-      (tells state.words rule.heap_stands rule.seats_stand (same_sources heap state.words) (places_of heap state.words state.words (spines_left_none heap state.words))
-      (budgets_stay heap state book number state.words refused (with_entry book entry) here rule.machine.seated (spines_left_none heap state.words)
-      record { granted = sym (rw place none); placed = λ half. sym (rw place refl); refused = sym (rw place refl); range = away_range seat refused (λ has. has) }
-      (grants state.words rule.heap_stands rule.seats_stand (same_sources heap state.words)) rule.space.budgets)
-      (subst (λ words. IsMachine heap (stepped state number words refused)) words_stay machine))
+      subst (λ words. Keeps heap state (stepped state number words (refused looks)) book book.begun (entry ∷ [])) (sym words_stay)
+      (tells state.words rule.heap_stands rule.seats_stand (same_sources heap state.words) looks (places_of heap state.words state.words (spines_left_none heap state.words))
+      (budgets_stay heap state book number state.words (refused looks) (with_entry book entry) here rule.machine.seated (spines_left_none heap state.words)
+      record { granted = sym (rw place none); placed = λ half. sym (rw place refl); refused = sym (rw place refl); range = away_range seat (refused looks) (λ has. has) }
+      (grants state.words rule.heap_stands rule.seats_stand (same_sources heap state.words) looks) rule.space.budgets)
+      (subst (λ words. IsMachine heap (stepped state number words (refused looks))) words_stay machine))
 
   -- and where the spine words are taken back
-  at_budget : MoveKeeps heap state book number (refusal_at number seat (steps.Spine (BudgetTakeBack (spine_need seat))))
+  at_budget : MoveKeeps heap state book number (refusal_at number seat (steps.Spine (BudgetTakeBack (spine_need seat))) (λ found looks. looks))
   at_budget machine =
+      let looks : Looks = forgotten seat.looks in
       let was : ℕ = at heap state.words Budget in
       let word : ℕ = (was + 2 ^ 64 - spine_need seat) % 2 ^ 64 in
       let words : List ℕ = budget_words heap state book rule word in
       let old = rule.space.budgets in
       let given : granted_at seat seat.place ≡ spine_need seat = rw place refl in
-      let change = seats_change heap state number words refused granted_at here rule.machine.seated in
+      let change = seats_change heap state number words (refused looks) granted_at here rule.machine.seated in
       let spot : next_spine heap words ≡ next_spine heap state.words = ap spot_in (budget_places heap state book rule word).spot in
       let there : spine_need seat ≤ was = omega (arith, old.word, change, given) in
       let falls = budget_falls was (spine_need seat) (budget_small heap state book rule.machine old) there in
       let now : at heap words Budget ≡ word = at-put_same heap state.words Budget word rule.machine.table tt in
-      tells words (heap_budget heap state book rule word) (seat_budget heap state book rule word) (budget_sources heap state book rule word) (budget_places heap state book rule word)
-      (budgets_change heap state book number here rule.machine.seated words refused (spine_need seat) 0 0
+      tells words (heap_budget heap state book rule word) (seat_budget heap state book rule word) (budget_sources heap state book rule word) looks (budget_places heap state book rule word)
+      (budgets_change heap state book number here rule.machine.seated words (refused looks) (spine_need seat) 0 0
       record { given_is = given; placed_is = rw place refl; refused_is = rw place refl } 0 0 0 record { given_is = refl; placed_is = refl; refused_is = refl } (with_entry book entry)
-      (grants words (heap_budget heap state book rule word) (seat_budget heap state book rule word) (budget_sources heap state book rule word))
+      (grants words (heap_budget heap state book rule word) (seat_budget heap state book rule word) (budget_sources heap state book rule word) looks)
       (ap (λ (s : Spot). s.half) spot) (ap (λ (s : Spot). s.offset + 0) spot) (omega (arith, now, falls)) (omega (arith, old.low)) old)
       machine
 
 -- a refusal that is told keeps the rule
 pub refusal_keeps : StepKeeps (places.Making Refusing) (λ heap. refusal_move)
 refusal_keeps heap state book number rule here place =
-    refusal_cases (λ step. MoveKeeps heap state book number (refusal_at number (seat_at state number) step)) (seat_at state number).command (spine_need (seat_at state number))
+    refusal_cases (λ step sees. MoveKeeps heap state book number (refusal_at number (seat_at state number) step sees)) (seat_at state number).command (spine_need (seat_at state number))
     (makes heap state book number rule here place) (at_load heap state book number rule here place) (at_budget heap state book number rule here place)

@@ -18,6 +18,7 @@ use Rattle.core_machine.specs.seat.Commands.{MakesObject, target_of}
 use Rattle.core_machine.specs.seat.Fits.{IsSilent}
 use Rattle.core_machine.specs.machine.Machine.{State, seat_at}
 use Rattle.core_machine.specs.machine.Value.{IsMachine}
+use Rattle.core_machine.specs.declared.seat.looks.Looks.{Looks}
 use Rattle.core_machine.specs.seat.Seat.{Seat, seat_after_reply}
 use Rattle.core_rule.specs.Book.{Book}
 use Rattle.core_rule.specs.Budgets.{BudgetsStand}
@@ -47,7 +48,7 @@ use Rattle.core_rule.proofs.spines.SpineFrames.{spine_away}
 use Rattle.core_rule.proofs.steps.Assemble.{Keeps, seat_steps, seat_fits}
 
 module _ (heap : Heap) (state : State) (book : Book) (number : ℕ) (rule : Rule heap state book) (here : number < heap.seats) (making : Making) (place : (seat_at state number).place ≡ places.Making making)
-    (reply : Reply) (makes : MakesObject (seat_at state number).command) (nothing : effect_of (Said number (seat_at state number).command reply) ≡ no_effect)
+    (reply : Reply) (looks : Looks) (makes : MakesObject (seat_at state number).command) (nothing : effect_of (Said number (seat_at state number).command reply) ≡ no_effect)
     (graph : graph_of heap (book.history ++ Said number (seat_at state number).command reply ∷ []) ≡ graph_of heap book.history)
     (words : List ℕ) (heap_stands : HeapStands heap words book) (seats_stand : (r : ℕ) → r < heap.seats → SeatStands heap words book r (seat_at state r))
     (sources : (f : ℕ) → SameSources heap state.words words f) where
@@ -58,7 +59,7 @@ module _ (heap : Heap) (state : State) (book : Book) (number : ℕ) (rule : Rule
   entry = Said number seat.command reply
 
   abbrev refused : Seat
-  refused = seat_after_reply number seat reply
+  refused = record (seat_after_reply number seat reply) { looks = looks }
 
   -- the book after it
   abbrev pub book_refused : Book

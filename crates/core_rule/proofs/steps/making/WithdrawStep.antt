@@ -18,6 +18,7 @@ use Rattle.core_machine.specs.declared.table.address.Address.TheVariants.{Budget
 use Rattle.core_machine.specs.machine.Machine.{State, seat_at}
 use Rattle.core_machine.specs.Moves.{withdraw_move, spine_full_entry, seat_after}
 use Rattle.core_machine.specs.seat.Fits.{SeatIsWithdrawing}
+use Rattle.core_machine.specs.seat.Looks.{forgotten}
 use Rattle.core_machine.specs.seat.Seat.{Seat, spine_need}
 use Rattle.core_machine.specs.table.Layout.{at}
 use Rattle.core_machine.proofs.table_lemmas.Addresses.{at-put_same}
@@ -106,11 +107,11 @@ module _ (heap : Heap) (state : State) (book : Book) (number : ℕ) (rule : Rule
   -- so they are taken back, and the refusal is told
   withdraws : MoveKeeps heap state book number (withdraw_move number seat)
   withdraws =
-      told_refusal heap state book number rule here Withdrawing place (SpineFull needs (seat.used % 2 ^ 32)) fits.makes.an_object refl graph words
+      told_refusal heap state book number rule here Withdrawing place (SpineFull needs (seat.used % 2 ^ 32)) (forgotten seat.looks) fits.makes.an_object refl graph words
       (heap_budget heap state book rule word) (seat_budget heap state book rule word) (budget_sources heap state book rule word)
       fits.rests.empty_hand fits.rests.no_body (λ has. rw place at has) accepts keeps (budget_places heap state book rule word)
       (budgets_change heap state book number here rule.machine.seated words new 0 0 needs asked 0 0 0 nothing later
-      (grants_refused heap state book number rule here Withdrawing place (SpineFull needs (seat.used % 2 ^ 32)) fits.makes.an_object refl graph words
+      (grants_refused heap state book number rule here Withdrawing place (SpineFull needs (seat.used % 2 ^ 32)) (forgotten seat.looks) fits.makes.an_object refl graph words
       (heap_budget heap state book rule word) (seat_budget heap state book rule word) (budget_sources heap state book rule word))
       (ap (λ (s : Spot). s.half) same_place) (ap (λ (s : Spot). s.offset + 0) same_place) (omega (arith, fallen)) (omega (arith, rule.space.budgets.low)) rule.space.budgets)
 
