@@ -49,7 +49,7 @@ pub record CallMade (heap : Heap) (old new : State) (told : List Entry) (number 
   pub answer : IsRecordCall command → AnswersNew heap old new number command reply
   pub array : IsArrayCall command → AnswersArray heap old new number command reply
   pub leave : command ≡ Leave → TellsLeave old new number
-  pub refused : IsPlaceRefusal reply → LeavesAll old new number
+  pub refused : IsPlaceRefusal reply → LeavesAll heap old new number reply
 
 -- it was the machine's and is short; the collector's room is as it was
 pub record CallFacts (old : Recorded) (one two : MachineValue) (number : ℕ) (command : Command) (reply : Reply) : Type 0 where
@@ -62,7 +62,7 @@ pub call_facts : EveryRunKeeps → EachCallIsShort → (old : Recorded) (one two
     → one ≡ record old.machine { spares = one.spares } → ((other : ℕ) → other ≢ number → spare_of one other ≡ spare_of old.machine other)
     → (steps : PlaysCall one.heap one.state two.state number command reply) → CountsCall (seat_at one.state number) (seat_at two.state number) command
     → (IsRecordCall command → AnswersNew one.heap one.state two.state number command reply) → (IsArrayCall command → AnswersArray one.heap one.state two.state number command reply)
-    → (command ≡ Leave → TellsLeave one.state two.state number) → (IsPlaceRefusal reply → LeavesAll one.state two.state number) → SpendsRoom one two number → CallFacts old one two number command reply
+    → (command ≡ Leave → TellsLeave one.state two.state number) → (IsPlaceRefusal reply → LeavesAll one.heap one.state two.state number reply) → SpendsRoom one two number → CallFacts old one two number command reply
 call_facts runs each_short old one two number command reply led same others steps counts answer array leave refused spent =
     let heap = old.machine.heap in
     let state = old.machine.state in

@@ -8,6 +8,7 @@ pub mod TellsNone
 pub mod Coming
 pub mod LastCycle
 pub mod Opened
+pub mod Parting
 pub mod Calling
 pub mod InnerCalls
 pub mod Whole

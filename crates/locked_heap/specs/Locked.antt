@@ -1,5 +1,5 @@
 -- What contracts see of the heap under the lock.
-use Rattle.std.specs.Prelude.{◌≡◌, ◌≢◌, ℕ, ◌+◌, ◌-◌, ◌*◌, ◌^◌, ◌<◌, ◌≤◌, ◌⊎◌, Bool, true, false, min, List, ◌∷◌, [], ◌++◌, length, drop, slice_get, Some, IsSome}
+use Rattle.std.specs.Prelude.{◌≡◌, ◌≢◌, ℕ, ◌+◌, ◌-◌, ◌*◌, ◌^◌, ◌<◌, ◌≤◌, ◌⊎◌, Bool, true, false, min, List, ◌∷◌, [], ◌++◌, length, drop, slice_get, Some, None}
 use Rattle.std.specs.List.{AllByRecursion}
 use Rattle.heap_model.specs.declared.command.Command.{Command}
 use Rattle.heap_model.specs.declared.command.Command.TheVariants.{Collect}
@@ -69,11 +69,15 @@ AllGone given seats = (number : ℕ) → number < given.heap.seats → SeatHasLe
 abbrev pub SomeAreThere : Given → List Progress → Type 0
 SomeAreThere given seats = ¬ AllGone given seats
 
+-- once every seat has left nothing is told behind the last leave
+pub record IsParted (given : Given) (told : List Entry) (seats : List Progress) : Type 0 where
+  pub behind_leave : AllGone given seats → EndsWithLeave told
+
 -- a run from what was given led here, each seat has come as far as is kept of it, nothing is told behind the last leave, and the patience is the one given
 pub record StandsLocked (given : Given) (locked : LockedValue) (patience : ℕ) : Type 0 where
   pub run : IsRunFrom given locked.recorded
   pub come : AllHaveCome given locked.recorded.history locked.recorded.machine.state locked.seats
-  pub parted : AllGone given locked.seats → EndsWithLeave locked.recorded.history
+  pub parted : IsParted given locked.recorded.history locked.seats
   pub patient : patience ≡ given.patience
 
 -- the command is the seat's next one, and the seat hasn't left
@@ -85,7 +89,7 @@ pub record IsNext (given : Given) (seats : List Progress) (number : ℕ) (comman
 -- the seat is in a collect that has begun
 pub record IsCollecting (given : Given) (seats : List Progress) (number : ℕ) : Type 0 where
   pub next : IsNext given seats number Collect
-  pub begun : IsSome (progress_at seats number).target
+  pub begun : (progress_at seats number).target ≢ None
 
 -- who has left stays so
 abbrev pub KeepsGone : List Progress → List Progress → Type 0
@@ -162,8 +166,9 @@ pub record TurnsOn (old new : Recorded) : Type 0 where
 pub record EndsWhole (old new : Recorded) : Type 0 where
   pub on : TurnsOn old new
   pub earlier : List Entry
+  pub own : AllByRecursion (λ entry. is_collectors entry ≡ true) earlier
   pub cycle : ℕ
   pub kept : ℕ
-  pub told : on.turned ≡ earlier ++ Ends cycle kept ∷ []
+  pub told : new.history ≡ old.history ++ (earlier ++ Ends cycle kept ∷ [])
   pub began : phase old.history ≤ cycle_phases * cycle
   pub first : cycle_phases * cycle < phase old.history + cycle_phases

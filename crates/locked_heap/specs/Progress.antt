@@ -1,5 +1,5 @@
 -- How far a seat has come with its script.
-use Rattle.std.specs.Prelude.{◌≡◌, ℕ, ◌+◌, ◌-◌, ◌*◌, ◌^◌, ◌<◌, ◌≤◌, ◌⊎◌, Bool, true, false, if◌then◌else◌, List, [], ◌∷◌, ◌++◌, length, take, slice_get, slice_index_or, Option, Some, None, IsSome}
+use Rattle.std.specs.Prelude.{◌≡◌, ◌≢◌, ℕ, ◌+◌, ◌-◌, ◌*◌, ◌^◌, ◌<◌, ◌≤◌, ◌⊎◌, Bool, true, false, if◌then◌else◌, List, [], ◌∷◌, ◌++◌, length, take, slice_get, slice_index_or, Option, Some, None}
 use Rattle.heap_model.specs.declared.command.Command.{Command}
 use Rattle.heap_model.specs.declared.command.Command.TheVariants.{Collect, Leave}
 use Rattle.heap_model.specs.declared.entry.Entry.{Entry}
@@ -48,4 +48,4 @@ pub record HasCome (given : Given) (told : List Entry) (number : ℕ) (seat : Se
   pub paid : IsPaid given.patience (waits_told number told) progress.paid
   pub grown : progress.paid ≤ seat.looks.waits
   pub target : IsTargetOf seat.looks.first progress.target
-  pub collects : IsSome progress.target → IsAtCollect given number progress
+  pub collects : progress.target ≢ None → IsAtCollect given number progress

@@ -84,7 +84,7 @@ pub record MakesCall (old new : Recorded) (number : ℕ) (command : Command) (re
   pub answer : IsRecordCall command → AnswersNew old.machine.heap old.machine.state new.machine.state number command reply
   pub array : IsArrayCall command → AnswersArray old.machine.heap old.machine.state new.machine.state number command reply
   pub leave : command ≡ Leave → TellsLeave old.machine.state new.machine.state number
-  pub refused : IsPlaceRefusal reply → LeavesAll old.machine.state new.machine.state number
+  pub refused : IsPlaceRefusal reply → LeavesAll old.machine.heap old.machine.state new.machine.state number reply
   pub turns_stay : new.turns ≡ old.turns
   pub last_stays : new.last_turn ≡ old.last_turn
   pub spare : old.spare + length old.history ≤ new.spare + length new.history

@@ -1,9 +1,8 @@
 ghost use Rattle.std.specs.Prelude.{◌≡◌, ◌≢◌, ◌+◌, ◌<◌, false, length, OnOk, OnErr};
 ghost use Rattle.heap_model.specs.declared.command.Command.TheVariants.{Collect};
 ghost use Rattle.locked_heap.specs.Given.{IsGiven, script_of};
-ghost use Rattle.locked_heap.specs.Locked.{IsRunFrom, AllHaveCome, IsNext, SeatHasLeft, AllGone, ComesOneFurther, OwesMore};
+ghost use Rattle.locked_heap.specs.Locked.{IsRunFrom, AllHaveCome, IsParted, IsNext, SeatHasLeft, ComesOneFurther, OwesMore};
 ghost use Rattle.locked_heap.specs.Progress.{progress_at};
-ghost use Rattle.locked_heap.specs.Told.{EndsWithLeave};
 
 use crate::handed::Handed;
 use crate::progress::Progress;
@@ -70,7 +69,7 @@ impl<N: Handed> Locked<N> {
     pub fn known(&self)
         ensures run { IsRunFrom N.given self.now.recorded }
         ensures come { AllHaveCome N.given self.now.recorded.history self.now.recorded.machine.state self.now.seats }
-        ensures parted { AllGone N.given self.now.seats → EndsWithLeave self.now.recorded.history }
+        ensures parted { IsParted N.given self.now.recorded.history self.now.seats }
     {
         let _ = &self.recorder;
     }

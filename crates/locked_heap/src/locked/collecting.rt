@@ -148,6 +148,7 @@ impl<N: Handed> Locked<N> {
         ensures further { ComesOneFurther self.old self.new seat }
         ensures owed { self.new.owed ≡ self.old.owed }
     {
+        self.known();
         if self.saw_end(seat, target) {
             return self.note(seat, CollectReply::Cycle(target));
         }
