@@ -60,7 +60,13 @@ impl<B: Before, H: PlayHeap> PlayCollector<B, H> {
 }
 
 impl<B: Before, H: PlayHeap> CollectorCalls for PlayCollector<B, H> {
+    ghost Beside = { Unit {0} };
+
     ghost state = { λ collector. collector };
+
+    ghost beside = { λ _. tt };
+
+    ghost may = { λ _. Unit {0} };
 
     fn turn(&mut self) -> Turn {
         let Ok(turn) = self.whole.turn() else {

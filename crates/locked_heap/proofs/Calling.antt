@@ -1,5 +1,5 @@
 -- The next command of a seat may be called, and what its call comes to.
-use Rattle.std.proofs.Common.{◌≡◌, ◌≢◌, ℕ, ◌+◌, ◌==◌, ◌<◌, ◌≤◌, true, false, List, [], ◌∷◌, ◌++◌, length, refl, sym, ap, subst, ◌∙◌, arith}
+use Rattle.std.proofs.Common.{◌≡◌, ◌≢◌, ℕ, ◌+◌, ◌==◌, ◌<◌, ◌≤◌, true, false, List, [], ◌∷◌, ◌++◌, length, Some, refl, sym, ap, subst, ◌∙◌, arith}
 use Rattle.std.specs.Prelude.{slice_set}
 use Rattle.std.proofs.lemmas.Bool.{eq-eqb, or_left, or_right}
 use Rattle.std.proofs.lemmas.List.Folds.{list_any-append}
@@ -12,19 +12,21 @@ use Rattle.heap_model.specs.declared.heap.Heap.{Heap}
 use Rattle.heap_model.specs.declared.reply.Reply.{Reply}
 use Rattle.heap_model.specs.Limits.{stamp_limit}
 use Rattle.heap_model.specs.account.PhaseCounts.{has_left, is_leave_of}
-use Rattle.core_machine.specs.machine.Machine.{seat_at, Begins, Can}
+use Rattle.core_machine.specs.machine.Machine.{seat_at, Begins, BeginsInner, Can}
+use Rattle.heap_model.specs.declared.calls.collect.Inner.{Inner}
 use Rattle.core_machine.specs.seat.Commands.{IsServed}
+use Rattle.core_machine.specs.seat.Looks.{MayMake}
 use Rattle.core_machine.specs.seat.Seat.{Seat, HasNumberLeft}
 use Rattle.core_rule.specs.Laws.{EveryRunKeeps}
 use Rattle.core_rule.proofs.parties.OneSeat.{after_call}
 use Rattle.locked_heap.specs.declared.progress.Progress.{Progress}
 use Rattle.locked_heap.specs.Given.{Given, IsOfScript, IsSeatScript, script_of}
 use Rattle.locked_heap.specs.Locked.{IsRunFrom, AllHaveCome, IsNext}
-use Rattle.locked_heap.specs.Progress.{progress_at, IsPaid}
+use Rattle.locked_heap.specs.Progress.{progress_at, IsPaid, IsAtCollect, HasCome}
 use Rattle.locked_heap.specs.Recorded.{Recorded, MakesCall}
 use Rattle.locked_heap.specs.Told.{waits_told}
-use Rattle.locked_heap.proofs.Coming.{come_next, come_left, all_come}
-use Rattle.locked_heap.proofs.FindsOn.{finds_on}
+use Rattle.locked_heap.proofs.Coming.{IsFresh, fresh_unless, come_next, come_left, all_come}
+use Rattle.locked_heap.proofs.FindsOn.{FindsOn, finds_on}
 use Rattle.locked_heap.proofs.GivenRuns.{run_stands, seats_are, run_call}
 use Rattle.locked_heap.proofs.TellsNone.{none_called, one_called}
 
@@ -67,9 +69,23 @@ module _ (runs : EveryRunKeeps) (given : Given) (recorded : Recorded) (seats : L
         },
       )
 
+  -- so may an inner call of its collect
+  pub can_look : (progress_at seats number).gone ≡ false → (inner : Inner) → MayMake recorded.machine.heap number (seat_at recorded.machine.state number).looks inner → Can recorded.machine.heap recorded.machine.state (BeginsInner number inner)
+  can_look there inner makes = (here, record { idle = run.led.all_idle number here; present = (all.each number below).leaves ∙ there; makes = makes })
+
   -- so may its leave
   pub can_leave : (progress_at seats number).gone ≡ false → Can recorded.machine.heap recorded.machine.state (Begins number commands.Leave)
   can_leave there = (here, record { idle = run.led.all_idle number here; present = (all.each number below).leaves ∙ there; served = tt; in_range = tt; numbered = tt })
+
+some_same : (one two : Command) → Some one ≡ Some two → one ≡ two
+some_same one two is = cc is
+
+-- a call of a seat that is in no collect leaves it in none
+fresh_on : (given : Given) (told : List Entry) (number : ℕ) (seat now : Seat) (progress next : Progress) → HasCome given told number seat progress → FindsOn seat now → (IsAtCollect given number progress → ⊥)
+    → next.target ≡ progress.target → IsFresh now next
+fresh_on given told number seat now progress next come finds not is =
+    let fresh = fresh_unless given told number seat progress come not in
+    record { target = is ∙ fresh.target; first = finds.fresh fresh.first }
 
 module _ (runs : EveryRunKeeps) (given : Given) (old new : Recorded) (seats : List Progress) (number : ℕ) (command : Command) (reply : Reply) (run : IsRunFrom given old)
     (all : AllHaveCome given old.history old.machine.state seats) (below : number < given.heap.seats) (makes : MakesCall old new number command reply) where
@@ -91,7 +107,8 @@ module _ (runs : EveryRunKeeps) (given : Given) (old new : Recorded) (seats : Li
       (λ other apart. none_called other number makes.call.before command reply apart makes.call.beside)
       (come_next given old.history new.history number seat now (progress_at seats number) come (makes.call.before ++ Said number command reply ∷ []) makes.noted command 0 next is_next.next is_next.there
       (one_called number makes.call.before command reply once makes.call.beside) (makes.counts.present_stays of_script.1) makes.counts.made_more makes.counts.sets_more (ap (λ (p : Progress). p.place) is)
-      (ap (λ (p : Progress). p.gone) is) paid (omega (arith, ap (λ (p : Progress). p.paid) is, come.grown, finds)))
+      (ap (λ (p : Progress). p.gone) is) paid (omega (arith, ap (λ (p : Progress). p.paid) is, come.grown, finds.finds))
+      (fresh_on given old.history number seat now (progress_at seats number) next come finds (λ at_collect. once (some_same command commands.Collect (sym is_next.next ∙ at_collect.next))) (ap (λ (p : Progress). p.target) is)))
 
 -- a leave is told
 leave_said : (number : ℕ) (told before : List Entry) (reply : Reply) → has_left number (told ++ (before ++ Said number commands.Leave reply ∷ [])) ≡ true
@@ -113,10 +130,13 @@ pub left_on : (runs : EveryRunKeeps) (given : Given) (old new : Recorded) (seats
 left_on runs given old new seats number reply next run all below makes there through is =
     let heap = old.machine.heap in
     let added : List Entry = makes.call.before ++ Said number commands.Leave reply ∷ [] in
+    let finds = finds_on heap old.machine.state new.machine.state number commands.Leave reply makes.call in
     let told = left_told runs given new number (run_call given old new run number commands.Leave reply makes) below in
     let left : (seat_at new.machine.state number).left ≡ true = told ∙ ap (has_left number) makes.noted ∙ leave_said number old.history makes.call.before reply in
     all_come given old.history new.history old.machine.state new.machine.state seats number all below next added (after_call heap old.machine.state new.machine.state number commands.Leave reply makes.call) makes.noted
     (λ other apart. none_called other number makes.call.before commands.Leave reply apart makes.call.beside)
     (come_left given old.history new.history number (seat_at old.machine.state number) (seat_at new.machine.state number) (progress_at seats number) (all.each number below) added makes.noted next through there
     (one_called number makes.call.before commands.Leave reply (λ e. cc e) makes.call.beside) left (ap (λ (p : Progress). p.place) is) (ap (λ (p : Progress). p.gone) is) (ap (λ (p : Progress). p.paid) is)
-    (finds_on heap old.machine.state new.machine.state number commands.Leave reply makes.call))
+    finds.finds
+    (fresh_on given old.history number (seat_at old.machine.state number) (seat_at new.machine.state number) (progress_at seats number) next (all.each number below) finds
+    (λ at_collect. let within = slice_get_within (script_of given number) (progress_at seats number).place commands.Collect at_collect.next in absurd (omega (arith, within, through))) (ap (λ (p : Progress). p.target) is)))

@@ -1,31 +1,68 @@
 -- How far the seats have come after a call, an inner call or a turn.
 use Rattle.std.proofs.Common.{◌≡◌, ◌≢◌, ℕ, ◌+◌, ◌-◌, ◌*◌, ◌^◌, ◌<◌, ◌≤◌, ◌⊎◌, true, false, List, [], ◌∷◌, ◌++◌, length, take, Some, inl, inr, refl, sym, ap, subst, ◌∙◌, arith}
-use Rattle.std.specs.Prelude.{slice_set, slice_get, slice_index_or}
+use Rattle.std.specs.Prelude.{slice_set, slice_get, slice_index_or, Option, None}
 use Rattle.std.proofs.lemmas.Bool.Decides.{eqb_tells}
 use Rattle.std.proofs.lemmas.List.{append-nil, take_more, get_or-set_same, get_or-set_other, length-set}
 use Rattle.std.proofs.lemmas.Option.{slice_get_within, get_or_from_slice_get, slice_get_read}
 use Rattle.heap_model.specs.declared.command.Command.{Command}
-use Rattle.heap_model.specs.declared.command.Command.TheVariants.{Leave}
+use Rattle.heap_model.specs.declared.command.Command.TheVariants.{Leave, Collect}
 use Rattle.heap_model.specs.declared.entry.Entry.{Entry}
 use Rattle.core_machine.specs.machine.Machine.{State, seat_at}
+use Rattle.heap_model.specs.PhasePlan.{cycle_phases}
+use Rattle.core_machine.specs.seat.Looks.{FirstUpTo}
 use Rattle.core_machine.specs.seat.Seat.{Seat}
 use Rattle.core_rule.proofs.parties.OneSeat.{SameBut}
 use Rattle.locked_heap.specs.declared.progress.Progress.{Progress}
 use Rattle.locked_heap.specs.Given.{Given, script_of}
 use Rattle.locked_heap.specs.Locked.{AllHaveCome}
-use Rattle.locked_heap.specs.Progress.{at_begin, progress_at, leave_told, IsPaid, HasCome}
+use Rattle.locked_heap.specs.Progress.{at_begin, progress_at, leave_told, IsPaid, IsTargetOf, IsAtCollect, HasCome}
 use Rattle.locked_heap.specs.Told.{commands_told, waits_told}
 use Rattle.locked_heap.proofs.TellsNone.{TellsNone, TellsOne, commands_more, waits_more}
 
--- the seat is where it was with its objects and sets, and has found another one behind as often at least
+-- the seat is where it was with its objects and sets, has found another one behind as often at least, and looked first where it did
 pub record StaysOn (seat now : Seat) : Type 0 where
   pub left_same : now.left ≡ seat.left
   pub made_same : now.made ≡ seat.made
   pub sets_same : now.sets ≡ seat.sets
   pub finds : seat.looks.waits ≤ now.looks.waits
+  pub first_same : now.looks.first ≡ seat.looks.first
 
 pub same_stays : (seat now : Seat) → now ≡ seat → StaysOn seat now
-same_stays seat now is = subst (StaysOn seat) (sym is) (record { left_same = refl; made_same = refl; sets_same = refl; finds = omega arith })
+same_stays seat now is = subst (StaysOn seat) (sym is) (record { left_same = refl; made_same = refl; sets_same = refl; finds = omega arith; first_same = refl })
+
+-- a seat whose next command is no collect has no target, and made no look
+some_or_none : (o : Option ℕ) → (o ≢ None → ⊥) → o ≡ None
+some_or_none None not = refl
+some_or_none (Some n) not = absurd (not (λ e. cc e))
+
+pub none_looked : (first target : Option ℕ) → target ≡ None → IsTargetOf first target → first ≡ None
+none_looked None target none fits = refl
+none_looked (Some p) None none fits = absurd fits
+none_looked (Some p) (Some t) none fits = absurd (cc none)
+
+-- a target begins at the first look or behind it
+pub looked_up_to : (first o : Option ℕ) (target : ℕ) → o ≡ Some target → IsTargetOf first o → FirstUpTo first (cycle_phases * target)
+looked_up_to None (Some t) target is fits = absurd fits
+looked_up_to None None target is fits = absurd (cc is)
+looked_up_to (Some p) None target is fits = absurd fits
+looked_up_to (Some p) (Some t) target is fits = let same : t ≡ target = cc is in omega (arith, fits.0, same)
+
+-- neither is there outside a collect
+pub record IsFresh (seat : Seat) (progress : Progress) : Type 0 where
+  pub target : progress.target ≡ None
+  pub first : seat.looks.first ≡ None
+
+pub fresh_unless : (given : Given) (told : List Entry) (number : ℕ) (seat : Seat) (progress : Progress) → HasCome given told number seat progress → (IsAtCollect given number progress → ⊥) → IsFresh seat progress
+fresh_unless given told number seat progress come not =
+    let none = some_or_none progress.target (λ some. not (come.collects some)) in
+    record { target = none; first = none_looked seat.looks.first progress.target none come.target }
+
+-- where there is none it fits
+pub none_fits : (first target : Option ℕ) → first ≡ None → target ≡ None → IsTargetOf first target
+none_fits first target none none_too = rw (none, none_too) tt
+
+pub none_begun : (P : Type 0) (target : Option ℕ) → target ≡ None → target ≢ None → P
+none_begun P target none some = absurd (some none)
 
 -- a paid reply stays so, with as many finds or more
 pub paid_still : (patience replies finds more : ℕ) → finds ≤ more → IsPaid patience replies finds → IsPaid patience replies more
@@ -50,6 +87,8 @@ module _ (given : Given) (told after : List Entry) (number : ℕ) (seat now : Se
     few_sets = λ there. omega (arith, stays.sets_same, come.few_sets there);
     paid = subst (λ (n : ℕ). IsPaid given.patience n progress.paid) (sym (ap (waits_told number) grown ∙ omega (arith, waits_more number told added, none.waits))) come.paid;
     grown = omega (arith, stays.finds, come.grown);
+    target = subst (λ (o : Option ℕ). IsTargetOf o progress.target) (sym stays.first_same) come.target;
+    collects = come.collects;
   }
 
   -- a seat that is there has told no leave
@@ -59,8 +98,8 @@ module _ (given : Given) (told after : List Entry) (number : ℕ) (seat now : Se
   -- it has answered its next command
   pub come_next : (command : Command) (waits : ℕ) (next : Progress) → slice_get (script_of given number) progress.place ≡ Some command → progress.gone ≡ false → TellsOne number command waits added
       → now.left ≡ seat.left → now.made ≤ seat.made + 1 → now.sets ≤ seat.sets + 1 → next.place ≡ progress.place + 1 → next.gone ≡ progress.gone
-      → IsPaid given.patience (waits_told number told + waits) next.paid → next.paid ≤ now.looks.waits → HasCome given after number now next
-  come_next command waits next here there one left made sets place gone paid finds =
+      → IsPaid given.patience (waits_told number told + waits) next.paid → next.paid ≤ now.looks.waits → IsFresh now next → HasCome given after number now next
+  come_next command waits next here there one left made sets place gone paid finds fresh =
       let script : List Command = script_of given number in
       let within : progress.place < length script = slice_get_within script progress.place command here in
       let further : take next.place script ≡ take progress.place script ++ command ∷ []
@@ -75,12 +114,14 @@ module _ (given : Given) (told after : List Entry) (number : ℕ) (seat now : Se
         few_sets = λ still. omega (arith, sets, come.few_sets there, place);
         paid = subst (λ (n : ℕ). IsPaid given.patience n next.paid) (sym (ap (waits_told number) grown ∙ omega (arith, waits_more number told added, one.counted))) paid;
         grown = finds;
+        target = none_fits now.looks.first next.target fresh.first fresh.target;
+        collects = none_begun (IsAtCollect given number next) next.target fresh.target;
       }
 
   -- it has left
   pub come_left : (next : Progress) → progress.place ≡ length (script_of given number) → progress.gone ≡ false → TellsOne number Leave 0 added → now.left ≡ true
-      → next.place ≡ progress.place → next.gone ≡ true → next.paid ≡ progress.paid → seat.looks.waits ≤ now.looks.waits → HasCome given after number now next
-  come_left next at_end there one left place gone paid finds =
+      → next.place ≡ progress.place → next.gone ≡ true → next.paid ≡ progress.paid → seat.looks.waits ≤ now.looks.waits → IsFresh now next → HasCome given after number now next
+  come_left next at_end there one left place gone paid finds fresh =
       let script : List Command = script_of given number in
       record {
         within = omega (arith, place, come.within);
@@ -93,6 +134,27 @@ module _ (given : Given) (told after : List Entry) (number : ℕ) (seat now : Se
         paid = subst (λ (n : ℕ). IsPaid given.patience n next.paid) (sym (ap (waits_told number) grown ∙ omega (arith, waits_more number told added, one.counted)))
             (subst (λ (n : ℕ). IsPaid given.patience (waits_told number told) n) (sym paid) come.paid);
         grown = omega (arith, paid, come.grown, finds);
+        target = none_fits now.looks.first next.target fresh.first fresh.target;
+        collects = none_begun (IsAtCollect given number next) next.target fresh.target;
+      }
+
+  -- it has begun a collect
+  pub come_begun : (next : Progress) → TellsNone number added → now.left ≡ seat.left → now.made ≡ seat.made → now.sets ≡ seat.sets → next.place ≡ progress.place → next.gone ≡ progress.gone
+      → next.paid ≡ seat.looks.waits → seat.looks.waits ≤ now.looks.waits → IsTargetOf now.looks.first next.target → IsAtCollect given number next → HasCome given after number now next
+  come_begun next none left made sets place gone paid finds target collects =
+      record {
+        within = omega (arith, place, come.within);
+        commands = ap (commands_told number) grown ∙ commands_more number told added ∙ ap (λ (l : List Command). commands_told number told ++ l) none.commands ∙ append-nil (commands_told number told) ∙ come.commands
+            ∙ ap (λ (n : ℕ). take n (script_of given number) ++ leave_told progress.gone) (sym place) ∙ ap (λ b. take next.place (script_of given number) ++ leave_told b) (sym gone);
+        through = λ gone_now. place ∙ come.through (sym gone ∙ gone_now);
+        leaves = left ∙ come.leaves ∙ sym gone;
+        few_objects = λ there. omega (arith, made, place, come.few_objects (sym gone ∙ there));
+        few_sets = λ there. omega (arith, sets, place, come.few_sets (sym gone ∙ there));
+        paid = subst (λ (n : ℕ). IsPaid given.patience n next.paid) (sym (ap (waits_told number) grown ∙ omega (arith, waits_more number told added, none.waits)))
+            (paid_still given.patience (waits_told number told) progress.paid next.paid (omega (arith, paid, come.grown)) come.paid);
+        grown = omega (arith, paid, finds);
+        target = target;
+        collects = λ some. collects;
       }
 
 module _ (given : Given) (told after : List Entry) (old new : State) (seats : List Progress) (number : ℕ) (all : AllHaveCome given told old seats) (below : number < given.heap.seats) where
@@ -129,33 +191,6 @@ all_turned given told added old new seats all same none = record {
   seated = all.seated;
   each = λ other under. come_still given told (told ++ added) other (seat_at old other) (seat_at new other) (progress_at seats other) (all.each other under) added refl (none other)
       (same_stays (seat_at old other) (seat_at new other) (ap (λ (l : List Seat). seat_at (record old { seats = l }) other) same));
-}
-
--- it has begun a collect
-come_begun : (given : Given) (told : List Entry) (number : ℕ) (seat : Seat) (progress next : Progress) → HasCome given told number seat progress → next.place ≡ progress.place → next.gone ≡ progress.gone
-    → next.paid ≡ seat.looks.waits → HasCome given told number seat next
-come_begun given told number seat progress next come place gone paid = record {
-  within = omega (arith, place, come.within);
-  commands = come.commands ∙ ap (λ (n : ℕ). take n (script_of given number) ++ leave_told progress.gone) (sym place) ∙ ap (λ b. take next.place (script_of given number) ++ leave_told b) (sym gone);
-  through = λ left. place ∙ come.through (sym gone ∙ left);
-  leaves = come.leaves ∙ sym gone;
-  few_objects = λ there. omega (arith, place, come.few_objects (sym gone ∙ there));
-  few_sets = λ there. omega (arith, place, come.few_sets (sym gone ∙ there));
-  paid = paid_still given.patience (waits_told number told) progress.paid next.paid (omega (arith, paid, come.grown)) come.paid;
-  grown = omega (arith, paid);
-}
-
--- and all others are where they were
-pub all_begun : (given : Given) (told : List Entry) (state : State) (seats : List Progress) (number : ℕ) (next : Progress) → AllHaveCome given told state seats → number < given.heap.seats
-    → next.place ≡ (progress_at seats number).place → next.gone ≡ (progress_at seats number).gone → next.paid ≡ (seat_at state number).looks.waits → AllHaveCome given told state (slice_set seats number next)
-all_begun given told state seats number next all below place gone paid = record {
-  seated = length-set seats number next ∙ all.seated;
-  each = λ other under. elim (eqb_tells other number) as (λ _. HasCome given told other (seat_at state other) (progress_at (slice_set seats number next) other)) [
-    | inl same ↦ subst (λ (n : ℕ). HasCome given told n (seat_at state n) (progress_at (slice_set seats number next) n)) (sym same.1)
-        (subst (HasCome given told number (seat_at state number)) (sym (get_or-set_same seats number next at_begin (omega (arith, below, all.seated))))
-        (come_begun given told number (seat_at state number) (progress_at seats number) next (all.each number below) place gone paid))
-    | inr apart ↦ subst (HasCome given told other (seat_at state other)) (sym (get_or-set_other seats number other next at_begin apart.1)) (all.each other under)
-  ];
 }
 
 -- a progress that was read is the seat's

@@ -1,13 +1,12 @@
 -- How often a seat has found another one behind never falls.
 use Rattle.std.specs.Prelude.{if◌then◌else◌, nat_lt}
-use Rattle.std.proofs.Common.{◌≡◌, ℕ, zero, suc, ◌+◌, ◌^◌, ◌<◌, ◌≤◌, ◌==◌, Bool, true, false, Option, Some, None, length, replicate, refl, sym, ap, subst, arith}
+use Rattle.std.proofs.Common.{◌≡◌, ℕ, zero, suc, ◌+◌, ◌^◌, ◌<◌, ◌≤◌, ◌==◌, Bool, true, false, Option, Some, None, length, replicate, refl, sym, ap, subst, ◌∙◌, arith}
 use Rattle.std.proofs.lemmas.List.{get_or-set_same, length-set}
 use Rattle.heap_model.specs.declared.command.Command.{Command}
 use Rattle.heap_model.specs.declared.command.Command.TheVariants as commands
 use Rattle.heap_model.specs.declared.heap.Heap.{Heap}
 use Rattle.heap_model.specs.declared.reply.Reply.{Reply}
 use Rattle.core_machine.specs.declared.place.Access.TheVariants.{LoadingMeta, Walking, Locating, Indexing, Getting, Naming, LoadingOld, ShadingOld, ShadingNew, Swapping}
-use Rattle.core_machine.specs.declared.place.Collecting.TheVariants.{Looking, Asking, Comparing, Noting}
 use Rattle.core_machine.specs.declared.place.Leaving.TheVariants.{Emptying, Parting}
 use Rattle.core_machine.specs.declared.place.Making.TheVariants.{Granting, Withdrawing, Gathering, Returning, Refusing, Placing, Listing, Storing, Bearing}
 use Rattle.core_machine.specs.declared.place.Place.{Place}
@@ -23,21 +22,36 @@ use Rattle.core_machine.specs.declared.seat.looks.FoundBehind.{FoundBehind}
 use Rattle.core_machine.specs.declared.seat.looks.Looks.{Looks}
 use Rattle.core_machine.specs.seat.Looks.{found_behind}
 use Rattle.core_machine.specs.seat.Seat.{Seat, with_seen, after_call, absent_seat}
+use Rattle.core_rule.proofs.looks.Growth.{IsElsewhere}
 use Rattle.core_rule.proofs.looks.Ways.{StaysFound, stays_claim, stays_budget, stays_walk, stays_length, begin_stays}
 
--- the seat has found as often at least
-abbrev pub FindsOn : Seat → Seat → Type 0
-FindsOn seat now = seat.looks.waits ≤ now.looks.waits
+-- the seat stands in no inner call, has found another one behind as often at least, and has no first look where it had none
+pub record FindsOn (seat now : Seat) : Type 0 where
+  pub elsewhere : IsElsewhere now.place
+  pub finds : seat.looks.waits ≤ now.looks.waits
+  pub fresh : seat.looks.first ≡ None → now.looks.first ≡ None
+
+on_then : (one two three : Seat) → FindsOn one two → FindsOn two three → FindsOn one three
+on_then one two three first more = record { elsewhere = more.elsewhere; finds = omega (arith, first.finds, more.finds); fresh = λ none. more.fresh (first.fresh none) }
 
 stays_on : (seat now : Seat) → StaysFound seat now → FindsOn seat now
-stays_on seat now stays = omega (arith, ap (λ (l : Looks). l.waits) stays.looks)
+stays_on seat now stays = record {
+  elsewhere = stays.elsewhere;
+  finds = omega (arith, ap (λ (l : Looks). l.waits) stays.looks);
+  fresh = λ none. ap (λ (l : Looks). l.first) stays.looks ∙ none;
+}
 
-same_on : (seat : Seat) → FindsOn seat seat
-same_on seat = omega arith
+-- it goes on
+same_on : (seat now : Seat) → IsElsewhere now.place → now.looks.waits ≡ seat.looks.waits → now.looks.first ≡ seat.looks.first → FindsOn seat now
+same_on seat now elsewhere waits first = record { elsewhere = elsewhere; finds = omega (arith, waits); fresh = λ none. first ∙ none }
+
+-- or has told its reply
+over_on : (seat now : Seat) → IsElsewhere now.place → now.looks.waits ≡ seat.looks.waits → now.looks.first ≡ None → FindsOn seat now
+over_on seat now elsewhere waits first = record { elsewhere = elsewhere; finds = omega (arith, waits); fresh = λ none. first }
 
 -- so it is after a move
 abbrev pub MoveFindsOn : Seat → Option Move → Type 0
-MoveFindsOn seat None = (found : ℕ) → FindsOn seat seat
+MoveFindsOn seat None = Unit {0}
 MoveFindsOn seat (Some move) = (found : ℕ) → FindsOn seat (move.told found)
 
 one_more_on : (b : Bool) (n : ℕ) → n ≤ (if b then n + 1 else n)
@@ -49,90 +63,88 @@ pub compared_on : (b : Bool) (found : FoundBehind) (looks : Looks) → looks.wai
 compared_on true found looks = one_more_on (nat_lt (looks.waits + 1) (2 ^ 64)) looks.waits
 compared_on false found looks = omega arith
 
-module _ (heap : Heap) (number : ℕ) (seat : Seat) where
+module _ (heap : Heap) (number : ℕ) (seat : Seat) (here : IsElsewhere seat.place) where
   bears : (last : Bool) → MoveFindsOn seat (Some (if last then last_birth_move number seat else birth_move seat))
-  bears true found = same_on seat
-  bears false found = same_on seat
+  bears true = λ found. over_on seat _ tt refl refl
+  bears false = λ found. same_on seat _ here refl refl
 
   metas : (found : ℕ) (reply : Option Reply) → FindsOn seat (after_meta seat found reply)
   metas found None = stays_on seat _ (stays_length seat found (array_length_of found))
-  metas found (Some reply) = same_on seat
+  metas found (Some reply) = over_on seat _ tt refl refl
 
   gets : (found : ℕ) (head : Option ℕ) → FindsOn seat (after_get seat found head)
-  gets found None = same_on seat
-  gets found (Some head) = same_on seat
+  gets found None = over_on seat _ tt refl refl
+  gets found (Some head) = same_on seat _ tt refl refl
 
   olds : (found : ℕ) (head : Option ℕ) → FindsOn seat (after_old_load (record seat { loaded = found }) head)
-  olds found None = same_on seat
-  olds found (Some head) = same_on seat
+  olds found None = same_on seat _ tt refl refl
+  olds found (Some head) = same_on seat _ tt refl refl
 
   over : (command : Command) (answered : ℕ) → FindsOn seat (polling_over command (record seat { answered = answered }))
-  over commands.Collect answered = same_on seat
-  over _ answered = same_on seat
+  over commands.Collect answered = same_on seat _ tt refl refl
+  over _ answered = over_on seat _ tt refl refl
 
   ends : (command : Command) (p : ℕ) → FindsOn seat (polling_over command (with_seen p seat))
-  ends commands.Collect p = same_on seat
-  ends _ p = same_on seat
+  ends commands.Collect p = same_on seat _ tt refl refl
+  ends _ p = over_on seat _ tt refl refl
 
   polls : (b : Bool) (p : ℕ) → FindsOn seat (if b then polling_over seat.command (with_seen p seat) else answer_next (record (with_seen p seat) { asked = p }))
   polls true p = ends seat.command p
-  polls false p = same_on seat
+  polls false p = same_on seat _ tt refl refl
 
   refuses : (command : Command) (found : ℕ) → FindsOn seat (after_call (record seat { looks = refusal_looks command found seat.looks }))
-  refuses (commands.Array d cells) found = same_on seat
-  refuses _ found = same_on seat
+  refuses (commands.Array d cells) found = over_on seat _ tt refl refl
+  refuses _ found = over_on seat _ tt refl refl
 
-  moves_on : (place : Place) → MoveFindsOn seat (move_at heap number seat place)
-  moves_on places.Idle = λ found. same_on seat
-  moves_on (places.Making Granting) = λ found. stays_on seat _ (stays_budget heap seat found)
-  moves_on (places.Making Withdrawing) = λ found. same_on seat
-  moves_on (places.Making Gathering) = λ found. stays_on seat _ (stays_claim heap seat found)
-  moves_on (places.Making Returning) = λ found. same_on seat
-  moves_on (places.Making Refusing) = λ found. refuses seat.command found
-  moves_on (places.Making Placing) = λ found. same_on seat
-  moves_on (places.Making Listing) = λ found. same_on seat
-  moves_on (places.Making Storing) = λ found. same_on seat
-  moves_on (places.Making Bearing) = λ found. bears (is_last_birth seat) found
-  moves_on places.Local = λ found. same_on seat
-  moves_on (places.Access LoadingMeta) = λ found. metas found (meta_reply_of seat.command found)
-  moves_on (places.Access Walking) = λ found. stays_on seat _ (stays_walk seat found)
-  moves_on (places.Access Locating) = λ found. same_on seat
-  moves_on (places.Access Indexing) = λ found. same_on seat
-  moves_on (places.Access Getting) = λ found. gets found (head_of found)
-  moves_on (places.Access Naming) = λ found. same_on seat
-  moves_on (places.Access LoadingOld) = λ found. olds found (head_of found)
-  moves_on (places.Access ShadingOld) = λ found. same_on seat
-  moves_on (places.Access ShadingNew) = λ found. same_on seat
-  moves_on (places.Access Swapping) = λ found. same_on seat
-  moves_on (places.Polling polling.Asking) = λ found. polls (found == seat.answered) found
-  moves_on (places.Polling polling.Shading) = λ found. same_on seat
-  moves_on (places.Polling polling.Answering) = λ found. over seat.command seat.asked
-  moves_on (places.Collecting Looking) = λ found. same_on seat
-  moves_on (places.Collecting (Asking other)) = λ found. same_on seat
-  moves_on (places.Collecting (Comparing other p)) = λ found. compared_on (nat_lt found p) (record { seat = other; answered = found; phase = p }) seat.looks
-  moves_on (places.Collecting (Noting reply)) = λ found. same_on seat
-  moves_on (places.Leaving Emptying) = λ found. same_on seat
-  moves_on (places.Leaving Parting) = λ found. same_on seat
+  moves_on : (place : Place) → IsElsewhere place → MoveFindsOn seat (move_at heap number seat place)
+  moves_on places.Idle there = tt
+  moves_on (places.Making Granting) there = λ found. stays_on seat _ (stays_budget heap seat found)
+  moves_on (places.Making Withdrawing) there = λ found. over_on seat _ tt refl refl
+  moves_on (places.Making Gathering) there = λ found. stays_on seat _ (stays_claim heap seat found)
+  moves_on (places.Making Returning) there = λ found. same_on seat _ tt refl refl
+  moves_on (places.Making Refusing) there = λ found. refuses seat.command found
+  moves_on (places.Making Placing) there = λ found. same_on seat _ tt refl refl
+  moves_on (places.Making Listing) there = λ found. same_on seat _ tt refl refl
+  moves_on (places.Making Storing) there = λ found. same_on seat _ tt refl refl
+  moves_on (places.Making Bearing) there = bears (is_last_birth seat)
+  moves_on places.Local there = λ found. over_on seat _ tt refl refl
+  moves_on (places.Access LoadingMeta) there = λ found. metas found (meta_reply_of seat.command found)
+  moves_on (places.Access Walking) there = λ found. stays_on seat _ (stays_walk seat found)
+  moves_on (places.Access Locating) there = λ found. same_on seat _ tt refl refl
+  moves_on (places.Access Indexing) there = λ found. same_on seat _ tt refl refl
+  moves_on (places.Access Getting) there = λ found. gets found (head_of found)
+  moves_on (places.Access Naming) there = λ found. over_on seat _ tt refl refl
+  moves_on (places.Access LoadingOld) there = λ found. olds found (head_of found)
+  moves_on (places.Access ShadingOld) there = λ found. same_on seat _ tt refl refl
+  moves_on (places.Access ShadingNew) there = λ found. same_on seat _ tt refl refl
+  moves_on (places.Access Swapping) there = λ found. over_on seat _ tt refl refl
+  moves_on (places.Polling polling.Asking) there = λ found. polls (found == seat.answered) found
+  moves_on (places.Polling polling.Shading) there = λ found. same_on seat _ tt refl refl
+  moves_on (places.Polling polling.Answering) there = λ found. over seat.command seat.asked
+  moves_on (places.Collecting place) there = absurd there
+  moves_on (places.Leaving Emptying) there = λ found. same_on seat _ tt refl refl
+  moves_on (places.Leaving Parting) there = λ found. over_on seat _ tt refl refl
 
 -- by a due move
-due_on : (heap : Heap) (state : State) (number : ℕ) → number < length state.seats → (move : Option Move) → MoveFindsOn (seat_at state number) move
+due_on : (heap : Heap) (state : State) (number : ℕ) → number < length state.seats → IsElsewhere (seat_at state number).place → (move : Option Move) → MoveFindsOn (seat_at state number) move
     → FindsOn (seat_at state number) (seat_at (state_after_due heap state number move) number)
-due_on heap state number within None on = same_on (seat_at state number)
-due_on heap state number within (Some move) on =
-    subst (λ (s : Seat). FindsOn (seat_at state number) s) (sym (get_or-set_same state.seats number _ absent_seat within)) (on (found_by heap state move.step))
+due_on heap state number within here None on = same_on (seat_at state number) (seat_at state number) here refl refl
+due_on heap state number within here (Some move) on =
+    subst (λ (s : Seat). FindsOn (seat_at state number) s) (sym (get_or-set_same state.seats number _ absent_seat within))
+    (let told = on (found_by heap state move.step) in record { elsewhere = told.elsewhere; finds = told.finds; fresh = told.fresh })
 
 due_seats : (heap : Heap) (state : State) (number : ℕ) (move : Option Move) → length (state_after_due heap state number move).seats ≡ length state.seats
 due_seats heap state number None = refl
 due_seats heap state number (Some move) = length-set state.seats number _
 
 -- by steps
-steps_on : (heap : Heap) (number steps : ℕ) (state : State) → number < length state.seats → FindsOn (seat_at state number) (seat_at (state_after_all heap state (replicate steps (Steps number))) number)
-steps_on heap number zero state within = same_on (seat_at state number)
-steps_on heap number (suc steps) state within =
+steps_on : (heap : Heap) (number steps : ℕ) (state : State) → number < length state.seats → IsElsewhere (seat_at state number).place
+    → FindsOn (seat_at state number) (seat_at (state_after_all heap state (replicate steps (Steps number))) number)
+steps_on heap number zero state within here = same_on (seat_at state number) (seat_at state number) here refl refl
+steps_on heap number (suc steps) state within here =
     let seat : Seat = seat_at state number in
-    let one = due_on heap state number within (move_at heap number seat seat.place) (moves_on heap number seat seat.place) in
-    let rest = steps_on heap number steps (state_after heap state (Steps number)) (omega (arith, within, due_seats heap state number (move_at heap number seat seat.place))) in
-    omega (arith, one, rest)
+    let one = due_on heap state number within here (move_at heap number seat seat.place) (moves_on heap number seat here seat.place here) in
+    on_then seat _ _ one (steps_on heap number steps (state_after heap state (Steps number)) (omega (arith, within, due_seats heap state number (move_at heap number seat seat.place))) one.elsewhere)
 
 -- by a call
 pub finds_on : (heap : Heap) (old new : State) (number : ℕ) (command : Command) (reply : Reply) → PlaysCall heap old new number command reply → FindsOn (seat_at old number) (seat_at new number)
@@ -142,5 +154,5 @@ finds_on heap old new number command reply call =
     let begun : State = state_after heap old (Begins number command) in
     let is : seat_at begun number ≡ after_begin heap seat command = get_or-set_same old.seats number _ absent_seat within in
     let first : FindsOn seat (seat_at begun number) = subst (λ (s : Seat). FindsOn seat s) (sym is) (stays_on seat _ (begin_stays heap seat command call.can.0.1.idle)) in
-    let rest = steps_on heap number call.steps begun (omega (arith, within, length-set old.seats number (after_begin heap seat command))) in
-    subst (λ (t : State). FindsOn seat (seat_at t number)) (sym call.ends) (omega (arith, first, rest))
+    let rest = steps_on heap number call.steps begun (omega (arith, within, length-set old.seats number (after_begin heap seat command))) first.elsewhere in
+    subst (λ (t : State). FindsOn seat (seat_at t number)) (sym call.ends) (on_then seat _ _ first rest)

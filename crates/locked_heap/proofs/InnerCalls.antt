@@ -1,6 +1,6 @@
 -- What the seats have come to after an inner call of a collect.
-use Rattle.std.specs.Prelude.{slice_set, nat_lt}
-use Rattle.std.proofs.Common.{◌≡◌, ℕ, ◌+◌, List, sym, subst, refl, arith}
+use Rattle.std.specs.Prelude.{slice_set, slice_get, nat_lt, if◌then◌else◌, Bool, true, false, Option, Some, None}
+use Rattle.std.proofs.Common.{◌≡◌, ◌≢◌, ℕ, ◌+◌, ◌*◌, ◌<◌, ◌≤◌, List, [], sym, ap, subst, refl, ◌∙◌, arith}
 use Rattle.heap_model.specs.declared.calls.collect.CollectReply.{CollectReply}
 use Rattle.heap_model.specs.declared.calls.collect.CollectReply.TheVariants as notes
 use Rattle.heap_model.specs.declared.calls.collect.Inner.{Inner}
@@ -11,26 +11,43 @@ use Rattle.heap_model.specs.declared.heap.Heap.{Heap}
 use Rattle.core_machine.specs.declared.table.address.Address.TheVariants as addresses
 use Rattle.core_machine.specs.machine.InnerCalls.{inner_entries, seat_after_inner}
 use Rattle.core_machine.specs.machine.Machine.{seat_at}
-use Rattle.core_machine.specs.seat.Looks.{seen_phase}
+use Rattle.core_machine.specs.declared.seat.looks.FoundBehind.{FoundBehind}
+use Rattle.core_machine.specs.declared.seat.looks.Looks.{Looks}
+use Rattle.core_machine.specs.seat.Looks.{seen_phase, found_behind, first_of}
 use Rattle.core_machine.specs.seat.Seat.{Seat}
 use Rattle.core_machine.specs.table.Layout.{at}
 use Rattle.core_rule.proofs.parties.OneSeat.{after_inner}
 use Rattle.locked_heap.specs.declared.progress.Progress.{Progress}
-use Rattle.locked_heap.specs.Given.{Given}
-use Rattle.locked_heap.specs.Locked.{LockedValue, AllHaveCome, IsNext, IsQuiet, MayAnswer}
-use Rattle.locked_heap.specs.Progress.{progress_at, IsPaid, HasCome}
+use Rattle.locked_heap.specs.Given.{Given, script_of}
+use Rattle.heap_model.specs.PhasePlan.{cycle_phases}
+use Rattle.heap_model.specs.account.PhaseCounts.{phase}
+use Rattle.core_rule.specs.Laws.{StandsFor}
+use Rattle.core_rule.proofs.parties.Standing.{word_is}
+use Rattle.locked_heap.specs.Locked.{LockedValue, AllHaveCome, IsNext, IsCollecting, IsQuiet, MayAnswer}
+use Rattle.locked_heap.specs.Progress.{progress_at, IsPaid, IsTargetOf, HasCome}
 use Rattle.locked_heap.specs.Recorded.{Recorded, MakesInner}
 use Rattle.locked_heap.specs.Told.{waits_told}
-use Rattle.locked_heap.proofs.Coming.{StaysOn, paid_still, paid_more, come_next, all_come, all_stay}
+use Rattle.locked_heap.proofs.Coming.{StaysOn, IsFresh, paid_still, paid_more, come_begun, come_next, all_come, all_stay}
 use Rattle.locked_heap.proofs.FindsOn.{compared_on}
-use Rattle.locked_heap.proofs.TellsNone.{none_quiet, none_noted, one_noted, waits_of}
+use Rattle.locked_heap.proofs.TellsNone.{none_at_all, none_quiet, none_noted, one_noted, waits_of}
+
+-- a seat with a target has looked
+looked_some : (first target : Option ℕ) → target ≢ None → IsTargetOf first target → (found : ℕ) → first_of first found ≡ first
+looked_some None (Some t) some fits found = absurd fits
+looked_some None None some fits found = absurd (some refl)
+looked_some (Some p) target some fits found = refl
+
+-- a comparison leaves the first look
+compared_first : (b : Bool) (found : FoundBehind) (looks : Looks) → (if b then found_behind found looks else record looks { behind = None }).first ≡ looks.first
+compared_first true found looks = refl
+compared_first false found looks = refl
 
 -- the seat itself has only found something
-inner_on : (heap : Heap) (words : List ℕ) (number : ℕ) (seat : Seat) (inner : Inner) → StaysOn seat (seat_after_inner heap words number seat inner)
-inner_on heap words number seat inners.Look = record { left_same = refl; made_same = refl; sets_same = refl; finds = omega arith }
-inner_on heap words number seat inners.Answer = record { left_same = refl; made_same = refl; sets_same = refl; finds = omega arith }
-inner_on heap words number seat (inners.Note reply) = record { left_same = refl; made_same = refl; sets_same = refl; finds = omega arith }
-inner_on heap words number seat (inners.Behind other) =
+inner_on : (heap : Heap) (words : List ℕ) (number : ℕ) (seat : Seat) (inner : Inner) → IsQuiet inner → ((found : ℕ) → first_of seat.looks.first found ≡ seat.looks.first) → StaysOn seat (seat_after_inner heap words number seat inner)
+inner_on heap words number seat inners.Look quiet looked = record { left_same = refl; made_same = refl; sets_same = refl; finds = omega arith; first_same = looked (at heap words addresses.Phase) }
+inner_on heap words number seat inners.Answer quiet looked = record { left_same = refl; made_same = refl; sets_same = refl; finds = omega arith; first_same = refl }
+inner_on heap words number seat (inners.Note reply) quiet looked = absurd quiet
+inner_on heap words number seat (inners.Behind other) quiet looked =
     let p = at heap words addresses.Phase in
     let word = at heap words (addresses.Answer other) in
     record {
@@ -38,37 +55,60 @@ inner_on heap words number seat (inners.Behind other) =
       made_same = refl;
       sets_same = refl;
       finds = compared_on (nat_lt word p) (record { seat = other; answered = word; phase = p }) (seen_phase p seat.looks);
+      first_same = compared_first (nat_lt word p) (record { seat = other; answered = word; phase = p }) (seen_phase p seat.looks);
     }
 
 module _ (given : Given) (old new : Recorded) (seats : List Progress) (number : ℕ) (all : AllHaveCome given old.history old.machine.state seats) where
-  own_stays : (inner : Inner) → MakesInner old new number inner → StaysOn (seat_at old.machine.state number) (seat_at new.machine.state number)
-  own_stays inner makes = subst (λ (s : Seat). StaysOn (seat_at old.machine.state number) s) (sym makes.plays.seat) (inner_on old.machine.heap old.machine.state.words number (seat_at old.machine.state number) inner)
-
   -- one that tells no reply leaves all as far as they were
-  pub quiet_on : (inner : Inner) → MakesInner old new number inner → IsQuiet inner → AllHaveCome given new.history new.machine.state seats
-  quiet_on inner makes quiet =
+  pub quiet_on : (inner : Inner) → MakesInner old new number inner → IsCollecting given seats number → IsQuiet inner → AllHaveCome given new.history new.machine.state seats
+  quiet_on inner makes collects quiet =
       let heap = old.machine.heap in
       let state = old.machine.state in
       all_stay given old.history new.history (inner_entries heap state.words number (seat_at state number).answered inner) state new.machine.state seats number all (after_inner heap state new.machine.state number inner makes.plays)
-      makes.noted (λ other. none_quiet heap state.words other number (seat_at state number).answered inner quiet) (own_stays inner makes)
+      makes.noted (λ other. none_quiet heap state.words other number (seat_at state number).answered inner quiet)
+      (subst (λ (s : Seat). StaysOn (seat_at state number) s) (sym makes.plays.seat)
+      (inner_on heap state.words number (seat_at state number) inner quiet (looked_some (seat_at state number).looks.first (progress_at seats number).target collects.begun (all.each number collects.next.within).target)))
+
+  -- its first look begins a collect
+  pub begun_on : (next : Progress) → MakesInner old new number inners.Look → IsNext given seats number Collect → IsFresh (seat_at old.machine.state number) (progress_at seats number)
+      → StandsFor old.machine.heap old.machine.state [] old.history → (target : ℕ) → phase old.history ≤ cycle_phases * target → cycle_phases * target < phase old.history + cycle_phases
+      → next.target ≡ Some target → next.place ≡ (progress_at seats number).place → next.gone ≡ (progress_at seats number).gone → next.paid ≡ (seat_at old.machine.state number).looks.waits
+      → AllHaveCome given new.history new.machine.state (slice_set seats number next)
+  begun_on next makes is_next fresh s target behind first is place gone paid =
+      let heap = old.machine.heap in
+      let state = old.machine.state in
+      let seat : Seat = seat_at state number in
+      let now : Seat = seat_at new.machine.state number in
+      let found = at heap state.words addresses.Phase in
+      let after : now ≡ seat_after_inner heap state.words number seat inners.Look = makes.plays.seat in
+      let word : found ≡ phase old.history = word_is heap state old.history s in
+      let looked : now.looks.first ≡ Some (phase old.history) = ap (λ (t : Seat). t.looks.first) after ∙ ap (λ (o : Option ℕ). first_of o found) fresh.first ∙ ap (λ (n : ℕ). Some n) word in
+      all_come given old.history new.history state new.machine.state seats number all is_next.within next [] (after_inner heap state new.machine.state number inners.Look makes.plays) makes.noted
+      (λ other apart. none_at_all other)
+      (come_begun given old.history new.history number seat now (progress_at seats number) (all.each number is_next.within) [] makes.noted next (none_at_all number) (ap (λ (t : Seat). t.left) after)
+      (ap (λ (t : Seat). t.made) after) (ap (λ (t : Seat). t.sets) after) place gone paid (omega (arith, ap (λ (t : Seat). t.looks.waits) after)) (rw (looked, is) (behind, first))
+      (record { there = gone ∙ is_next.there; next = ap (λ (n : ℕ). slice_get (script_of given number) n) place ∙ is_next.next }))
 
   -- one that answers the seat's collect takes it one command further
-  pub noted_on : (locked : LockedValue) (came : CollectReply) (next : Progress) → locked ≡ record { recorded = old; seats = seats } → MakesInner old new number (inners.Note came) → IsNext given seats number Collect
-      → MayAnswer given locked number came → next.place ≡ (progress_at seats number).place + 1 → next.gone ≡ (progress_at seats number).gone → next.paid ≡ (seat_at old.machine.state number).looks.waits
+  pub noted_on : (locked : LockedValue) (owed : ℕ) (over : Bool) (came : CollectReply) (next : Progress) → locked ≡ record { recorded = old; seats = seats; owed = owed; over = over } → MakesInner old new number (inners.Note came) → IsNext given seats number Collect
+      → MayAnswer given locked number came → next.target ≡ None → next.place ≡ (progress_at seats number).place + 1 → next.gone ≡ (progress_at seats number).gone → next.paid ≡ (seat_at old.machine.state number).looks.waits
       → AllHaveCome given new.history new.machine.state (slice_set seats number next)
-  noted_on locked came next is makes is_next may place gone paid =
+  noted_on locked owed over came next is makes is_next may fresh place gone paid =
       let heap = old.machine.heap in
       let state = old.machine.state in
       let come = all.each number is_next.within in
-      let stays = own_stays (inners.Note came) makes in
+      let seat : Seat = seat_at state number in
+      let now : Seat = seat_at new.machine.state number in
+      let after : now ≡ seat_after_inner heap state.words number seat (inners.Note came) = makes.plays.seat in
       let added : List Entry = inner_entries heap state.words number (seat_at state number).answered (inners.Note came) in
       all_come given old.history new.history state new.machine.state seats number all is_next.within next added (after_inner heap state new.machine.state number (inners.Note came) makes.plays) makes.noted
       (λ other apart. none_noted heap state.words other number (seat_at state number).answered came apart)
       (come_next given old.history new.history number (seat_at state number) (seat_at new.machine.state number) (progress_at seats number) come added makes.noted Collect (waits_of came) next is_next.next is_next.there
-      (one_noted heap state.words number (seat_at state number).answered came) stays.left_same (omega (arith, stays.made_same)) (omega (arith, stays.sets_same)) place gone
-      (earned come came (subst (λ (v : LockedValue). MayAnswer given v number came) is may)) (omega (arith, paid, stays.finds)))
+      (one_noted heap state.words number (seat_at state number).answered came) (ap (λ (t : Seat). t.left) after) (omega (arith, ap (λ (t : Seat). t.made) after)) (omega (arith, ap (λ (t : Seat). t.sets) after)) place gone
+      (earned come came (subst (λ (v : LockedValue). MayAnswer given v number came) is may)) (omega (arith, paid, ap (λ (t : Seat). t.looks.waits) after))
+      (record { target = fresh; first = ap (λ (t : Seat). t.looks.first) after }))
     where
-      earned : HasCome given old.history number (seat_at old.machine.state number) (progress_at seats number) → (came : CollectReply) → MayAnswer given (record { recorded = old; seats = seats }) number came
+      earned : HasCome given old.history number (seat_at old.machine.state number) (progress_at seats number) → (came : CollectReply) → MayAnswer given (record { recorded = old; seats = seats; owed = owed; over = over }) number came
           → IsPaid given.patience (waits_told number old.history + waits_of came) next.paid
       earned come (notes.Cycle cycle) may_answer =
           subst (λ (n : ℕ). IsPaid given.patience n next.paid) (omega arith) (paid_still given.patience (waits_told number old.history) (progress_at seats number).paid next.paid (omega (arith, paid, come.grown)) come.paid)

@@ -1,20 +1,25 @@
 -- The last cycle of a run began after every seat had left.
-use Rattle.std.proofs.Common.{◌≡◌, ℕ, ◌+◌, ◌*◌, ◌%◌, ◌<◌, ◌≤◌, Bool, true, List, [], ◌∷◌, ◌++◌, inl, inr, sym, ap, subst, ◌∙◌, append_assoc, arith}
-use Rattle.std.specs.List.{list_any}
+use Rattle.std.proofs.Common.{◌≡◌, ℕ, ◌+◌, ◌*◌, ◌%◌, ◌<◌, ◌≤◌, Bool, true, false, List, [], ◌∷◌, ◌++◌, inl, inr, refl, sym, ap, subst, ◌∙◌, append_assoc, arith}
+use Rattle.std.specs.List.{list_any, AllByRecursion}
 use Rattle.std.proofs.lemmas.Bool.{eq-eqb, or_left, or_right}
 use Rattle.std.proofs.lemmas.Bool.Decides.{leb_tells}
 use Rattle.std.proofs.lemmas.List.{append-nil}
 use Rattle.std.proofs.lemmas.List.Sums.{sum_by-append, sum_by-cons}
 use Rattle.heap_model.specs.PhasePlan.{cycle_phases}
+use Rattle.heap_model.specs.declared.command.Command.TheVariants.{Leave}
 use Rattle.heap_model.specs.declared.entry.Entry.{Entry}
 use Rattle.heap_model.specs.declared.entry.Entry.TheVariants as entries
 use Rattle.heap_model.specs.declared.heap.Heap.{Heap}
 use Rattle.heap_model.specs.account.Account.{IsLegal, KeepsSpace, KeepsSpaceAfter}
 use Rattle.heap_model.specs.account.Effects.{effect_of}
+use Rattle.heap_model.specs.account.Noting.{is_collectors}
 use Rattle.heap_model.specs.account.PhaseCounts.{phase, has_left}
 use Rattle.heap_model.specs.account.Windows.{begins_cycle, up_to_cycle}
 use Rattle.core_rule.proofs.parties.LeftStill.{left_still, up_to_last_later}
+use Rattle.core_rule.proofs.looks.Growth.{up_to_last-none}
 use Rattle.core_rule.proofs.runs.Plays.{keeps_there}
+use Rattle.heap_model.proofs.account_lemmas.Windows.{up_to_last-yes}
+use Rattle.locked_heap.specs.Told.{is_leave, up_to_leaves, EndsWithLeave}
 
 -- what is behind keeps the rules too
 behind_kept : (heap : Heap) (play : Bool) (before front behind : List Entry) → KeepsSpaceAfter heap play before (front ++ behind) → KeepsSpaceAfter heap play (before ++ front) behind
@@ -59,3 +64,15 @@ left_before heap play front turned cycle kept number legal early left =
     front_kept : (before front : List Entry) → KeepsSpaceAfter heap play before (front ++ entries.Ends cycle kept ∷ []) → KeepsSpaceAfter heap play before front
     front_kept before [] kept_ = tt
     front_kept before (entry ∷ front) kept_ = (kept_.0, front_kept (before ++ entry ∷ []) front kept_.1)
+
+-- no entry of the collector is a leave
+no_leaves : (turned : List Entry) → AllByRecursion (λ entry. is_collectors entry ≡ true) turned → list_any is_leave turned ≡ false
+no_leaves [] own = refl
+no_leaves (entries.Said number command reply ∷ turned) own = absurd (cc own.0)
+no_leaves (entry ∷ turned) own = no_leaves turned own.1
+
+-- so behind a leave the last leave stays where turns are made
+pub leaves_stay : (front turned : List Entry) → EndsWithLeave front → AllByRecursion (λ entry. is_collectors entry ≡ true) turned → up_to_leaves (front ++ turned) ≡ front
+leaves_stay front turned parted own =
+    up_to_last-none is_leave front turned (no_leaves turned own)
+    ∙ subst (λ (l : List Entry). up_to_leaves l ≡ l) (sym parted.last) (up_to_last-yes is_leave parted.before (entries.Said parted.number Leave parted.reply) refl)

@@ -9,6 +9,8 @@ pub mod TellsNone
 pub mod Coming
 pub mod LastCycle
 pub mod Opened
+pub mod Parting
+pub mod Slacking
 pub mod Calling
 pub mod InnerCalls
 pub mod Whole

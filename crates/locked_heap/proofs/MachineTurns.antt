@@ -1,6 +1,7 @@
 -- What a turn comes to that was noted.
-use Rattle.std.proofs.Common.{◌≡◌, ℕ, ◌+◌, ◌-◌, ◌^◌, min, List, [], ◌∷◌, ◌++◌, length, filter, Some, sym, ap, subst, ◌∙◌, append_assoc, length-append, arith}
-use Rattle.std.proofs.lemmas.List.{append_cancel_left}
+use Rattle.std.proofs.Common.{◌≡◌, ℕ, ◌+◌, ◌-◌, ◌^◌, min, true, List, [], ◌∷◌, ◌++◌, length, filter, Some, refl, sym, ap, subst, ◌∙◌, append_assoc, length-append, arith}
+use Rattle.std.specs.List.{AllByRecursion}
+use Rattle.std.proofs.lemmas.List.{append_cancel_left, append-nil}
 use Rattle.std.proofs.lemmas.List.Elements.{filter-append}
 use Rattle.heap_model.specs.declared.calls.collector_calls.Turn.{Turn}
 use Rattle.heap_model.specs.declared.calls.collector_calls.Turn.TheVariants.{Ended}
@@ -10,13 +11,15 @@ use Rattle.heap_model.specs.declared.heap.Heap.{Heap}
 use Rattle.heap_model.specs.account.Noting.{is_collectors}
 use Rattle.heap_model.specs.account.PhaseCounts.{phase}
 use Rattle.heap_model.specs.calls.CollectorCalls.{ComesTo}
-use Rattle.core_machine.specs.machine.Machine.{Turns, Can, next_turn, found_by, state_after, entries}
+use Rattle.core_machine.specs.machine.Machine.{State, Turns, Can, next_turn, found_by, state_after, entries}
 use Rattle.core_machine.specs.machine.Value.{MachineValue}
 use Rattle.core_rule.specs.Laws.{EveryRunKeeps, EachEventKeeps, EachTurnComesTo, IsToldBy}
 use Rattle.core_rule.proofs.parties.Collectors.{all_collectors}
 use Rattle.core_rule.proofs.parties.TurnLogs.{TurnFacts, turn_facts}
-use Rattle.locked_heap.specs.Recorded.{Recorded, EventsLeadTo, AnyEvents, MakesTurn, collector_of}
+use Rattle.locked_heap.specs.Locked.{IsRunFrom, TurnsOn}
+use Rattle.locked_heap.specs.Recorded.{Recorded, EventsLeadTo, AnyEvents, StandsStill, MakesTurn, collector_of}
 use Rattle.locked_heap.proofs.Calls.{AddsTold, room_kept}
+use Rattle.locked_heap.proofs.GivenRuns.{run_turn, run_still}
 use Rattle.locked_heap.proofs.Leading.{book_stands}
 
 -- the turn's facts where events led to the machine, whose heap is this one
@@ -61,11 +64,35 @@ makes_turn runs each old new turn told led is told_is can after answered counted
     }
 
 -- a turn that ends a cycle tells that end alone
-pub ended_tells : (before : List Entry) (now ready new : Recorded) (turned : List Entry) (cycle kept : ℕ) → now.history ≡ before ++ turned → ready.history ≡ now.history → MakesTurn ready new (Ended cycle kept)
-    → new.history ≡ before ++ (turned ++ Ends cycle kept ∷ [])
-ended_tells before now ready new turned cycle kept grown still makes =
+ended_tells : (ready new : Recorded) (cycle kept : ℕ) → MakesTurn ready new (Ended cycle kept) → entries ready.machine.heap ready.machine.state Turns ≡ Ends cycle kept ∷ []
+ended_tells ready new cycle kept makes =
     let added : List Entry = entries ready.machine.heap ready.machine.state Turns in
     let own : filter is_collectors (ready.history ++ added) ≡ filter is_collectors ready.history ++ added
     = filter-append is_collectors ready.history added ∙ ap (λ es. filter is_collectors ready.history ++ es) (all_collectors added makes.own) in
-    let is : added ≡ Ends cycle kept ∷ [] = append_cancel_left (filter is_collectors ready.history) added (Ends cycle kept ∷ []) (sym own ∙ ap (filter is_collectors) (sym makes.noted) ∙ makes.turned.comes_to.0) in
-    makes.noted ∙ ap (λ (l : List Entry). ready.history ++ l) is ∙ ap (λ (l : List Entry). l ++ Ends cycle kept ∷ []) (still ∙ grown) ∙ append_assoc before turned (Ends cycle kept ∷ [])
+    append_cancel_left (filter is_collectors ready.history) added (Ends cycle kept ∷ []) (sym own ∙ ap (filter is_collectors) (sym makes.noted) ∙ makes.turned.comes_to.0)
+
+-- so the history ends with it
+pub ended_told : (old now ready new : Recorded) (cycle kept : ℕ) → (on : TurnsOn old now) → StandsStill now ready → MakesTurn ready new (Ended cycle kept) → new.history ≡ old.history ++ (on.turned ++ Ends cycle kept ∷ [])
+ended_told old now ready new cycle kept on still makes =
+    makes.noted ∙ ap (λ (l : List Entry). ready.history ++ l) (ended_tells ready new cycle kept makes) ∙ ap (λ (l : List Entry). l ++ Ends cycle kept ∷ []) (still.history_stays ∙ on.grown)
+    ∙ append_assoc old.history on.turned (Ends cycle kept ∷ [])
+
+-- no turn was made yet
+pub turns_none : (old : Recorded) → TurnsOn old old
+turns_none old = record { turned = []; grown = sym (append-nil old.history); own = tt; seats_stay = refl; runs = λ given run. run }
+
+own_more : (front more : List Entry) → AllByRecursion (λ entry. is_collectors entry ≡ true) front → AllByRecursion (λ entry. is_collectors entry ≡ true) more → AllByRecursion (λ entry. is_collectors entry ≡ true) (front ++ more)
+own_more [] more own then_ = then_
+own_more (entry ∷ front) more own then_ = (own.0, own_more front more own.1 then_)
+
+-- and one more
+pub turns_more : (old now ready new : Recorded) (turn : Turn) → TurnsOn old now → StandsStill now ready → MakesTurn ready new turn → TurnsOn old new
+turns_more old now ready new turn on still makes =
+    let added : List Entry = entries ready.machine.heap ready.machine.state Turns in
+    record {
+      turned = on.turned ++ added;
+      grown = makes.noted ∙ ap (λ (l : List Entry). l ++ added) (still.history_stays ∙ on.grown) ∙ append_assoc old.history on.turned added;
+      own = own_more on.turned added on.own makes.own;
+      seats_stay = ap (λ (s : State). s.seats) makes.after ∙ ap (λ (s : State). s.seats) still.state_stays ∙ on.seats_stay;
+      runs = λ given run. run_turn given ready new (run_still given now ready (on.runs given run) still) turn makes;
+    }

@@ -1,6 +1,6 @@
 -- At the opening no seat has begun its script.
 use Rattle.std.specs.Prelude.{replicate}
-use Rattle.std.proofs.Common.{◌≡◌, List, [], inl, refl, arith}
+use Rattle.std.proofs.Common.{◌≡◌, List, [], inl, refl, ap, ◌∙◌, arith}
 use Rattle.std.proofs.lemmas.List.{get_or-replicate, length-replicate}
 use Rattle.heap_model.specs.declared.entry.Entry.{Entry}
 use Rattle.core_machine.specs.machine.Machine.{State}
@@ -8,8 +8,9 @@ use Rattle.core_machine.specs.seat.Seat.{Seat}
 use Rattle.core_rule.proofs.parties.OpenedSeats.{opening_seats}
 use Rattle.locked_heap.specs.declared.progress.Progress.{Progress}
 use Rattle.locked_heap.specs.Given.{Given, IsGiven}
-use Rattle.locked_heap.specs.Locked.{AllHaveCome}
-use Rattle.locked_heap.specs.Progress.{at_begin, HasCome}
+use Rattle.locked_heap.specs.Locked.{AllHaveCome, IsParted}
+use Rattle.locked_heap.specs.Progress.{at_begin, progress_at, HasCome}
+use Rattle.locked_heap.proofs.Parting.{not_parted_there}
 
 pub all_opened : (given : Given) (state : State) (told : List Entry) (seats : List Progress) → IsGiven given → state ≡ given.opening → told ≡ [] → seats ≡ replicate given.heap.seats at_begin → AllHaveCome given told state seats
 all_opened given state told seats right opening none begin = rw (opening, none, begin) (record {
@@ -23,5 +24,12 @@ all_opened given state told seats right opening none begin = rw (opening, none, 
     few_sets = λ there. omega arith;
     paid = inl (omega arith);
     grown = omega arith;
+    target = tt;
+    collects = λ some. absurd (some refl);
   }));
 })
+
+-- and none has left
+pub none_parted : (given : Given) (told : List Entry) (seats : List Progress) → IsGiven given → seats ≡ replicate given.heap.seats at_begin → IsParted given told seats
+none_parted given told seats right begin =
+    not_parted_there given told seats 0 (omega (arith, right.limits.some_seat)) (ap (λ (l : List Progress). (progress_at l 0).gone) begin ∙ ap (λ (p : Progress). p.gone) (get_or-replicate given.heap.seats 0 at_begin at_begin (omega (arith, right.limits.some_seat))))

@@ -1,20 +1,29 @@
 -- What contracts see of the heap under the lock.
-use Rattle.std.specs.Prelude.{◌≡◌, ◌≢◌, ℕ, ◌+◌, ◌-◌, ◌*◌, ◌^◌, ◌<◌, ◌≤◌, ◌⊎◌, true, false, List, ◌∷◌, [], ◌++◌, length, slice_get, Some}
+use Rattle.std.specs.Prelude.{◌≡◌, ◌≢◌, ℕ, ◌+◌, ◌-◌, ◌*◌, ◌^◌, ◌<◌, ◌≤◌, ◌⊎◌, Bool, true, false, min, List, ◌∷◌, [], ◌++◌, length, drop, slice_get, Some, None}
+use Rattle.std.specs.List.{AllByRecursion}
 use Rattle.heap_model.specs.declared.command.Command.{Command}
+use Rattle.heap_model.specs.declared.command.Command.TheVariants.{Collect}
 use Rattle.heap_model.specs.declared.calls.collect.CollectReply.{CollectReply}
 use Rattle.heap_model.specs.declared.calls.collect.CollectReply.TheVariants.{Cycle, Waits}
 use Rattle.heap_model.specs.declared.calls.collect.Inner.{Inner}
 use Rattle.heap_model.specs.declared.calls.collect.Inner.TheVariants.{Note}
 use Rattle.heap_model.specs.declared.entry.Entry.{Entry}
-use Rattle.heap_model.specs.declared.entry.Entry.TheVariants.{Ends}
+use Rattle.heap_model.specs.declared.entry.Entry.TheVariants.{Ends, Said}
 use Rattle.heap_model.specs.declared.heap.Heap.{Heap}
 use Rattle.heap_model.specs.PhasePlan.{cycle_phases}
+use Rattle.heap_model.specs.account.Noting.{is_collectors}
 use Rattle.heap_model.specs.account.PhaseCounts.{phase}
+use Rattle.heap_model.specs.account.Space.{total}
+use Rattle.heap_model.specs.calls.CollectorCalls.{CollectorState}
 use Rattle.core_machine.specs.machine.Machine.{State, seat_at, Event}
+use Rattle.core_machine.specs.declared.seat.looks.FoundBehind.{FoundBehind}
+use Rattle.core_machine.specs.seat.Looks.{noted_reply}
+use Rattle.slack_pace.specs.Slack.{MakesTurns, last_made, HasWaited}
 use Rattle.locked_heap.specs.declared.progress.Progress.{Progress}
 use Rattle.locked_heap.specs.Given.{Given, IsGiven, script_of}
 use Rattle.locked_heap.specs.Progress.{progress_at, HasCome}
-use Rattle.locked_heap.specs.Recorded.{Recorded, EventsLeadTo}
+use Rattle.locked_heap.specs.Recorded.{Recorded, EventsLeadTo, collector_of}
+use Rattle.locked_heap.specs.Told.{EndsWithLeave}
 
 -- they lead from the opening that was given
 abbrev pub OpensAs : Given → Heap → State → List Event → Type 0
@@ -26,20 +35,49 @@ pub record IsRunFrom (given : Given) (recorded : Recorded) : Type 0 where
   pub of_heap : recorded.machine.heap ≡ given.heap
   pub led : EventsLeadTo (OpensAs given) recorded.machine.heap recorded.machine.state recorded.history
 
--- the machine with its history, and how far each seat has come
+-- the machine with its history, how far each seat has come, how many fragments were claimed since the collector last made its slack, and whether the seats' workers
+-- have returned
 pub record LockedValue : Type 0 where
   pub recorded : Recorded
   pub seats : List Progress
+  pub owed : ℕ
+  pub over : Bool
+
+-- what turns leave as it is
+pub record Beside : Type 0 where
+  pub seats : List Progress
+  pub owed : ℕ
+  pub over : Bool
+
+abbrev pub beside_of : LockedValue → Beside
+beside_of locked = record { seats = locked.seats; owed = locked.owed; over = locked.over }
 
 -- each seat has come as far as is kept of it
 pub record AllHaveCome (given : Given) (told : List Entry) (state : State) (seats : List Progress) : Type 0 where
   pub seated : length seats ≡ given.heap.seats
   pub each : (number : ℕ) → number < given.heap.seats → HasCome given told number (seat_at state number) (progress_at seats number)
 
--- a run from what was given led here, each seat has come as far as is kept of it, and the patience is the one given
+-- the seat has left
+abbrev pub SeatHasLeft : List Progress → ℕ → Type 0
+SeatHasLeft seats number = (progress_at seats number).gone ≡ true
+
+-- every seat has left
+abbrev pub AllGone : Given → List Progress → Type 0
+AllGone given seats = (number : ℕ) → number < given.heap.seats → SeatHasLeft seats number
+
+-- not all have
+abbrev pub SomeAreThere : Given → List Progress → Type 0
+SomeAreThere given seats = ¬ AllGone given seats
+
+-- once every seat has left nothing is told behind the last leave
+pub record IsParted (given : Given) (told : List Entry) (seats : List Progress) : Type 0 where
+  pub behind_leave : AllGone given seats → EndsWithLeave told
+
+-- a run from what was given led here, each seat has come as far as is kept of it, nothing is told behind the last leave, and the patience is the one given
 pub record StandsLocked (given : Given) (locked : LockedValue) (patience : ℕ) : Type 0 where
   pub run : IsRunFrom given locked.recorded
   pub come : AllHaveCome given locked.recorded.history locked.recorded.machine.state locked.seats
+  pub parted : IsParted given locked.recorded.history locked.seats
   pub patient : patience ≡ given.patience
 
 -- the command is the seat's next one, and the seat hasn't left
@@ -48,24 +86,27 @@ pub record IsNext (given : Given) (seats : List Progress) (number : ℕ) (comman
   pub there : (progress_at seats number).gone ≡ false
   pub next : slice_get (script_of given number) (progress_at seats number).place ≡ Some command
 
--- the seat has left
-abbrev pub SeatHasLeft : List Progress → ℕ → Type 0
-SeatHasLeft seats number = (progress_at seats number).gone ≡ true
+-- the seat is in a collect that has begun
+pub record IsCollecting (given : Given) (seats : List Progress) (number : ℕ) : Type 0 where
+  pub next : IsNext given seats number Collect
+  pub begun : (progress_at seats number).target ≢ None
 
 -- who has left stays so
 abbrev pub KeepsGone : List Progress → List Progress → Type 0
 KeepsGone old new = (number : ℕ) → SeatHasLeft old number → SeatHasLeft new number
 
--- the seat has come one command further at most, where it had left it stays so, and the others are where they were
-pub record ComesOneFurther (old new : List Progress) (number : ℕ) : Type 0 where
-  pub onward : (progress_at old number).place ≤ (progress_at new number).place
-  pub few : (progress_at new number).place ≤ (progress_at old number).place + 1
-  pub gone_stays : SeatHasLeft old number → SeatHasLeft new number
-  pub others : (other : ℕ) → other ≢ number → progress_at new other ≡ progress_at old other
+-- the seat has come one command further at most, where it had left it stays so, the others are where they were, and the seats' workers have returned no more than before
+pub record ComesOneFurther (old new : LockedValue) (number : ℕ) : Type 0 where
+  pub onward : (progress_at old.seats number).place ≤ (progress_at new.seats number).place
+  pub few : (progress_at new.seats number).place ≤ (progress_at old.seats number).place + 1
+  pub gone_stays : SeatHasLeft old.seats number → SeatHasLeft new.seats number
+  pub others : (other : ℕ) → other ≢ number → progress_at new.seats other ≡ progress_at old.seats other
+  pub over_stays : new.over ≡ old.over
 
--- every seat has left
-abbrev pub AllGone : Given → List Progress → Type 0
-AllGone given seats = (number : ℕ) → number < given.heap.seats → SeatHasLeft seats number
+-- what is owed is more by what the new entries claim, or stands at the last number of its type
+abbrev pub OwesMore : LockedValue → LockedValue → Type 0
+OwesMore old new =
+    new.owed ≡ min (old.owed + total (λ e. e.taken) (drop (length old.recorded.history) new.recorded.history)) (2 ^ 64 - 1)
 
 -- the inner call tells no reply
 abbrev pub IsQuiet : Inner → Type 0
@@ -83,15 +124,51 @@ abbrev pub MayAnswer : Given → LockedValue → ℕ → CollectReply → Type 0
 MayAnswer given locked number (Cycle cycle) = Unit {0}
 MayAnswer given locked number (Waits other answered p) = IsPatient given locked number
 
--- the history was gone on with
-abbrev pub GrowsFrom : List Entry → List Entry → Type 0
-GrowsFrom before after = (added : List Entry) × (after ≡ before ++ added)
+-- the seat has seen the end of this cycle
+abbrev pub HasSeenEnd : LockedValue → ℕ → ℕ → Type 0
+HasSeenEnd locked number cycle = cycle_phases * (cycle + 1) ≤ (seat_at locked.recorded.machine.state number).looks.seen
 
--- turns were made up to the end of a cycle that began not before the first of them
-pub record EndsWhole (old new : LockedValue) : Type 0 where
-  pub same_seats : new.seats ≡ old.seats
+-- the seat's collect was answered so, and the seat has come to its next command
+pub record TellsAnswer (old new : LockedValue) (number : ℕ) (came : CollectReply) : Type 0 where
+  pub told : new.recorded.history ≡ old.recorded.history ++ Said number Collect (noted_reply came) ∷ []
+  pub onward : (progress_at new.seats number).place ≡ (progress_at old.seats number).place + 1
+
+-- the collect is answered that it waits for the seat that was found behind last, where one was, and the seat was patient
+abbrev pub AnswersWait : Given → LockedValue → LockedValue → ℕ → Type 0
+AnswersWait given old new number = IsPatient given old number → (found : FoundBehind) → (seat_at old.recorded.machine.state number).looks.behind ≡ Some found
+    → TellsAnswer old new number (Waits found.seat found.answered found.phase)
+
+-- not more turns were made than these, one after another, and fewer only where the last waits; nothing is owed then
+pub record MakesSlack (asked : ℕ) (old new : LockedValue) : Type 0 where
+  pub ready : CollectorState
+  pub roomy : ready ≡ record (collector_of old.recorded) { spare = ready.spare }
+  pub made : ℕ
+  pub most : made ≤ asked
+  pub turns : MakesTurns made ready (collector_of new.recorded)
+  pub fewer : made < asked → HasWaited (last_made made (collector_of new.recorded))
+  pub seats_stay : new.seats ≡ old.seats
+  pub over_stays : new.over ≡ old.over
+  pub none_owed : new.owed ≡ 0
+
+-- no more slack is wanted: the seats' workers have returned, or every seat has left
+abbrev pub IsOver : Given → LockedValue → Type 0
+IsOver given locked = (locked.over ≡ true) ⊎ AllGone given locked.seats
+
+-- turns were made, and nothing else
+pub record TurnsOn (old new : Recorded) : Type 0 where
   pub turned : List Entry
+  pub grown : new.history ≡ old.history ++ turned
+  pub own : AllByRecursion (λ entry. is_collectors entry ≡ true) turned
+  pub seats_stay : new.machine.state.seats ≡ old.machine.state.seats
+  pub runs : (given : Given) → IsRunFrom given old → IsRunFrom given new
+
+-- turns were made up to the end of the first cycle that begins not before the first of them
+pub record EndsWhole (old new : Recorded) : Type 0 where
+  pub on : TurnsOn old new
+  pub earlier : List Entry
+  pub own : AllByRecursion (λ entry. is_collectors entry ≡ true) earlier
   pub cycle : ℕ
   pub kept : ℕ
-  pub told : new.recorded.history ≡ old.recorded.history ++ (turned ++ Ends cycle kept ∷ [])
-  pub began : phase old.recorded.history ≤ cycle_phases * cycle
+  pub told : new.history ≡ old.history ++ (earlier ++ Ends cycle kept ∷ [])
+  pub began : phase old.history ≤ cycle_phases * cycle
+  pub first : cycle_phases * cycle < phase old.history + cycle_phases

@@ -1,11 +1,13 @@
 -- What a history tells of one seat.
-use Rattle.std.specs.Prelude.{ℕ, ◌==◌, Bool, false, if◌then◌else◌, List, [], ◌∷◌, length, filter}
+use Rattle.std.specs.Prelude.{◌≡◌, ℕ, ◌==◌, Bool, true, false, if◌then◌else◌, List, [], ◌∷◌, ◌++◌, length, filter}
 use Rattle.std.specs.List.{flat_map}
 use Rattle.heap_model.specs.declared.command.Command.{Command}
-use Rattle.heap_model.specs.declared.command.Command.TheVariants.{Collect}
+use Rattle.heap_model.specs.declared.command.Command.TheVariants.{Collect, Leave}
 use Rattle.heap_model.specs.declared.entry.Entry.{Entry}
 use Rattle.heap_model.specs.declared.entry.Entry.TheVariants.{Said}
+use Rattle.heap_model.specs.declared.reply.Reply.{Reply}
 use Rattle.heap_model.specs.declared.reply.Reply.TheVariants.{Waits}
+use Rattle.heap_model.specs.account.Windows.{up_to_last}
 
 -- the seat's command that the entry answers, if it answers one
 abbrev pub command_told : ℕ → Entry → List Command
@@ -24,3 +26,19 @@ is_wait_of number _ = false
 -- how often a collect of the seat was answered so
 abbrev pub waits_told : ℕ → List Entry → ℕ
 waits_told number history = length (filter (is_wait_of number) history)
+
+-- the entry is a seat's leave
+abbrev pub is_leave : Entry → Bool
+is_leave (Said number Leave reply) = true
+is_leave _ = false
+
+-- the history up to its last leave
+abbrev pub up_to_leaves : List Entry → List Entry
+up_to_leaves history = up_to_last is_leave history
+
+-- the last entry is a leave
+pub record EndsWithLeave (history : List Entry) : Type 0 where
+  pub before : List Entry
+  pub number : ℕ
+  pub reply : Reply
+  pub last : history ≡ before ++ Said number Leave reply ∷ []

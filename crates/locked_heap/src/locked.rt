@@ -1,7 +1,7 @@
-ghost use Rattle.std.specs.Prelude.{◌≡◌, ◌≢◌, ◌<◌, false, length};
+ghost use Rattle.std.specs.Prelude.{◌≡◌, ◌≢◌, ◌+◌, ◌<◌, false, length, OnOk, OnErr};
 ghost use Rattle.heap_model.specs.declared.command.Command.TheVariants.{Collect};
 ghost use Rattle.locked_heap.specs.Given.{IsGiven, script_of};
-ghost use Rattle.locked_heap.specs.Locked.{IsRunFrom, AllHaveCome, IsNext, ComesOneFurther};
+ghost use Rattle.locked_heap.specs.Locked.{IsRunFrom, AllHaveCome, IsParted, IsNext, SeatHasLeft, ComesOneFurther, OwesMore};
 ghost use Rattle.locked_heap.specs.Progress.{progress_at};
 
 use crate::handed::Handed;
@@ -35,9 +35,9 @@ impl<N: Handed> Model for Locked<N> {
 
     ghost Value = { LockedValue };
 
-    ghost view = { λ l. record { recorded = l.recorder; seats = l.seats.items } };
+    ghost view = { λ l. record { recorded = l.recorder; seats = l.seats.items; owed = l.owed; over = l.over } };
 
-    ghost invariant = { λ l. StandsLocked N.given (record { recorded = l.recorder; seats = l.seats.items }) l.patience };
+    ghost invariant = { λ l. StandsLocked N.given (record { recorded = l.recorder; seats = l.seats.items; owed = l.owed; over = l.over }) l.patience };
 }
 
 impl<N: Handed> Locked<N> {
@@ -69,6 +69,7 @@ impl<N: Handed> Locked<N> {
     pub fn known(&self)
         ensures run { IsRunFrom N.given self.now.recorded }
         ensures come { AllHaveCome N.given self.now.recorded.history self.now.recorded.machine.state self.now.seats }
+        ensures parted { IsParted N.given self.now.recorded.history self.now.seats }
     {
         let _ = &self.recorder;
     }
@@ -85,7 +86,10 @@ impl<N: Handed> Locked<N> {
     fn call(&mut self, seat: u8, command: &Command) -> Result<(), Memory>
         requires next { IsNext N.given self.old.seats seat command.now }
         requires once { command.now ≢ Collect }
-        ensures further { ComesOneFurther self.old.seats self.new.seats seat }
+        ensures further { ComesOneFurther self.old self.new seat }
+        ensures onward { OnOk result ((progress_at self.new.seats seat).place ≡ (progress_at self.old.seats seat).place + 1) }
+        ensures owes { OnOk result (OwesMore self.old self.new) }
+        ensures still { OnErr result (self.new.owed ≡ self.old.owed) }
     {
         law_every_run();
         let called = self.recorder.call(seat, command)?;
@@ -103,7 +107,9 @@ impl<N: Handed> Locked<N> {
         requires within { seat < N.given.heap.seats }
         requires there { (progress_at self.old.seats seat).gone ≡ false }
         requires through { (progress_at self.old.seats seat).place ≡ length (script_of N.given seat) }
-        ensures further { ComesOneFurther self.old.seats self.new.seats seat }
+        ensures further { ComesOneFurther self.old self.new seat }
+        ensures left { OnOk result (SeatHasLeft self.new.seats seat) }
+        ensures owed { self.new.owed ≡ self.old.owed }
     {
         law_every_run();
         self.recorder.call(seat, &Command::Leave)?;

@@ -18,13 +18,16 @@ pub fn slack<C: CollectorCalls>(
     collector: &mut C,
     claimed: u64,
 ) -> SlackDone
-    requires { slack_room ≤ (C.state collector.old).spare }
+    requires room { slack_room ≤ (C.state collector.old).spare }
+    requires may { C.may (C.beside collector.old) }
     ensures asked { result.asked ≡ asks pace.old claimed }
+    ensures came { came pace.old claimed (kept pace.new) }
     ensures most { result.made ≤ result.asked }
     ensures fewer { result.made < result.asked → HasWaited result.last }
     ensures made { MakesTurns result.made (C.state collector.old) (C.state collector.new) }
     ensures counted { CountsTurns result.made (C.state collector.old) (C.state collector.new) }
     ensures last { result.last ≡ last_made result.made (C.state collector.new) }
+    ensures beside { C.beside collector.new ≡ C.beside collector.old }
     ensures entries { length (C.state collector.new).log ≤ length (C.state collector.old).log + result.made }
     ensures spare { (C.state collector.old).spare + length (C.state collector.old).log ≤ (C.state collector.new).spare + length (C.state collector.new).log }
 {

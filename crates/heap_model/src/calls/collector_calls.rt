@@ -13,16 +13,28 @@ pub enum Turn {
 
 /// The collector of a heap. No call but `room` takes memory.
 pub trait CollectorCalls {
+    /// What its turns leave as it is.
+    ghost Beside: { Type 0 };
+
     /// The collector's entries and the room for more, its phase and its turns.
     ghost state: { Self → CollectorState };
 
+    /// What it keeps beside them.
+    ghost beside: { Self → Beside };
+
+    /// When its turns may be made, by what they leave as it is.
+    ghost may: { Beside → Type 0 };
+
     /// Makes one step, which is one operation on one word of the heap.
     fn turn(&mut self) -> Turn
-        requires { 2 ≤ (state self.old).spare }
-        ensures { Turns (state self.old) (state self.new) result };
+        requires room { 2 ≤ (state self.old).spare }
+        requires may { may (beside self.old) }
+        ensures turns { Turns (state self.old) (state self.new) result }
+        ensures beside { beside self.new ≡ beside self.old };
 
     /// Makes room for at least `n` more entries.
     fn room(&mut self, n: usize) -> Result<(), Memory>
+        ensures beside { beside self.new ≡ beside self.old }
         ensures same { state self.new ≡ record (state self.old) { spare = (state self.new).spare } }
         ensures more { (state self.old).spare ≤ (state self.new).spare }
         ensures room { OnOk result (n ≤ (state self.new).spare) }

@@ -1,7 +1,11 @@
-ghost use Rattle.std.specs.Prelude.{◌≡◌, ◌+◌, ◌*◌, ◌<◌, ◌≤◌, IsTrue};
+ghost use Rattle.std.specs.Prelude.{◌≡◌, ◌+◌, ◌*◌, ◌<◌, ◌≤◌, ◌↔◌, IsTrue, Some, None, OnOk};
+ghost use Rattle.heap_model.specs.declared.calls.collect.CollectReply.TheVariants.{Cycle};
 ghost use Rattle.heap_model.specs.declared.command.Command.TheVariants.{Collect};
-ghost use Rattle.core_machine.specs.machine.Machine.{seat_at};
-ghost use Rattle.locked_heap.specs.Locked.{IsNext, ComesOneFurther, IsQuiet, IsPatient, MayAnswer};
+ghost use Rattle.core_machine.specs.machine.Machine.{BeginsInner, Can, seat_at};
+ghost use Rattle.core_machine.specs.seat.Looks.{MayNote};
+ghost use Rattle.locked_heap.specs.Locked.{IsNext, IsCollecting, ComesOneFurther, IsQuiet, IsPatient, MayAnswer, HasSeenEnd, TellsAnswer, AnswersWait};
+ghost use Rattle.locked_heap.specs.Progress.{progress_at};
+ghost use Rattle.locked_heap.specs.Recorded.{MakesInner};
 
 use crate::handed::Handed;
 use crate::locked::Locked;
@@ -34,8 +38,12 @@ impl<N: Handed> Locked<N> {
 
     /// Makes an inner call of the seat's collect that tells no reply, where the seat may make it.
     fn inner(&mut self, seat: u8, inner: Inner) -> Result<(), Memory>
-        requires { IsQuiet inner }
-        ensures { self.new.seats ≡ self.old.seats }
+        requires collects { IsCollecting N.given self.old.seats seat }
+        requires quiet { IsQuiet inner }
+        ensures makes { OnOk result (Can self.old.recorded.machine.heap self.old.recorded.machine.state (BeginsInner seat inner) → MakesInner self.old.recorded self.new.recorded seat inner) }
+        ensures seats { self.new.seats ≡ self.old.seats }
+        ensures owed { self.new.owed ≡ self.old.owed }
+        ensures over { self.new.over ≡ self.old.over }
     {
         if self.recorder.may_make(seat, &inner) {
             self.recorder.inner(seat, inner)?;
@@ -43,17 +51,17 @@ impl<N: Handed> Locked<N> {
         Ok(())
     }
 
-    /// Answers the seat's collect, which is its next command, where the seat may note this.
+    /// Answers the seat's collect, which is its next command, by what it has found.
     fn note(&mut self, seat: u8, came: CollectReply) -> Result<(), Memory>
         requires next { IsNext N.given self.old.seats seat Collect }
+        requires found { MayNote (seat_at self.old.recorded.machine.state seat).looks came }
         requires may { MayAnswer N.given self.old seat came }
-        ensures further { ComesOneFurther self.old.seats self.new.seats seat }
+        ensures answers { OnOk result (TellsAnswer self.old self.new seat came) }
+        ensures further { ComesOneFurther self.old self.new seat }
+        ensures owed { self.new.owed ≡ self.old.owed }
     {
         law_every_run();
-        if !self.recorder.may_make(seat, &Inner::Note(came)) {
-            return Ok(());
-        }
-        let finds = self.recorder.looks(seat).waits;
+        let finds = self.finds(seat);
         self.recorder.inner(seat, Inner::Note(came))?;
         let progress = self.seats[seat as usize];
         self.seats[seat as usize] = Progress {
@@ -65,14 +73,18 @@ impl<N: Handed> Locked<N> {
         Ok(())
     }
 
-    /// Begins the seat's collect, which is its next command.
+    /// Begins the seat's collect, which is its next command: looks at the phase, by which it knows the cycle whose end it is to see.
     fn begin_collect(&mut self, seat: u8) -> Result<(), Memory>
-        requires { IsNext N.given self.old.seats seat Collect }
-        ensures { ComesOneFurther self.old.seats self.new.seats seat }
+        requires next { IsNext N.given self.old.seats seat Collect }
+        requires fresh { (progress_at self.old.seats seat).target ≡ None }
+        ensures begun { OnOk result (IsCollecting N.given self.new.seats seat) }
+        ensures further { ComesOneFurther self.old self.new seat }
+        ensures owed { self.new.owed ≡ self.old.owed }
     {
-        self.inner(seat, Inner::Look)?;
+        law_every_run();
         let paid = self.finds(seat);
         let target = next_whole_cycle(self.recorder.phase());
+        self.recorder.inner(seat, Inner::Look)?;
         let progress = self.seats[seat as usize];
         self.seats[seat as usize] = Progress {
             target: Some(target),
@@ -85,7 +97,7 @@ impl<N: Handed> Locked<N> {
     /// Whether the seat has found another one behind, since its collect began, as often as its patience asks.
     fn was_patient(&self, seat: u8) -> bool
         requires { seat < N.given.heap.seats }
-        ensures { IsTrue result → IsPatient N.given self.now seat }
+        ensures { IsTrue result ↔ IsPatient N.given self.now seat }
     {
         let finds = self.finds(seat);
         self.seats[seat as usize]
@@ -94,10 +106,21 @@ impl<N: Handed> Locked<N> {
             <= finds
     }
 
-    /// Answers the seat's collect by what it has found last, once it was patient.
+    /// Whether the seat has seen that the cycle has ended.
+    fn saw_end(&self, seat: u8, cycle: u64) -> bool
+        requires { seat < N.given.heap.seats }
+        ensures { IsTrue result ↔ HasSeenEnd self.now seat cycle }
+    {
+        law_every_run();
+        cycle < self.recorder.looks(seat).seen / CYCLE_PHASES
+    }
+
+    /// Answers the seat's collect that it waits for the seat that it has found behind last, once it was patient.
     fn note_wait(&mut self, seat: u8) -> Result<(), Memory>
         requires { IsNext N.given self.old.seats seat Collect }
-        ensures { ComesOneFurther self.old.seats self.new.seats seat }
+        ensures answers { OnOk result (AnswersWait N.given self.old self.new seat) }
+        ensures further { ComesOneFurther self.old self.new seat }
+        ensures owed { self.new.owed ≡ self.old.owed }
     {
         law_every_run();
         let Some(found) = self.recorder.looks(seat).behind else {
@@ -116,27 +139,38 @@ impl<N: Handed> Locked<N> {
         )
     }
 
+    /// Answers the seat's collect, once what it has found answers it: first that its cycle has ended, and only else that it waits.
+    fn answer(&mut self, seat: u8, target: u64) -> Result<(), Memory>
+        requires next { IsNext N.given self.old.seats seat Collect }
+        requires target { (progress_at self.old.seats seat).target ≡ Some target }
+        ensures ended { OnOk result (HasSeenEnd self.old seat target → TellsAnswer self.old self.new seat (Cycle target)) }
+        ensures waits { OnOk result (¬ HasSeenEnd self.old seat target → AnswersWait N.given self.old self.new seat) }
+        ensures further { ComesOneFurther self.old self.new seat }
+        ensures owed { self.new.owed ≡ self.old.owed }
+    {
+        self.known();
+        if self.saw_end(seat, target) {
+            return self.note(seat, CollectReply::Cycle(target));
+        }
+        self.note_wait(seat)
+    }
+
     /// Goes on with the seat's collect, which is its next command: begins it, or makes one turn for it.
     pub fn collect(&mut self, seat: u8) -> Result<(), Memory>
         requires { IsNext N.given self.old.seats seat Collect }
-        ensures { ComesOneFurther self.old.seats self.new.seats seat }
+        ensures further { ComesOneFurther self.old self.new seat }
+        ensures owed { self.new.owed ≡ self.old.owed }
     {
         let Some(target) = self.progress(seat).target else {
             return self.begin_collect(seat);
         };
         self.room(2)?;
-        match self.turn() {
-            Turn::Waits { seat: other, .. } => {
-                if other == seat {
-                    return self.inner(seat, Inner::Answer);
-                }
-                self.inner(seat, Inner::Behind { seat: other })?;
-                self.note_wait(seat)
-            }
-            Turn::Stepped | Turn::Ended { .. } => {
-                self.inner(seat, Inner::Look)?;
-                self.note(seat, CollectReply::Cycle(target))
-            }
-        }
+        let found = match self.turn() {
+            Turn::Waits { seat: other, .. } if other == seat => Inner::Answer,
+            Turn::Waits { seat: other, .. } => Inner::Behind { seat: other },
+            Turn::Stepped | Turn::Ended { .. } => Inner::Look,
+        };
+        self.inner(seat, found)?;
+        self.answer(seat, target)
     }
 }

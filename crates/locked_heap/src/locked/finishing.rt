@@ -1,4 +1,4 @@
-ghost use Rattle.std.specs.Prelude.{◌≡◌, ◌<◌, map, IfOk, OnOk};
+ghost use Rattle.std.specs.Prelude.{◌≡◌, ◌<◌, map, length, IfOk, OnOk};
 ghost use Rattle.std.specs.List.{range_with_len};
 ghost use Rattle.core_machine.specs.machine.Machine.{seat_at};
 ghost use Rattle.locked_heap.specs.Given.{script_of};
@@ -11,10 +11,27 @@ use crate::locked::Locked;
 use crate::locked::collecting::next_whole_cycle;
 use crate::progress::Progress;
 use crate::ran::LockedRan;
+use crate::recorder::Recorder;
 use core_rule::{law_every_run, law_sweep_exact};
-use heap_model::{CollectorCalls, Command, Memory, Turn};
+use heap_model::{Command, Memory, Turn};
 use std::alloc::Global;
 use std::sync::Wait;
+
+/// Makes turns up to the end of the first cycle that begins not before the first of them.
+fn end_whole<R: Wait>(rt: &R, recorder: &mut Recorder) -> Result<(), Memory>
+    ensures { OnOk result (EndsWhole recorder.old recorder.new) }
+{
+    let target = next_whole_cycle(recorder.phase());
+    for _ in rt.forever() {
+        recorder.room(2)?;
+        if let Turn::Ended { cycle, .. } = recorder.turn() {
+            if cycle == target {
+                return Ok(());
+            }
+        }
+    }
+    unreachable!()
+}
 
 impl<N: Handed> Locked<N> {
     /// Goes on with the seat's script, which is this one, and answers how far it has come: makes its next command, or of a collect a part; lets the seat
@@ -23,7 +40,8 @@ impl<N: Handed> Locked<N> {
         requires within { seat < N.given.heap.seats }
         requires script { script.now ≡ script_of N.given seat }
         ensures progress { IfOk result (λ progress. progress ≡ progress_at self.new.seats seat) }
-        ensures further { ComesOneFurther self.old.seats self.new.seats seat }
+        ensures further { ComesOneFurther self.old self.new seat }
+        ensures leaves { OnOk result ((progress_at self.old.seats seat).place ≡ length (script_of N.given seat) → SeatHasLeft self.new.seats seat) }
     {
         let progress = self.progress(seat);
         if progress.gone {
@@ -65,22 +83,6 @@ impl<N: Handed> Locked<N> {
         Ok(())
     }
 
-    /// Makes turns up to the end of a cycle that begins not before the first of them.
-    pub fn end_whole<R: Wait>(&mut self, rt: &R) -> Result<(), Memory>
-        ensures { OnOk result (EndsWhole self.old self.new) }
-    {
-        let target = next_whole_cycle(self.recorder.phase());
-        for _ in rt.forever() {
-            self.room(2)?;
-            if let Turn::Ended { cycle, .. } = self.turn() {
-                if target <= cycle {
-                    return Ok(());
-                }
-            }
-        }
-        unreachable!()
-    }
-
     /// How often each seat has found another one behind.
     fn finds_of_all(&self, alloc: Global) -> Result<Vec<u64>, Memory>
         ensures { IfOk result (λ finds. finds.items ≡ map (λ number. (seat_at self.now.recorded.machine.state number).looks.waits) (range_with_len 0 N.given.heap.seats)) }
@@ -107,11 +109,11 @@ impl<N: Handed> Locked<N> {
         law_sweep_exact();
         self.finish_all(rt, scripts)?;
         self.known();
-        self.end_whole(rt)?;
-        self.known();
         let waits = self.finds_of_all(alloc)?;
+        let mut recorder = self.recorder;
+        end_whole(rt, &mut recorder)?;
         Ok(LockedRan {
-            history: self.recorder.into_history(),
+            history: recorder.into_history(),
             end_used: 0,
             waits,
         })

@@ -77,7 +77,13 @@ fn wait_in(phase: u64) -> Turn
 }
 
 impl CollectorCalls for Steady {
+    ghost Beside = { Unit {0} };
+
     ghost state = { λ collector. collector };
+
+    ghost beside = { λ _. tt };
+
+    ghost may = { λ _. Unit {0} };
 
     fn turn(&mut self) -> Turn {
         let phase = self.phase;
@@ -175,7 +181,8 @@ fn turns_through_a_cycle(rt: HostRuntime) -> Result<(), Fail> {
 }
 
 fn next_turn<C: CollectorCalls>(collector: &mut C) -> Turn
-    requires { 2 ≤ (C.state collector.old).spare }
+    requires room { 2 ≤ (C.state collector.old).spare }
+    requires may { C.may (C.beside collector.old) }
     ensures { (C.state collector.new).last_turn ≡ Some result }
 {
     collector.turn()

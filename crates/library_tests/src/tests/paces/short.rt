@@ -52,7 +52,13 @@ fn note(log: &mut Vec<Entry>, entry: Entry)
 }
 
 impl CollectorCalls for Short {
+    ghost Beside = { Unit {0} };
+
     ghost state = { λ collector. collector };
+
+    ghost beside = { λ _. tt };
+
+    ghost may = { λ _. Unit {0} };
 
     fn turn(&mut self) -> Turn {
         let turn = if self.log.is_empty() {

@@ -1,14 +1,20 @@
+use Rattle.std.proofs.Common.{sym, subst}
+use Rattle.locked_heap.specs.Locked.{LockedValue, IsCollecting}
 use Rattle.locked_heap.proofs.InnerCalls.{quiet_on}
 use Rattle.locked_heap.proofs.GivenRuns.{run_inner}
+use Rattle.locked_heap.proofs.Parting.{not_parted_there}
 use Rattle.locked_heap.proofs.locked.Locked.inner.Goals as goal
 
 pub invariant_of-self : goal.invariant_of-self
 invariant_of-self g c =
     let given = g.N.Handed.given in
     let old = c.self.inside.recorder in
+    let seats = c.self.inside.seats.items in
+    let collects : IsCollecting given seats c.args.seat = subst (λ (v : LockedValue). IsCollecting given v.seats c.args.seat) (sym c.self.view_is) c.requires.collects in
     let makes = c.in_ok-inner.ensures.makes in
     record {
       run = run_inner given old c.inner.new.self c.self.invariant.run c.args.seat c.args.inner makes;
-      come = quiet_on given old c.inner.new.self c.self.inside.seats.items c.args.seat c.self.invariant.come c.args.inner makes c.requires;
+      come = quiet_on given old c.inner.new.self seats c.args.seat c.self.invariant.come c.args.inner makes collects c.requires.quiet;
+      parted = not_parted_there given c.inner.new.self.history seats c.args.seat collects.next.within collects.next.there;
       patient = c.self.invariant.patient;
     }

@@ -6,7 +6,11 @@ use Rattle.locked_heap.specs.Progress.{progress_at}
 use Rattle.locked_heap.proofs.Calling.{left_on}
 use Rattle.locked_heap.proofs.Coming.{read_is}
 use Rattle.locked_heap.proofs.GivenRuns.{run_call}
+use Rattle.locked_heap.proofs.Parting.{parted_by, stands_still, none_further}
 use Rattle.locked_heap.proofs.locked.Locked.leave.Goals as goal
+
+pub invariant_of-self : goal.invariant_of-self
+invariant_of-self g c = stands_still g.N.Handed.given _ c.call.new.self c.self.inside.patience c.self.invariant c.in_err-call.ensures.still
 
 pub invariant_of-self-2 : goal.invariant_of-self-2
 invariant_of-self-2 g c =
@@ -20,5 +24,6 @@ invariant_of-self-2 g c =
       run = run_call g.N.Handed.given inside.recorder c.call.new.self c.self.invariant.run c.args.seat _ _ makes;
       come = left_on c.law_every_run.ensures.run g.N.Handed.given inside.recorder c.call.new.self inside.seats.items c.args.seat _ _ c.self.invariant.run c.self.invariant.come c.requires.within makes there through
           (ap (λ (p : Progress). record p { gone = true }) (sym read));
+      parted = parted_by g.N.Handed.given inside.recorder c.call.new.self _ c.args.seat _ makes;
       patient = c.self.invariant.patient;
     }

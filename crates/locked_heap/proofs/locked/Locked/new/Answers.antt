@@ -6,7 +6,7 @@ use Rattle.locked_heap.specs.Locked.{OpensAs}
 use Rattle.locked_heap.specs.Progress.{at_begin}
 use Rattle.locked_heap.specs.Recorded.{Recorded}
 use Rattle.locked_heap.proofs.Leading.{led_none}
-use Rattle.locked_heap.proofs.Opened.{all_opened}
+use Rattle.locked_heap.proofs.Opened.{all_opened, none_parted}
 use Rattle.locked_heap.proofs.locked.Locked.new.Goals as goal
 
 pub new-requires : goal.new-requires
@@ -16,6 +16,7 @@ pub invariant_of-result : goal.invariant_of-result
 invariant_of-result g c =
     let given = g.N.Handed.given in
     let machine = c.args.machine in
+    let begin = c.in_ok-vec.ensures.items_if_clones_equal (λ y same. same) ∙ ap (λ (h : Heap). replicate h.seats at_begin) (c.heap.ensures.heap ∙ c.requires.heap) in
     let limits = subst IsHeap (sym c.requires.heap) c.requires.given.limits in
     record {
       run = rw c.new.ensures (record {
@@ -24,7 +25,7 @@ invariant_of-result g c =
         led = led_none (OpensAs given) machine.heap machine.state _ limits (rw (c.requires.heap, c.requires.opening) c.requires.given.opens) refl c.requires.opening;
       });
       come = all_opened given c.new.result.machine.state c.new.result.history c.in_ok-vec.field-0.items c.requires.given (ap (λ (r : Recorded). r.machine.state) c.new.ensures ∙ c.requires.opening)
-          (ap (λ (r : Recorded). r.history) c.new.ensures)
-          (c.in_ok-vec.ensures.items_if_clones_equal (λ y same. same) ∙ ap (λ (h : Heap). replicate h.seats at_begin) (c.heap.ensures.heap ∙ c.requires.heap));
+          (ap (λ (r : Recorded). r.history) c.new.ensures) begin;
+      parted = none_parted given c.new.result.history c.in_ok-vec.field-0.items c.requires.given begin;
       patient = c.requires.patience;
     }

@@ -1,12 +1,27 @@
-use Rattle.std.proofs.Common.{◌+◌, sym, ap, subst, arith}
+use Rattle.std.proofs.Common.{◌+◌, refl, sym, ap, subst, ◌∙◌, arith}
 use Rattle.heap_model.specs.declared.command.Command.TheVariants.{Collect}
-use Rattle.core_machine.specs.declared.seat.looks.Looks.{Looks}
+use Rattle.core_machine.specs.machine.Machine.{seat_at}
+use Rattle.core_machine.specs.seat.Looks.{MayNote}
 use Rattle.locked_heap.specs.declared.progress.Progress.{Progress}
 use Rattle.locked_heap.specs.Locked.{LockedValue, IsNext}
+use Rattle.locked_heap.proofs.Calling.{can_look}
 use Rattle.locked_heap.proofs.Coming.{read_is}
 use Rattle.locked_heap.proofs.InnerCalls.{noted_on}
 use Rattle.locked_heap.proofs.GivenRuns.{run_inner}
+use Rattle.locked_heap.proofs.Parting.{not_parted_set, stands_still, none_further}
 use Rattle.locked_heap.proofs.locked.Locked.note.Goals as goal
+
+pub inner-requires : goal.inner-requires
+inner-requires g c =
+    let inside = c.self.inside in
+    let next : IsNext g.N.Handed.given inside.seats.items c.args.seat Collect = subst (λ (v : LockedValue). IsNext g.N.Handed.given v.seats c.args.seat Collect) (sym c.self.view_is) c.requires.next in
+    record {
+      can = can_look c.law_every_run.ensures.run g.N.Handed.given inside.recorder inside.seats.items c.args.seat c.self.invariant.run c.self.invariant.come next.within next.there _
+          (subst (λ (v : LockedValue). MayNote (seat_at v.recorded.machine.state c.args.seat).looks c.args.came) (sym c.self.view_is) c.requires.found);
+    }
+
+pub invariant_of-self : goal.invariant_of-self
+invariant_of-self g c = stands_still g.N.Handed.given _ c.inner.new.self c.self.inside.patience c.self.invariant c.in_err-inner.ensures.still
 
 pub invariant_of-self-2 : goal.invariant_of-self-2
 invariant_of-self-2 g c =
@@ -16,7 +31,11 @@ invariant_of-self-2 g c =
     let read = read_is inside.seats.items c.args.seat c.index-progress.result.now (omega (arith, next.within, c.self.invariant.come.seated)) c.index-progress.ensures in
     record {
       run = run_inner g.N.Handed.given inside.recorder c.inner.new.self c.self.invariant.run c.args.seat _ makes;
-      come = noted_on g.N.Handed.given inside.recorder c.inner.new.self inside.seats.items c.args.seat c.self.invariant.come c.args.self.now c.args.came _ (sym c.self.view_is) makes next c.requires.may
-          (ap (λ (p : Progress). p.place + 1) (sym read)) (ap (λ (p : Progress). p.gone) (sym read)) (ap (λ (l : Looks). l.waits) c.looks-finds.ensures);
+      come = noted_on g.N.Handed.given inside.recorder c.inner.new.self inside.seats.items c.args.seat c.self.invariant.come c.args.self.now _ _ c.args.came _ (sym c.self.view_is) makes next c.requires.may refl
+          (ap (λ (p : Progress). p.place + 1) (sym read)) (ap (λ (p : Progress). p.gone) (sym read)) (c.finds-finds.ensures ∙ ap (λ (v : LockedValue). (seat_at v.recorded.machine.state c.args.seat).looks.waits) (sym c.self.view_is));
+      parted = not_parted_set g.N.Handed.given c.inner.new.self.history inside.seats.items c.args.seat _ c.self.invariant.come.seated next.within (ap (λ (p : Progress). p.gone) (sym read) ∙ next.there);
       patient = c.self.invariant.patient;
     }
+
+pub returns-in_err-inner-clause-further : goal.returns-in_err-inner-clause-further
+returns-in_err-inner-clause-further g c = none_further _ _ c.args.seat (ap (λ (v : LockedValue). v.seats) c.self.view_is) (ap (λ (v : LockedValue). v.over) c.self.view_is)

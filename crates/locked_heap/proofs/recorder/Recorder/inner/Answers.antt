@@ -1,5 +1,6 @@
-use Rattle.std.proofs.Common.{◌-◌, List, length, drop, refl, ap, subst, ◌∙◌, arith}
+use Rattle.std.proofs.Common.{◌-◌, List, length, drop, refl, sym, ap, subst, ◌∙◌, arith}
 use Rattle.heap_model.specs.declared.entry.Entry.{Entry}
+use Rattle.core_machine.specs.machine.Machine.{BeginsInner, Can}
 use Rattle.core_machine.specs.machine.Value.{MachineValue, log_of}
 use Rattle.locked_heap.specs.contracts.recorder.Recorder.{the_view}
 use Rattle.locked_heap.specs.Recorded.{Recorded, AnyEvents, MakesInner}
@@ -28,6 +29,10 @@ makes c made =
       turns_stay = refl;
       last_stays = refl;
     })
+
+pub play_inner-requires-clause-can : goal.play_inner-requires-clause-can
+play_inner-requires-clause-can c =
+    rw c.room.ensures.same (subst (λ (v : Recorded). Can v.machine.heap v.machine.state (BeginsInner c.args.seat c.args.inner)) (sym c.self.view_is) c.requires.can)
 
 pub note_since-requires-clause-longer : goal.note_since-requires-clause-longer
 note_since-requires-clause-longer c = rw c.log-before.ensures (facts (goal.at.note_since-requires-clause-longer c).After-play_inner).longer

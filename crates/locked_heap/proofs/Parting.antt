@@ -1,0 +1,69 @@
+-- What stays of what is known under the lock, and that nothing is told behind the last leave.
+use Rattle.std.specs.Prelude.{slice_set}
+use Rattle.std.proofs.Common.{◌≡◌, ◌≢◌, ℕ, ◌+◌, ◌<◌, ◌≤◌, true, false, List, [], ◌∷◌, ◌++◌, length, refl, sym, ap, subst, ◌∙◌, append_assoc, arith}
+use Rattle.std.proofs.lemmas.List.{get_or-set_same, get_or-set_other}
+use Rattle.heap_model.specs.declared.command.Command.TheVariants.{Leave}
+use Rattle.heap_model.specs.declared.entry.Entry.{Entry}
+use Rattle.heap_model.specs.declared.entry.Entry.TheVariants.{Said}
+use Rattle.heap_model.specs.declared.reply.Reply.{Reply}
+use Rattle.locked_heap.specs.declared.progress.Progress.{Progress}
+use Rattle.locked_heap.specs.Given.{Given}
+use Rattle.locked_heap.specs.Locked.{LockedValue, AllGone, IsParted, SomeAreThere, StandsLocked, ComesOneFurther, beside_of}
+use Rattle.locked_heap.specs.Progress.{at_begin, progress_at}
+use Rattle.locked_heap.specs.Recorded.{Recorded, StandsStill, MakesCall}
+use Rattle.locked_heap.specs.Told.{EndsWithLeave}
+use Rattle.locked_heap.proofs.GivenRuns.{run_still}
+
+-- where a seat is there not all have left
+pub some_there : (given : Given) (seats : List Progress) (number : ℕ) → number < given.heap.seats → (progress_at seats number).gone ≡ false → SomeAreThere given seats
+some_there given seats number below there all = let gone = all number below in absurd (cc (gone, there))
+
+-- so there is no last leave yet
+pub not_parted : (given : Given) (told : List Entry) (seats : List Progress) → SomeAreThere given seats → IsParted given told seats
+not_parted given told seats some = record { behind_leave = λ all. absurd (some all) }
+
+pub not_parted_there : (given : Given) (told : List Entry) (seats : List Progress) (number : ℕ) → number < given.heap.seats → (progress_at seats number).gone ≡ false → IsParted given told seats
+not_parted_there given told seats number below there = not_parted given told seats (some_there given seats number below there)
+
+-- nor where such a seat has come further
+pub not_parted_set : (given : Given) (told : List Entry) (seats : List Progress) (number : ℕ) (next : Progress) → length seats ≡ given.heap.seats → number < given.heap.seats → next.gone ≡ false → IsParted given told (slice_set seats number next)
+not_parted_set given told seats number next seated below there =
+    not_parted_there given told (slice_set seats number next) number below (ap (λ (p : Progress). p.gone) (get_or-set_same seats number next at_begin (omega (arith, below, seated))) ∙ there)
+
+-- a leave is the last
+pub parted_by : (given : Given) (old new : Recorded) (seats : List Progress) (number : ℕ) (reply : Reply) → MakesCall old new number Leave reply → IsParted given new.history seats
+parted_by given old new seats number reply makes = record {
+  behind_leave = λ all. record { before = old.history ++ makes.call.before; number = number; reply = reply; last = makes.noted ∙ sym (append_assoc old.history makes.call.before (Said number Leave reply ∷ [])) };
+}
+
+-- where nothing happened all stands
+pub stands_still : (given : Given) (locked : LockedValue) (new : Recorded) (patience : ℕ) → StandsLocked given locked patience → StandsStill locked.recorded new → StandsLocked given (record locked { recorded = new }) patience
+stands_still given locked new patience stands still = record {
+  run = run_still given locked.recorded new stands.run still;
+  come = rw (still.history_stays, still.state_stays) stands.come;
+  parted = rw still.history_stays stands.parted;
+  patient = stands.patient;
+}
+
+-- and no seat has come further
+pub none_further : (old new : LockedValue) (number : ℕ) → new.seats ≡ old.seats → new.over ≡ old.over → ComesOneFurther old new number
+none_further old new number same over = record {
+  onward = rw same (omega arith);
+  few = rw same (omega arith);
+  gone_stays = λ gone. rw same gone;
+  others = λ other apart. rw same refl;
+  over_stays = over;
+}
+
+-- one seat has
+pub one_further : (old new : LockedValue) (number : ℕ) (next : Progress) → number < length old.seats → new.seats ≡ slice_set old.seats number next → new.over ≡ old.over
+    → (progress_at old.seats number).place ≤ next.place → next.place ≤ (progress_at old.seats number).place + 1 → ((progress_at old.seats number).gone ≡ true → next.gone ≡ true) → ComesOneFurther old new number
+one_further old new number next below is over onward few gone =
+    let here : progress_at new.seats number ≡ next = ap (λ (l : List Progress). progress_at l number) is ∙ get_or-set_same old.seats number next at_begin below in
+    record {
+      onward = omega (arith, ap (λ (p : Progress). p.place) here, onward);
+      few = omega (arith, ap (λ (p : Progress). p.place) here, few);
+      gone_stays = λ was. ap (λ (p : Progress). p.gone) here ∙ gone was;
+      others = λ other apart. ap (λ (l : List Progress). progress_at l other) is ∙ get_or-set_other old.seats number other next at_begin apart;
+      over_stays = over;
+    }
