@@ -1,3 +1,4 @@
+ghost use Rattle.std.specs.Prelude.{◌≡◌, []};
 ghost use Rattle.slack_pace.specs.Slack.{steady_turns};
 
 use crate::pace::{MOST_SLACK_TURNS, Pace};
@@ -8,6 +9,10 @@ pub struct Steady;
 
 impl Pace for Steady {
     ghost asks = { λ _ claimed. steady_turns claimed };
+
+    ghost kept = { λ _. [] };
+
+    ghost came = { λ _ _ kept. kept ≡ [] };
 
     fn turns(&mut self, claimed: u64) -> u64 {
         claimed

@@ -20,6 +20,7 @@ pub fn slack<C: CollectorCalls>(
 ) -> SlackDone
     requires { slack_room ≤ (C.state collector.old).spare }
     ensures asked { result.asked ≡ asks pace.old claimed }
+    ensures came { came pace.old claimed (kept pace.new) }
     ensures most { result.made ≤ result.asked }
     ensures fewer { result.made < result.asked → HasWaited result.last }
     ensures made { MakesTurns result.made (C.state collector.old) (C.state collector.new) }

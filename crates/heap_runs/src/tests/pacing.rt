@@ -11,10 +11,14 @@ use std::test::Fail;
 struct Fixed(u64);
 
 impl Pace for Fixed {
-    ghost use Rattle.std.specs.Prelude.{min};
+    ghost use Rattle.std.specs.Prelude.{◌≡◌, [], min};
     ghost use Rattle.slack_pace.specs.Slack.{most_slack_turns};
 
     ghost asks = { λ pace _. min most_slack_turns pace.0 };
+
+    ghost kept = { λ _. [] };
+
+    ghost came = { λ _ _ kept. kept ≡ [] };
 
     fn turns(&mut self, _claimed: u64) -> u64 {
         self.0.min(MOST_SLACK_TURNS)

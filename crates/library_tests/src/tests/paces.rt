@@ -15,9 +15,13 @@ mod short;
 struct Fixed(u64);
 
 impl Pace for Fixed {
-    ghost use Rattle.std.specs.Prelude.{min};
+    ghost use Rattle.std.specs.Prelude.{◌≡◌, [], min};
 
     ghost asks = { λ pace _. min most_slack_turns pace.0 };
+
+    ghost kept = { λ _. [] };
+
+    ghost came = { λ _ _ kept. kept ≡ [] };
 
     fn turns(&mut self, _claimed: u64) -> u64 {
         self.0.min(MOST_SLACK_TURNS)
