@@ -1,5 +1,5 @@
 -- A play with one line of its script more.
-use Rattle.std.proofs.Common.{◌≡◌, ◌≢◌, ℕ, ◌+◌, ◌<◌, ◌≤◌, ◌⊎◌, Bool, List, [], ◌∷◌, ◌++◌, length, inl, inr, refl, sym, ap, subst, ◌∙◌, arith}
+use Rattle.std.proofs.Common.{Option, ◌≡◌, ◌≢◌, ℕ, ◌+◌, ◌<◌, ◌≤◌, ◌⊎◌, List, [], ◌∷◌, ◌++◌, length, inl, inr, refl, sym, ap, subst, ◌∙◌, arith}
 use Rattle.std.proofs.lemmas.Bool.Decides.{eqb_tells}
 use Rattle.std.proofs.lemmas.List.Sums.{fold-append}
 use Rattle.std.proofs.lemmas.List.{get_or-replicate}
@@ -18,6 +18,8 @@ use Rattle.heap_runs.specs.Play.{AreTurns}
 use Rattle.heap_runs.specs.PlayHeap.{PlayState, seat_state_of}
 use Rattle.heap_runs.specs.Playing.{NotesCall, NotesSeatLine, NotesTurns, IsThere, DoesFew, IsPlaying}
 use Rattle.heap_runs.specs.Turning.{AddsTurns}
+use Rattle.locked_heap.specs.Recorded.{claimed_by}
+use Rattle.heap_runs.proofs.Slacking.{pace_adds}
 use Rattle.heap_runs.proofs.Told.{collect_stays}
 use Rattle.heap_runs.proofs.Following.{follows_call, follows_turns, follows_adds, turns_noted}
 
@@ -119,10 +121,11 @@ plays_adds heap old new before after calls adds noted plays = record {
 }
 
 -- after a seat's line
-pub plays_line : EachCallCounts → EachCallSparesOthers → (paced : Bool) (heap : Heap) (old new : PlayState) (before after : List Entry) (seat : ℕ) (command : Command)
-    → NotesSeatLine paced old new before after seat command → (calls : ℕ) → command ≢ Leave → IsPlaying heap old before calls → IsPlaying heap new after (calls + 1)
-plays_line counts others paced heap old new before after seat command notes calls stays plays =
-    plays_adds heap notes.now new notes.between after (calls + 1) notes.adds notes.noted (plays_call counts others heap old notes.now before notes.between seat command notes.call calls stays plays)
+pub plays_line : EachCallCounts → EachCallSparesOthers → (asks : Option (ℕ → ℕ)) (heap : Heap) (old new : PlayState) (before after : List Entry) (seat : ℕ) (command : Command)
+    → NotesSeatLine asks old new before after seat command → (calls : ℕ) → command ≢ Leave → IsPlaying heap old before calls → IsPlaying heap new after (calls + 1)
+plays_line counts others asks heap old new before after seat command notes calls stays plays =
+    let slack = pace_adds asks (claimed_by notes.call.added) notes.now new notes.between after notes.slack in
+    plays_adds heap notes.now new notes.between after (calls + 1) slack.adds slack.noted (plays_call counts others heap old notes.now before notes.between seat command notes.call calls stays plays)
 
 -- no line is answered yet
 pub plays_none : (heap : Heap) (state : PlayState) (history : List Entry) → state.heap ≡ heap → state.entries ≡ [] → history ≡ [] → IsPlaying heap state history 0

@@ -1,5 +1,5 @@
 -- What stands for the lines of a script, with one line more.
-use Rattle.std.proofs.Common.{◌≡◌, ℕ, Bool, List, [], ◌∷◌, ◌++◌, refl, sym, ap, subst, ◌∙◌, append_assoc, append-nil, arith}
+use Rattle.std.proofs.Common.{◌≡◌, ℕ, Bool, List, [], ◌∷◌, ◌++◌, refl, sym, ap, subst, ◌∙◌, append_assoc, append-nil, arith, Option, is_some}
 use Rattle.heap_model.specs.declared.command.Command.{Command}
 use Rattle.heap_model.specs.declared.command.TurnCommand.{TurnCommand}
 use Rattle.heap_model.specs.declared.entry.Entry.{Entry}
@@ -13,8 +13,10 @@ use Rattle.script_text.specs.declared.script.Line.{Line}
 use Rattle.script_text.specs.declared.script.Line.TheVariants as lines
 use Rattle.heap_runs.specs.Play.{ComesFirst, ComesInCollect, StandsForLine, StandForLines}
 use Rattle.heap_runs.specs.PlayHeap.{PlayState}
-use Rattle.heap_runs.specs.Playing.{NotesSeatLine, NotesTurns, Follows}
+use Rattle.heap_runs.specs.Playing.{NotesLine, NotesLines, NotesSeatLine, NotesTurns, Follows}
+use Rattle.locked_heap.specs.Recorded.{claimed_by}
 use Rattle.heap_runs.proofs.Serving.{serves_told}
+use Rattle.heap_runs.proofs.Slacking.{pace_adds}
 use Rattle.heap_runs.proofs.Told.{tells_call, noted_is}
 
 -- no line is answered yet
@@ -64,25 +66,26 @@ comes_same history number command reply told comes = record {
 }
 
 -- a seat's line
-pub call_stands : (paced : Bool) (heap : Heap) (old new : PlayState) (before after : List Entry) (number : ℕ) (command : Command) → NotesSeatLine paced old new before after number command
-    → Follows heap old before → AddsLine paced before after (lines.Seat number command)
-call_stands paced heap old new before after number command notes follows =
+pub call_stands : (asks : Option (ℕ → ℕ)) (paced : Bool) (heap : Heap) (old new : PlayState) (before after : List Entry) (number : ℕ) (command : Command) → is_some asks ≡ paced
+    → NotesSeatLine asks old new before after number command → Follows heap old before → AddsLine paced before after (lines.Seat number command)
+call_stands asks paced heap old new before after number command is notes follows =
     let call = notes.call in
+    let slack = pace_adds asks (claimed_by call.added) notes.now new notes.between after notes.slack in
     let tells = tells_call old notes.now number command call.reply call.answers in
     let more : List Entry = tells.before ++ entries.Said number command call.reply ∷ [] in
     let between : notes.between ≡ before ++ more = call.noted ∙ ap (λ (es : List Entry). before ++ es) (noted_is old notes.now before notes.between number command call tells) in
     record {
-      next = more ++ notes.adds.added;
+      next = more ++ slack.adds.added;
       stands = record {
         before = tells.before;
         reply = call.reply;
-        slack = notes.adds.added;
+        slack = slack.adds.added;
         comes = comes_same before number command call.reply tells.before (subst (λ (es : List Entry). ComesFirst es number command call.reply tells.before) (sym follows.same) tells.comes);
-        turned = notes.adds.turned;
-        unpaced = notes.none;
+        turned = slack.adds.turned;
+        unpaced = λ none. slack.none (is ∙ none);
         all = refl;
       };
-      noted = notes.noted ∙ ap (λ (es : List Entry). es ++ notes.adds.added) between ∙ append_assoc before more notes.adds.added;
+      noted = slack.noted ∙ ap (λ (es : List Entry). es ++ slack.adds.added) between ∙ append_assoc before more slack.adds.added;
     }
 
 -- a line for the collector
@@ -92,3 +95,10 @@ turns_stand paced old new before after command notes = record {
   stands = record { before = notes.added; reply = notes.reply; tells = serves_told old new notes.added notes.told command notes.reply notes.serves; all = refl };
   noted = notes.noted;
 }
+
+-- one line more is noted
+pub notes_more : (paced : Bool) (read : List Line) (line : Line) (old now new : PlayState) (before between after : List Entry) → NotesLines paced read old now before between → NotesLine paced now new between after line
+    → NotesLines paced (read ++ line ∷ []) old new before after
+notes_more paced [] line old now new before between after none notes =
+    (new, after, subst (λ (es : List Entry). NotesLine paced old new es after line) none.1 (subst (λ (s : PlayState). NotesLine paced s new between after line) none.0 notes), (refl, refl))
+notes_more paced (first ∷ read) line old now new before between after noted notes = (noted.0, noted.1, noted.2, notes_more paced read line noted.0 now new noted.1 between after noted.3 notes)

@@ -1,11 +1,13 @@
 -- What a line of a seat notes, with the turns of a pace behind it.
-use Rattle.std.proofs.Common.{◌≡◌, ℕ, zero, suc, ◌<◌, ◌≤◌, Bool, true, List, ◌++◌, Option, refl, sym, ap, subst, ◌∙◌, append-nil, arith}
+use Rattle.std.proofs.Common.{◌≡◌, ℕ, zero, suc, ◌<◌, ◌≤◌, Bool, false, is_some, option_map, List, [], ◌++◌, length, drop, Option, None, Some, refl, sym, ap, subst, ◌∙◌, append-nil, arith}
+use Rattle.std.proofs.Math.Seq.{drop-append_seam}
 use Rattle.heap_model.specs.declared.calls.collector_calls.Turn.{Turn}
 use Rattle.heap_model.specs.declared.command.Command.{Command}
 use Rattle.heap_model.specs.declared.entry.Entry.{Entry}
+use Rattle.locked_heap.specs.Recorded.{claimed_by}
 use Rattle.slack_pace.specs.Slack as slack
 use Rattle.heap_runs.specs.PlayHeap.{PlayState, collector_state_of}
-use Rattle.heap_runs.specs.Playing.{NotesCall, NotesSlack, NotesSeatLine}
+use Rattle.heap_runs.specs.Playing.{NotesCall, NotesSlack, NotesPace, NotesSeatLine}
 use Rattle.heap_runs.specs.Turning.{AddsTurns}
 use Rattle.heap_runs.proofs.TurnFacts.{turns_none}
 
@@ -32,12 +34,36 @@ slack_noted asked old now new before after made answered last same adds noted is
   counted = omega (arith, counted, ap (λ (s : PlayState). s.turns) same);
 }
 
-module _ (paced : Bool) (old now : PlayState) (before between : List Entry) (number : ℕ) (command : Command) (call : NotesCall old now before between number command) where
+-- what is made of a pace is there where the pace is
+pub some_mapped : {A B : Type 0} → (f : A → B) (pace : Option A) → is_some (option_map f pace) ≡ is_some pace
+some_mapped f None = refl
+some_mapped f (Some pace) = refl
+
+-- turns were added, and without a pace nothing
+pub record AddsSlack (paced : Bool) (old new : PlayState) (before after : List Entry) : Type 0 where
+  pub adds : AddsTurns old new
+  pub noted : after ≡ before ++ adds.added
+  pub none : paced ≡ false → adds.added ≡ []
+
+pub pace_adds : (asks : Option (ℕ → ℕ)) (claimed : ℕ) (old new : PlayState) (before after : List Entry) → NotesPace asks claimed old new before after → AddsSlack (is_some asks) old new before after
+pace_adds None claimed old new before after none = record {
+  adds = turns_none old new (ap (λ (s : PlayState). s.heap) none.0) (ap (λ (s : PlayState). s.entries) none.0);
+  noted = none.1 ∙ sym (append-nil before);
+  none = λ unpaced. refl;
+}
+pace_adds (Some asks) claimed old new before after notes = record { adds = notes.adds; noted = notes.noted; none = λ unpaced. absurd (cc unpaced) }
+
+module _ (old now : PlayState) (before between : List Entry) (number : ℕ) (command : Command) (call : NotesCall old now before between number command) where
   -- a call and no turns
-  pub bare_line : NotesSeatLine paced old now before between number command
-  bare_line = record { now = now; between = between; call = call; adds = turns_none now now refl refl; noted = sym (append-nil between); none = λ unpaced. refl }
+  pub bare_line : NotesSeatLine None old now before between number command
+  bare_line = record { now = now; between = between; call = call; slack = (refl, refl) }
+
+  -- what was claimed by the call
+  pub claimed_is : (claimed : ℕ) → claimed ≡ claimed_by (drop (length before) between) → claimed ≡ claimed_by call.added
+  claimed_is claimed is = is ∙ ap claimed_by (ap (drop (length before)) call.noted ∙ drop-append_seam before call.added)
 
   -- a call and turns
-  pub slack_line : (asked : ℕ) (new : PlayState) (after : List Entry) → paced ≡ true → NotesSlack asked now new between after → NotesSeatLine paced old new before after number command
-  slack_line asked new after with_pace notes =
-      record { now = now; between = between; call = call; adds = notes.adds; noted = notes.noted; none = λ unpaced. absurd (cc (sym with_pace ∙ unpaced)) }
+  pub slack_line : (asks : ℕ → ℕ) (claimed : ℕ) (new : PlayState) (after : List Entry) → claimed ≡ claimed_by call.added → NotesSlack (asks claimed) now new between after
+      → NotesSeatLine (Some asks) old new before after number command
+  slack_line asks claimed new after is notes =
+      record { now = now; between = between; call = call; slack = subst (λ (n : ℕ). NotesSlack (asks n) now new between after) is notes }

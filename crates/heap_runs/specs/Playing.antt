@@ -1,5 +1,5 @@
 -- A play that has answered some lines of its script, and one whose seats have left.
-use Rattle.std.specs.Prelude.{◌≡◌, ℕ, ◌<◌, ◌≤◌, ◌%◌, ◌==◌, Bool, true, false, List, [], ◌∷◌, ◌++◌, length}
+use Rattle.std.specs.Prelude.{◌≡◌, ℕ, ◌<◌, ◌≤◌, ◌%◌, ◌==◌, Bool, true, false, List, [], ◌∷◌, ◌++◌, length, Option, None, Some, is_some}
 use Rattle.std.specs.List.{flat_map, range_with_len}
 use Rattle.heap_model.specs.declared.heap.Heap.{Heap}
 use Rattle.heap_model.specs.declared.command.Command.{Command}
@@ -13,6 +13,9 @@ use Rattle.heap_model.specs.account.PhaseCounts.{phase, has_left}
 use Rattle.heap_model.specs.account.Turned.{without_turned, AllAnswerRightly}
 use Rattle.heap_model.specs.calls.SeatCalls.{leave_entries}
 use Rattle.heap_model.specs.calls.SeatState.{own_graph_seat}
+use Rattle.script_text.specs.declared.script.Line.{Line}
+use Rattle.script_text.specs.declared.script.Line.TheVariants as lines
+use Rattle.locked_heap.specs.Recorded.{claimed_by}
 use Rattle.heap_runs.specs.Play.{ReachesCycleEnd, IsLastCycle}
 use Rattle.heap_runs.specs.PlayHeap.{PlayState, seat_state_of, AnswersCall}
 use Rattle.heap_runs.specs.Turning.{ServesCommand, AddsTurns, TurnsRiseBy}
@@ -35,14 +38,17 @@ pub record NotesSlack (asked : ℕ) (old new : PlayState) (before after : List E
   pub fewer : made < asked → HasWaited new.last_turn
   pub counted : TurnsRiseBy old new made
 
--- the call was made and noted, and with a pace turns behind it
-pub record NotesSeatLine (paced : Bool) (old new : PlayState) (before after : List Entry) (number : ℕ) (command : Command) : Type 0 where
+-- with a pace the turns that it asks for by what was claimed were made, or those up to the first that waited, and noted; without one nothing happened
+abbrev pub NotesPace : Option (ℕ → ℕ) → ℕ → PlayState → PlayState → List Entry → List Entry → Type 0
+NotesPace None claimed old new before after = (new ≡ old) × (after ≡ before)
+NotesPace (Some asks) claimed old new before after = NotesSlack (asks claimed) old new before after
+
+-- the call was made and noted, and behind it what its pace, if there is one, asked for by what the call claimed
+pub record NotesSeatLine (asks : Option (ℕ → ℕ)) (old new : PlayState) (before after : List Entry) (number : ℕ) (command : Command) : Type 0 where
   pub now : PlayState
   pub between : List Entry
   pub call : NotesCall old now before between number command
-  pub adds : AddsTurns now new
-  pub noted : after ≡ between ++ adds.added
-  pub none : paced ≡ false → adds.added ≡ []
+  pub slack : NotesPace asks (claimed_by call.added) now new between after
 
 -- the turns were made, and their entries are noted behind those from before, and what the command was answered behind them
 pub record NotesTurns (old new : PlayState) (before after : List Entry) (command : TurnCommand) : Type 0 where
@@ -51,6 +57,16 @@ pub record NotesTurns (old new : PlayState) (before after : List Entry) (command
   pub added : List Entry
   pub told : new.entries ≡ old.entries ++ added
   pub noted : after ≡ before ++ (added ++ Turned command reply ∷ [])
+
+-- the line was answered: a seat's with what a pace asked for, where there is one
+abbrev pub NotesLine : Bool → PlayState → PlayState → List Entry → List Entry → Line → Type 0
+NotesLine paced old new before after (lines.Seat number command) = (asks : Option (ℕ → ℕ)) × (is_some asks ≡ paced) × NotesSeatLine asks old new before after number command
+NotesLine paced old new before after (lines.Turns command) = NotesTurns old new before after command
+
+-- so were these lines, one after another
+abbrev pub NotesLines : Bool → List Line → PlayState → PlayState → List Entry → List Entry → Type 0
+NotesLines paced [] old new before after = (new ≡ old) × (after ≡ before)
+NotesLines paced (line ∷ more) old new before after = (now : PlayState) × (between : List Entry) × NotesLine paced old now before between line × NotesLines paced more now new between after
 
 -- the history has the heap's entries, and between them what the collector's commands were answered, each rightly
 pub record Follows (heap : Heap) (state : PlayState) (history : List Entry) : Type 0 where

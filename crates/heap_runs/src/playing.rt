@@ -1,9 +1,9 @@
-ghost use Rattle.std.specs.Prelude.{◌≡◌, true, [], length, is_some, IfOk, OnOk};
+ghost use Rattle.std.specs.Prelude.{◌≡◌, true, [], length, is_some, option_map, IfOk, OnOk};
 ghost use Rattle.script_text.specs.declared.script.Form.TheVariants.{Play};
 ghost use Rattle.script_text.specs.Writing.{IsOfForm};
 ghost use Rattle.heap_runs.specs.Play.{IsPlay, StandForLines};
 ghost use Rattle.heap_runs.specs.PlayHeap.{MayCall};
-ghost use Rattle.heap_runs.specs.Playing.{NotesSeatLine, IsPlaying, HaveLeft, AllHaveLeft, NotesLastCycle};
+ghost use Rattle.heap_runs.specs.Playing.{NotesSeatLine, NotesLines, IsPlaying, HaveLeft, AllHaveLeft, NotesLastCycle};
 
 use crate::play_heap::PlayHeap;
 use crate::playing::noting::{note_call, note_cycle, note_slack, note_turns};
@@ -29,7 +29,7 @@ fn answer_seat_line<H: PlayHeap + Drop>(
     pace: &mut Option<Box<dyn Pace>>,
 ) -> Result<H, Memory>
     requires { MayCall (H.state whole) seat command.now }
-    ensures notes { IfOk result (λ now. NotesSeatLine (is_some pace.old) (H.state whole) (H.state now) history.old.items history.new.items seat command.now) }
+    ensures notes { IfOk result (λ now. NotesSeatLine (option_map (λ pace. asks pace) pace.old) (H.state whole) (H.state now) history.old.items history.new.items seat command.now) }
     ensures pace { is_some pace.new ≡ is_some pace.old }
 {
     let claimed = note_call(&mut whole, history, seat, command)?;
@@ -52,6 +52,7 @@ fn answer_lines<H: PlayHeap + Drop>(
     requires fresh { (H.state whole).entries ≡ [] }
     requires nothing { history.old.items ≡ [] }
     ensures plays { IfOk result (λ now. IsPlaying script.now.heap (H.state now) history.new.items (length script.now.lines)) }
+    ensures notes { IfOk result (λ now. NotesLines (is_some pace) script.now.lines (H.state whole) (H.state now) history.old.items history.new.items) }
     ensures answered { OnOk result (StandForLines (is_some pace) [] script.now.lines history.new.items) }
 {
     account_laws();

@@ -1,9 +1,9 @@
-use Rattle.std.proofs.Common.{◌<◌, ◌∙◌, length, take, is_some, refl, subst, arith}
+use Rattle.std.proofs.Common.{◌<◌, ◌∙◌, length, take, is_some, refl, arith}
 use Rattle.script_text.specs.declared.script.Line.TheVariants as lines
 use Rattle.heap_runs.specs.PlayHeap.{PlayState}
-use Rattle.heap_runs.specs.Playing.{NotesSeatLine}
 use Rattle.heap_runs.proofs.Answering.{plays_line, plays_none, plays_turns}
-use Rattle.heap_runs.proofs.Lines.{call_stands, lines_then, no_lines, turns_stand}
+use Rattle.heap_runs.proofs.Lines.{call_stands, lines_then, no_lines, notes_more, turns_stand}
+use Rattle.heap_runs.proofs.Slacking.{some_mapped}
 use Rattle.heap_runs.proofs.NextLine.{next_call, read_more}
 use Rattle.heap_runs.proofs.playing.answer_lines.Goals as goal
 use Rattle.heap_runs.proofs.playing.answer_lines.Goals.{in-Seat+in_ok-whole-in-Seat, in-Turns+in_ok-note_turns-in-Turns}
@@ -11,6 +11,7 @@ use Rattle.heap_runs.proofs.playing.answer_lines.Goals.{in-Seat+in_ok-whole-in-S
 pub loop-line-init : goal.loop-line-init
 loop-line-init g c = record {
   plays = plays_none c.args.script.now.heap (g.H.PlayHeap.state c.args.whole) c.args.history.now.items c.requires.heap c.requires.fresh c.requires.nothing;
+  notes = (refl, refl);
   answered = no_lines (is_some c.args.pace) c.args.history.now.items c.requires.nothing;
   pace = refl;
 }
@@ -31,18 +32,21 @@ loop-line-preserved g c =
     let below : now.line-index < length items = omega (arith, c.loop-line-test.true) in
     let laws = c.seat_laws.ensures in
     let paced = is_some c.args.pace in
+    let first : PlayState = g.H.PlayHeap.state c.args.whole in
     elim c.match-line.branch [
       | in-Seat+in_ok-whole-in-Seat w ↦
           let line = w.in-Seat in
           let new : PlayState = g.H.PlayHeap.state w.in_ok-whole-in-Seat.whole in
           let after = w.answer_seat_line.new.history.items in
-          let notes = subst (λ p. NotesSeatLine p old new now.history.items after line.seat line.command) now.invariant.pace w.in_ok-whole-in-Seat.ensures.notes in
+          let notes = w.in_ok-whole-in-Seat.ensures.notes in
+          let is = some_mapped _ now.pace ∙ now.invariant.pace in
           let next = next_call script items now.line-index _ line.seat line.command old now.history.items all c.requires.form below line.is now.invariant.plays in
           rw (w.whole-is, w.history-is, w.pace-is, read_more script items now.line-index _ (lines.Seat line.seat line.command) all c.requires.form below line.is)
           (record {
-            plays = plays_line laws.counts laws.others paced script.heap old new now.history.items after line.seat line.command notes now.line-index next.stays now.invariant.plays;
+            plays = plays_line laws.counts laws.others _ script.heap old new now.history.items after line.seat line.command notes now.line-index next.stays now.invariant.plays;
+            notes = notes_more paced (take now.line-index items) (lines.Seat line.seat line.command) first old new c.args.history.now.items now.history.items after now.invariant.notes (_, is, notes);
             answered = lines_then paced (take now.line-index items) (lines.Seat line.seat line.command) now.history.items after now.invariant.answered
-                (call_stands paced script.heap old new now.history.items after line.seat line.command notes now.invariant.plays.follows);
+                (call_stands _ paced script.heap old new now.history.items after line.seat line.command is notes now.invariant.plays.follows);
             pace = w.in_ok-whole-in-Seat.ensures.pace ∙ now.invariant.pace;
           })
       | in-Turns+in_ok-note_turns-in-Turns w ↦
@@ -53,6 +57,7 @@ loop-line-preserved g c =
           rw (w.whole-is, w.history-is, w.pace-is, read_more script items now.line-index _ (lines.Turns line.command) all c.requires.form below line.is)
           (record {
             plays = plays_turns c.account_laws.ensures.behind script.heap old new now.history.items after line.command notes now.line-index now.invariant.plays;
+            notes = notes_more paced (take now.line-index items) (lines.Turns line.command) first old new c.args.history.now.items now.history.items after now.invariant.notes notes;
             answered = lines_then paced (take now.line-index items) (lines.Turns line.command) now.history.items after now.invariant.answered
                 (turns_stand paced old new now.history.items after line.command notes);
             pace = now.invariant.pace;

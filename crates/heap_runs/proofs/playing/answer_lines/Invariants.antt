@@ -1,12 +1,13 @@
 use Rattle.std.proofs.Common.{◌≡◌, [], take, is_some}
 use Rattle.heap_runs.specs.Play.{StandForLines}
-use Rattle.heap_runs.specs.Playing.{IsPlaying}
+use Rattle.heap_runs.specs.Playing.{IsPlaying, NotesLines}
 use Rattle.heap_runs.proofs.playing.answer_lines.Given as goal
 
 -- the lines so far are answered
 abbrev pub invariant-loop-line : goal.invariant-loop-line
 invariant-loop-line g l = record {
   plays : IsPlaying l.script.heap (g.H.PlayHeap.state l.whole) l.history.items l.line-index;
+  notes : NotesLines (is_some l.fn.pace) (take l.line-index l.line-items) (g.H.PlayHeap.state l.fn.whole) (g.H.PlayHeap.state l.whole) l.fn.history.items l.history.items;
   answered : StandForLines (is_some l.fn.pace) [] (take l.line-index l.line-items) l.history.items;
   pace : is_some l.pace ≡ is_some l.fn.pace;
 }

@@ -19,7 +19,13 @@ pub struct Asked {
 struct Telling(Arc<Asked>);
 
 impl Pace for Telling {
+    ghost use Rattle.std.specs.Prelude.{◌≡◌, []};
+
     ghost asks = { λ _ _. 16 };
+
+    ghost kept = { λ _. [] };
+
+    ghost came = { λ _ _ kept. kept ≡ [] };
 
     fn turns(&mut self, claimed: u64) -> u64 {
         self.0.claimed.fetch_add(claimed, Ordering::SeqCst);
