@@ -1,12 +1,14 @@
 -- What contracts see of the heap under the lock.
-use Rattle.std.specs.Prelude.{◌≡◌, ◌≢◌, ℕ, ◌+◌, ◌-◌, ◌*◌, ◌^◌, ◌<◌, ◌≤◌, ◌⊎◌, Bool, true, false, min, List, ◌∷◌, [], ◌++◌, length, drop, slice_get, Some, None}
+use Rattle.std.specs.Prelude.{◌≡◌, ◌≢◌, ℕ, ◌+◌, ◌-◌, ◌*◌, ◌^◌, ◌<◌, ◌≤◌, ◌⊎◌, ◌==◌, if◌then◌else◌, Bool, true, false, min, List, ◌∷◌, [], ◌++◌, length, drop, slice_get, Some, None}
 use Rattle.std.specs.List.{AllByRecursion}
 use Rattle.heap_model.specs.declared.command.Command.{Command}
 use Rattle.heap_model.specs.declared.command.Command.TheVariants.{Collect}
 use Rattle.heap_model.specs.declared.calls.collect.CollectReply.{CollectReply}
 use Rattle.heap_model.specs.declared.calls.collect.CollectReply.TheVariants.{Cycle, Waits}
 use Rattle.heap_model.specs.declared.calls.collect.Inner.{Inner}
-use Rattle.heap_model.specs.declared.calls.collect.Inner.TheVariants.{Note}
+use Rattle.heap_model.specs.declared.calls.collect.Inner.TheVariants.{Look, Answer, Behind, Note}
+use Rattle.heap_model.specs.declared.calls.collector_calls.Turn.{Turn}
+use Rattle.heap_model.specs.declared.calls.collector_calls.Turn.TheVariants as turns
 use Rattle.heap_model.specs.declared.entry.Entry.{Entry}
 use Rattle.heap_model.specs.declared.entry.Entry.TheVariants.{Ends, Said}
 use Rattle.heap_model.specs.declared.heap.Heap.{Heap}
@@ -15,14 +17,14 @@ use Rattle.heap_model.specs.account.Noting.{is_collectors}
 use Rattle.heap_model.specs.account.PhaseCounts.{phase}
 use Rattle.heap_model.specs.account.Space.{total}
 use Rattle.heap_model.specs.calls.CollectorCalls.{CollectorState}
-use Rattle.core_machine.specs.machine.Machine.{State, seat_at, Event}
+use Rattle.core_machine.specs.machine.Machine.{State, seat_at, Event, BeginsInner, Can}
 use Rattle.core_machine.specs.declared.seat.looks.FoundBehind.{FoundBehind}
 use Rattle.core_machine.specs.seat.Looks.{noted_reply}
 use Rattle.slack_pace.specs.Slack.{MakesTurns, last_made, HasWaited}
 use Rattle.locked_heap.specs.declared.progress.Progress.{Progress}
 use Rattle.locked_heap.specs.Given.{Given, IsGiven, script_of}
 use Rattle.locked_heap.specs.Progress.{progress_at, HasCome}
-use Rattle.locked_heap.specs.Recorded.{Recorded, EventsLeadTo, collector_of}
+use Rattle.locked_heap.specs.Recorded.{Recorded, EventsLeadTo, StandsStill, MakesInner, MakesTurn, collector_of}
 use Rattle.locked_heap.specs.Told.{EndsWithLeave}
 
 -- they lead from the opening that was given
@@ -137,6 +139,25 @@ pub record TellsAnswer (old new : LockedValue) (number : ℕ) (came : CollectRep
 abbrev pub AnswersWait : Given → LockedValue → LockedValue → ℕ → Type 0
 AnswersWait given old new number = IsPatient given old number → (found : FoundBehind) → (seat_at old.recorded.machine.state number).looks.behind ≡ Some found
     → TellsAnswer old new number (Waits found.seat found.answered found.phase)
+
+-- the inner call by which the seat finds out what a turn of its collect came to: it answers the phase, or looks whether the other seat is behind, or how far the phase has come
+abbrev pub found_by_turn : ℕ → Turn → Inner
+found_by_turn number (turns.Waits other answered p) = if other == number then Answer else Behind other
+found_by_turn number _ = Look
+
+-- one turn was made for the seat's collect, the seat has found out what that came to, and the collect is answered where this answers it: first that its cycle has ended, and
+-- only else that it waits
+pub record CollectsOn (given : Given) (old new : LockedValue) (number target : ℕ) : Type 0 where
+  pub ready : Recorded
+  pub still : StandsStill old.recorded ready
+  pub turned : LockedValue
+  pub turn : Turn
+  pub turns : MakesTurn ready turned.recorded turn
+  pub found : LockedValue
+  pub finds : Can turned.recorded.machine.heap turned.recorded.machine.state (BeginsInner number (found_by_turn number turn))
+      → MakesInner turned.recorded found.recorded number (found_by_turn number turn)
+  pub ended : HasSeenEnd found number target → TellsAnswer found new number (Cycle target)
+  pub waits : ¬ HasSeenEnd found number target → AnswersWait given found new number
 
 -- not more turns were made than these, one after another, and fewer only where the last waits; nothing is owed then
 pub record MakesSlack (asked : ℕ) (old new : LockedValue) : Type 0 where

@@ -1,9 +1,9 @@
-ghost use Rattle.std.specs.Prelude.{◌≡◌, ◌+◌, ◌*◌, ◌<◌, ◌≤◌, ◌↔◌, IsTrue, Some, None, OnOk};
+ghost use Rattle.std.specs.Prelude.{◌≡◌, ◌+◌, ◌*◌, ◌<◌, ◌≤◌, ◌↔◌, ℕ, IsTrue, Some, None, OnOk};
 ghost use Rattle.heap_model.specs.declared.calls.collect.CollectReply.TheVariants.{Cycle};
 ghost use Rattle.heap_model.specs.declared.command.Command.TheVariants.{Collect};
 ghost use Rattle.core_machine.specs.machine.Machine.{BeginsInner, Can, seat_at};
 ghost use Rattle.core_machine.specs.seat.Looks.{MayNote};
-ghost use Rattle.locked_heap.specs.Locked.{IsNext, IsCollecting, ComesOneFurther, IsQuiet, IsPatient, MayAnswer, HasSeenEnd, TellsAnswer, AnswersWait};
+ghost use Rattle.locked_heap.specs.Locked.{IsNext, IsCollecting, ComesOneFurther, IsQuiet, IsPatient, MayAnswer, HasSeenEnd, TellsAnswer, AnswersWait, found_by_turn, CollectsOn};
 ghost use Rattle.locked_heap.specs.Progress.{progress_at};
 ghost use Rattle.locked_heap.specs.Recorded.{MakesInner};
 
@@ -23,6 +23,22 @@ pub fn next_whole_cycle(phase: u64) -> u64
         phase / CYCLE_PHASES
     } else {
         phase / CYCLE_PHASES + 1
+    }
+}
+
+/// The inner call by which the seat finds out what a turn of its collect came to.
+fn found_by_turn(seat: u8, turn: Turn) -> Inner
+    ensures { result ≡ found_by_turn seat turn }
+{
+    match turn {
+        Turn::Waits { seat: other, .. } => {
+            if other == seat {
+                Inner::Answer
+            } else {
+                Inner::Behind { seat: other }
+            }
+        }
+        Turn::Stepped | Turn::Ended { .. } => Inner::Look,
     }
 }
 
@@ -158,6 +174,8 @@ impl<N: Handed> Locked<N> {
     /// Goes on with the seat's collect, which is its next command: begins it, or makes one turn for it.
     pub fn collect(&mut self, seat: u8) -> Result<(), Memory>
         requires { IsNext N.given self.old.seats seat Collect }
+        ensures begins { (progress_at self.old.seats seat).target ≡ None → OnOk result (IsCollecting N.given self.new.seats seat) }
+        ensures goes_on { (target : ℕ) → (progress_at self.old.seats seat).target ≡ Some target → OnOk result (CollectsOn N.given self.old self.new seat target) }
         ensures further { ComesOneFurther self.old self.new seat }
         ensures owed { self.new.owed ≡ self.old.owed }
     {
@@ -165,12 +183,8 @@ impl<N: Handed> Locked<N> {
             return self.begin_collect(seat);
         };
         self.room(2)?;
-        let found = match self.turn() {
-            Turn::Waits { seat: other, .. } if other == seat => Inner::Answer,
-            Turn::Waits { seat: other, .. } => Inner::Behind { seat: other },
-            Turn::Stepped | Turn::Ended { .. } => Inner::Look,
-        };
-        self.inner(seat, found)?;
+        let turn = self.turn();
+        self.inner(seat, found_by_turn(seat, turn))?;
         self.answer(seat, target)
     }
 }
