@@ -33,7 +33,7 @@ finds_in heap state [] number = 0
 finds_in heap state (event ∷ events) number = (if is_find heap state number event then 1 else 0) + finds_in heap (state_after heap state event) events number
 
 -- after every run from the opening a seat's count is how often it found another one behind, as far as 64 bits count
-abbrev pub WaitsAreFinds : Type 0
+unfoldable pub WaitsAreFinds : Type 0
 WaitsAreFinds = (heap : Heap) (opening : State) (events : List Event) (number : ℕ) → IsHeap heap → IsOpening heap opening → Run heap opening events → number < heap.seats
     → (seat_at (state_after_all heap opening events) number).looks.waits ≡ min (finds_in heap opening events number) (2 ^ 64 - 1)
 
@@ -63,6 +63,6 @@ pub record FollowsSteps (heap : Heap) (state : State) (step : Option Step) (old 
   pub seen : new.seen ≡ loaded_by heap state old.seen step
 
 -- so it is by each event that may happen in a state that a book stands for
-abbrev pub EachEventIsFollowed : Type 0
+unfoldable pub EachEventIsFollowed : Type 0
 EachEventIsFollowed = (heap : Heap) (state : State) (book : Book) (event : Event) (number : ℕ) → Stands heap state book → Can heap state event → number < heap.seats
     → FollowsSteps heap state (step_made heap state number event) (seat_at state number).looks (seat_at (state_after heap state event) number).looks

@@ -21,12 +21,14 @@ use Rattle.core_machine.specs.declared.seat.looks.Looks.{Looks}
 use Rattle.core_machine.specs.declared.step.Step.{Step}
 use Rattle.core_machine.specs.declared.step.Step.TheVariants.{PollLoad, Turning}
 use Rattle.core_machine.specs.declared.step.TurningStep.TheVariants.{LookLoad}
-use Rattle.core_machine.specs.machine.Machine.{State, seat_at, found_by, Begins, BeginsInner, Steps, Turns, after_begin, after_inner_begin, state_after_due, state_after}
+use Rattle.core_machine.specs.machine.Machine.{State, seat_at, found_by, Event, Begins, BeginsInner, Steps, Turns, Can, after_begin, after_inner_begin, state_after_due, state_after}
 use Rattle.core_machine.specs.Moves.{Move, move_at, access_move, next_move, due_step, is_last_birth, last_birth_move, birth_move, refusal_step, refusal_looks}
 use Rattle.core_machine.specs.seat.Access.{meta_reply_of, after_meta, after_get, after_old_load}
 use Rattle.core_machine.specs.seat.Handshake.{answer_next, polling_over}
 use Rattle.core_machine.specs.seat.Looks.{forgotten, compared, found_behind}
 use Rattle.core_machine.specs.seat.Seat.{Seat, with_seen, spine_need, absent_seat}
+use Rattle.core_rule.specs.Book.{Book}
+use Rattle.core_rule.specs.Stands.{Stands}
 use Rattle.core_rule.specs.Finds.{CountsFind, FollowsSteps, step_made, EachEventIsFollowed}
 use Rattle.core_rule.proofs.entries.PhasesTold.{over_cases}
 use Rattle.core_rule.proofs.looks.Ways.{StaysFound, stays_claim, stays_budget, stays_walk, stays_length, begin_stays}
@@ -190,17 +192,23 @@ module _ (heap : Heap) (state : State) where
   other_step number other apart (Some move) = ap (λ (s : Seat). s.looks) (other_same number other _ apart)
 
 -- each event is followed
-pub each_event_is_followed : EachEventIsFollowed
-each_event_is_followed heap state book (Begins other command) number stands can below =
+pub event_follows : (heap : Heap) (state : State) (book : Book) (event : Event) (number : ℕ) → Stands heap state book → Can heap state event → number < heap.seats
+    → FollowsSteps heap state (step_made heap state number event) (seat_at state number).looks (seat_at (state_after heap state event) number).looks
+event_follows heap state book (Begins other command) number stands can below =
     let seat : Seat = seat_at state other in
     unmoved heap state _ _ (same_looks heap state number other (after_begin heap seat command) can.0 (begin_stays heap seat command can.1.idle).looks)
-each_event_is_followed heap state book (BeginsInner other inner) number stands can below =
+event_follows heap state book (BeginsInner other inner) number stands can below =
     unmoved heap state _ _ (same_looks heap state number other (after_inner_begin (seat_at state other) inner) can.0 refl)
-each_event_is_followed heap state book (Steps other) number stands can below =
+event_follows heap state book (Steps other) number stands can below =
     elim (eqb_tells number other) as (λ _. FollowsSteps heap state (step_made heap state number (Steps other)) (seat_at state number).looks (seat_at (state_after heap state (Steps other)) number).looks) [
       | inl same ↦ rw same.0 (subst (λ n. FollowsSteps heap state (due_step heap number (seat_at state number)) (seat_at state number).looks (seat_at (state_after heap state (Steps n)) number).looks) same.1
           (own_step heap state number (rw stands.rule.machine.seated below) (next_move heap number (seat_at state number))
           (follows_at heap state number (seat_at state number) (stands.looks number below).compares (seat_at state number).place refl)))
       | inr apart ↦ rw apart.0 (unmoved heap state _ _ (other_step heap state number other apart.0 (next_move heap other (seat_at state other))))
     ]
-each_event_is_followed heap state book Turns number stands can below = unmoved heap state _ _ refl
+event_follows heap state book Turns number stands can below = unmoved heap state _ _ refl
+
+-- which the law says
+pub each_event_is_followed : EachEventIsFollowed
+unfolding EachEventIsFollowed
+each_event_is_followed = event_follows

@@ -3,6 +3,7 @@
 mod arrays;
 mod barrier;
 mod calls;
+mod collects;
 mod copying;
 mod fields;
 mod making;

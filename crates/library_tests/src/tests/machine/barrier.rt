@@ -123,7 +123,7 @@ const AROUND_THE_SWEEP: &[&str] = &[
     "control 0 => 1fff1fff1fffffff at 19",
     "c step => look 0 found 6",
     "c step => clear 0 found 1fff1fff1fffffff",
-    "c step => end 7 found 6; c ends 0 kept 16",
+    "c step => end 7 kept 16 found 6; c ends 0 kept 16",
 ];
 
 #[test]

@@ -5,7 +5,7 @@ ghost use Rattle.heap_model.specs.Needs.{need_of};
 ghost use Rattle.core_machine.specs.table.Layout.{InTable};
 
 use core_machine::{Address, Machine, Step};
-use heap_model::{Command, Entry, Heap, Reply, Turn};
+use heap_model::{Command, Entry, Heap, Inner, Reply, Turn};
 use std::alloc::Global;
 use std::test::Fail;
 
@@ -44,6 +44,24 @@ pub(super) fn begin(machine: &mut Machine, seat: u8, command: &Command) -> Resul
     machine.room(seat, room_for(command))?;
     machine.begin(seat, *command);
     Ok(true)
+}
+
+/// Whether the seat's inner call may be begun; where it may, it is made.
+pub(super) fn inner(machine: &mut Machine, seat: u8, inner: Inner) -> Result<bool, Fail> {
+    if !machine.may_begin_inner(seat, &inner) {
+        return Ok(false);
+    }
+    machine.room(seat, 4)?;
+    machine.play_inner(seat, inner);
+    Ok(true)
+}
+
+/// The phase that the seat loaded last.
+pub(super) fn seen(machine: &Machine, seat: u8) -> Result<u64, Fail> {
+    if seat >= machine.heap().seats {
+        return Err("no such seat".into());
+    }
+    Ok(machine.looks(seat).seen)
 }
 
 /// The party's due step.

@@ -61,7 +61,7 @@ const COPIED: &[&str] = &[
     "0 poll => 0 answers 5; 0 poll = 5",
     "c steps 3 => advance 6 found 5; c phase 6",
     "0 poll => 0 answers 6; 0 poll = 6",
-    "c steps 3 => end 7 found 6; c ends 0 kept 16",
+    "c steps 3 => end 7 kept 16 found 6; c ends 0 kept 16",
     "0 nil 1 => 0 nil 1 = ok",
     "three phases more",
     "c steps 78 => group 0 found 7ff07ff3fffffff",

@@ -1,7 +1,7 @@
 //! How the lines of a trial are read.
 
 use core_machine::Address;
-use heap_model::Command;
+use heap_model::{CollectReply, Command, Inner};
 use script_text::{Form, Line, read_script};
 use std::alloc::Global;
 use std::test::Fail;
@@ -49,6 +49,23 @@ pub(super) fn command_of(alloc: Global, words: &str) -> Result<Command, Fail> {
     match script.lines.as_slice().first() {
         Some(Line::Seat { command, .. }) => Ok(*command),
         _ => Err("no command".into()),
+    }
+}
+
+/// The inner call of a collect that these words name.
+pub(super) fn inner_of(words: &str) -> Option<Inner> {
+    match words {
+        "look" => return Some(Inner::Look),
+        "answer" => return Some(Inner::Answer),
+        _ => (),
+    }
+    let (kind, number) = words.split_once(' ')?;
+    match kind {
+        "behind" => Some(Inner::Behind {
+            seat: number.parse().ok()?,
+        }),
+        "cycle" => Some(Inner::Note(CollectReply::Cycle(number.parse().ok()?))),
+        _ => None,
     }
 }
 

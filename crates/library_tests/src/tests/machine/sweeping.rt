@@ -57,7 +57,7 @@ const TWO_CYCLES: &[&str] = &[
     "c step => look 0 found 6",
     "c step => clear 0 found fff0fff0fff8fff",
     "control 0 => fff8fff at 19",
-    "c step => end 7 found 6; c ends 0 kept 13",
+    "c step => end 7 kept 13 found 6; c ends 0 kept 13",
     "phase => 7",
     "c turn => waits for 0 at 6 of 7",
     "0 new 3 5 => 0 takes 3; 0 new 3 5 = 0.2",
@@ -159,7 +159,7 @@ const TWO_GROUPS: &[&str] = &[
     "c step => clear 1 found 200020002fffa",
     "control 0 => 7ff07ff at 19",
     "control 1 => 2fffa at 20",
-    "c step => end 7 found 6; c ends 0 kept 25",
+    "c step => end 7 kept 25 found 6; c ends 0 kept 25",
     "phase => 7",
 ];
 
@@ -208,7 +208,7 @@ const A_LEAVE: &[&str] = &[
     "c steps 2 => look 1 found ffffffffffffffff",
     "c step => clear 0 found fff0fff0fff0fff",
     "control 0 => fff0fff at 19",
-    "c step => end 7 found 6; c ends 0 kept 12",
+    "c step => end 7 kept 12 found 6; c ends 0 kept 12",
     "phase => 7",
     "c turn => waits for 0 at 6 of 7",
     "0 get 1 0 0 => 0 get 1 0 0 = object 1.0 at 1:1",

@@ -110,7 +110,7 @@ fn turning_text(alloc: Global, step: TurningStep) -> Result<String, AllocError> 
         TurningStep::MetaLoad { fragment } => format!(in alloc; "meta {fragment}"),
         TurningStep::Free { group, bits } => format!(in alloc; "free {group} {bits:x}"),
         TurningStep::Clear { group } => format!(in alloc; "clear {group}"),
-        TurningStep::EndAdvance { phase } => format!(in alloc; "end {phase}"),
+        TurningStep::EndAdvance { phase, kept } => format!(in alloc; "end {phase} kept {kept}"),
     }
 }
 

@@ -1,7 +1,7 @@
 //! What is done on a machine and what is found there, as texts.
 
-use super::calls::{begin, call, due, log, machine_of, step, turn, word};
-use super::reading::{address_of, command_of, number, stretch};
+use super::calls::{begin, call, due, inner, log, machine_of, seen, step, turn, word};
+use super::reading::{address_of, command_of, inner_of, number, stretch};
 use super::texts::{due_text, step_text, turn_text};
 use crate::tests::comparing::same;
 use core_machine::{Machine, MakingStep, Step};
@@ -17,6 +17,8 @@ use std::test::Fail;
 /// - `SEAT COMMAND`, a whole call, and `SEAT begin COMMAND`, where nothing more is done;
 /// - `PARTY step`, its due step; the collector is the party `c`; `PARTY steps N`, so many of them, of which the last is told;
 /// - `PARTY due`, its due step, which isn't made;
+/// - `SEAT inner CALL`, whether this inner call of a collect may be made, which is made then: `look`, `answer`, `behind SEAT` or
+///   `cycle N`; and `SEAT seen`, the phase that the seat loaded last;
 /// - `SEAT stores`, four due steps that store a fragment's words in their order, each where 0 was found: the fragment and
 ///   the words;
 /// - `c turn`, a turn of the collector;
@@ -106,6 +108,13 @@ fn done(alloc: Global, machine: &mut Machine, party: u8, words: &str) -> Result<
     }
     if words == "turn" {
         return Ok(turn_text(alloc, &turn(machine)?)?);
+    }
+    if words == "seen" {
+        return Ok(format!(in alloc; "{}", seen(machine, party)?)?);
+    }
+    if let Some(call) = words.strip_prefix("inner ") {
+        let call = inner_of(call).ok_or("no inner call")?;
+        return Ok(format!(in alloc; "{}", inner(machine, party, call)?)?);
     }
     if let Some(command) = words.strip_prefix("begin ") {
         let command = command_of(alloc, command)?;
