@@ -17,6 +17,7 @@ use Rattle.core_machine.specs.seat.Seat.{Seat, absent_seat}
 use Rattle.core_rule.specs.Finds.{finds_in, WaitsAreFinds}
 use Rattle.core_rule.specs.Laws.{EveryRunKeeps, WordsAreUsed}
 use Rattle.core_rule.specs.SweepLaws.{EachLastCycleEmpties}
+use Rattle.core_rule.proofs.runs.CountedFinds.{finds_by_law}
 use Rattle.core_rule.proofs.parties.Standing.{none_short, words_used as words_told}
 use Rattle.locked_heap.specs.declared.progress.Progress.{Progress}
 use Rattle.locked_heap.specs.declared.ran.LockedRan.{LockedRan}
@@ -113,7 +114,7 @@ whole_run runs words finds empties given old new ran one all gone parted ends hi
     let turned = all_turned given old.recorded.history ends.on.turned old.recorded.machine.state new.machine.state old.seats all ends.on.seats_stay (λ other. none_collectors other ends.on.turned ends.on.own) in
     let come : AllHaveCome given told new.machine.state old.seats = subst (λ (l : List Entry). AllHaveCome given l new.machine.state old.seats) (sym ends.on.grown) turned in
     let found = λ (number : ℕ) (below : number < given.heap.seats). ap (λ (s : State). (seat_at s number).looks.waits) way.ends
-    ∙ finds given.heap given.opening way.events number one.given_right.limits one.given_right.opens way.run below in
+    ∙ finds_by_law finds given.heap given.opening way.events number one.given_right.limits one.given_right.opens way.run below in
     record {
       events = way.events;
       run = way.run;
