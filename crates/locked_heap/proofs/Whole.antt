@@ -17,6 +17,7 @@ use Rattle.core_machine.specs.seat.Seat.{Seat, absent_seat}
 use Rattle.core_rule.specs.Finds.{finds_in, WaitsAreFinds}
 use Rattle.core_rule.specs.Laws.{EveryRunKeeps, WordsAreUsed}
 use Rattle.core_rule.specs.SweepLaws.{EachLastCycleEmpties}
+use Rattle.core_rule.proofs.runs.CountedFinds.{finds_by_law}
 use Rattle.core_rule.proofs.parties.Standing.{none_short, words_used as words_told}
 use Rattle.core_rule.proofs.runs.CountedFinds.{finds_by_law}
 use Rattle.locked_heap.specs.declared.progress.Progress.{Progress}

@@ -37,7 +37,7 @@ fn seat_commands(alloc: Global, lines: &[Line], seat: u8) -> Result<Vec<Command>
 }
 
 /// The script of each seat, in the order of their numbers.
-fn scripts_of(alloc: Global, script: &Script) -> Result<Vec<Vec<Command>>, Memory>
+pub fn scripts_of(alloc: Global, script: &Script) -> Result<Vec<Vec<Command>>, Memory>
     ensures { IfOk result (λ scripts. map (λ s. s.items) scripts.items ≡ map (λ number. seat_commands number script.now.lines) (range_with_len 0 script.now.heap.seats)) }
 {
     let mut scripts = Vec::new(alloc);

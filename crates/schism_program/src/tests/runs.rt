@@ -1,5 +1,6 @@
 //! Runs: each seat works on a thread of its own, so what comes differs from run to run. Each history is checked, and judged in full as a run.
 
+mod collecting;
 mod gates;
 mod judging;
 mod paced;
