@@ -147,6 +147,7 @@ pub enum TurningStep {
 
 impl Step {
     /// The word that the step touches.
+    #[inline(always)]
     pub fn address(&self) -> Address
         ensures { result ≡ address_of self.now }
     {
@@ -162,6 +163,7 @@ impl Step {
     }
 
     /// What the step does with the word.
+    #[inline(always)]
     pub fn operation(&self) -> Operation
         ensures { result ≡ operation_of self.now }
     {
@@ -178,6 +180,7 @@ impl Step {
 }
 
 impl MakingStep {
+    #[inline(always)]
     fn address(&self) -> Address
         ensures { result ≡ making_address self.now }
     {
@@ -190,6 +193,7 @@ impl MakingStep {
         }
     }
 
+    #[inline(always)]
     fn operation(&self) -> Operation
         ensures { result ≡ making_operation self.now }
     {
@@ -205,6 +209,7 @@ impl MakingStep {
 }
 
 impl AccessStep {
+    #[inline(always)]
     fn address(&self) -> Address
         ensures { result ≡ access_address self.now }
     {
@@ -221,6 +226,7 @@ impl AccessStep {
         }
     }
 
+    #[inline(always)]
     fn operation(&self) -> Operation
         ensures { result ≡ access_operation self.now }
     {
@@ -236,6 +242,7 @@ impl AccessStep {
 }
 
 impl SpineStep {
+    #[inline(always)]
     fn address(&self) -> Address
         ensures { result ≡ spine_address self.now }
     {
@@ -252,6 +259,7 @@ impl SpineStep {
         }
     }
 
+    #[inline(always)]
     fn operation(&self) -> Operation
         ensures { result ≡ spine_operation self.now }
     {
@@ -267,6 +275,7 @@ impl SpineStep {
 }
 
 impl HandshakeStep {
+    #[inline(always)]
     fn address(&self) -> Address
         ensures { result ≡ handshake_address self.now }
     {
@@ -277,6 +286,7 @@ impl HandshakeStep {
         }
     }
 
+    #[inline(always)]
     fn operation(&self) -> Operation
         ensures { result ≡ handshake_operation self.now }
     {
@@ -288,6 +298,7 @@ impl HandshakeStep {
 }
 
 impl CopyingStep {
+    #[inline(always)]
     fn address(&self) -> Address
         ensures { result ≡ copying_address self.now }
     {
@@ -303,6 +314,7 @@ impl CopyingStep {
         }
     }
 
+    #[inline(always)]
     fn operation(&self) -> Operation
         ensures { result ≡ copying_operation self.now }
     {
@@ -318,6 +330,7 @@ impl CopyingStep {
 }
 
 impl TurningStep {
+    #[inline(always)]
     fn address(&self) -> Address
         ensures { result ≡ turning_address self.now }
     {
@@ -335,6 +348,7 @@ impl TurningStep {
         }
     }
 
+    #[inline(always)]
     fn operation(&self) -> Operation
         ensures { result ≡ turning_operation self.now }
     {
