@@ -44,11 +44,12 @@ pub fn perform(words: &mut Vec<u64>, heap: &Heap, step: &Step) -> u64
     ensures found { result ≡ at heap.now words.old.items (address_of step.now) }
     ensures words { words.new.items ≡ put heap.now words.old.items (address_of step.now) (word_after step.now result) }
 {
-    let index = step.address().index(heap);
+    let (address, operation) = step.touch();
+    let index = address.index(heap);
     if index >= words.len() {
         return 0;
     }
     let found = words[index];
-    words[index] = step.operation().written(found);
+    words[index] = operation.written(found);
     found
 }
