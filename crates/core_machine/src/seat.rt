@@ -185,6 +185,7 @@ impl SeatParty {
     }
 
     /// Ends the call with this reply, for which there is room.
+    #[inline(always)]
     pub(crate) fn reply(&mut self, number: u8, reply: Reply)
         requires { 0 < self.old.spare }
         ensures seat { self.new.seat ≡ seat_after_reply number self.old.seat reply }

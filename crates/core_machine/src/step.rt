@@ -147,209 +147,212 @@ pub enum TurningStep {
 
 impl Step {
     /// The word that the step touches.
+    #[inline(always)]
     pub fn address(&self) -> Address
         ensures { result ≡ address_of self.now }
     {
-        match *self {
-            Step::Making(step) => step.address(),
-            Step::PollLoad => Address::Phase,
-            Step::Access(step) => step.address(),
-            Step::Spine(step) => step.address(),
-            Step::Handshake(step) => step.address(),
-            Step::Copying(step) => step.address(),
-            Step::Turning(step) => step.address(),
-        }
+        self.touch().0
     }
 
     /// What the step does with the word.
+    #[inline(always)]
     pub fn operation(&self) -> Operation
         ensures { result ≡ operation_of self.now }
     {
+        self.touch().1
+    }
+
+    /// The word that the step touches, and what it does with it.
+    #[inline(always)]
+    pub fn touch(&self) -> (Address, Operation)
+        ensures address { result.0 ≡ address_of self.now }
+        ensures operation { result.1 ≡ operation_of self.now }
+    {
         match *self {
-            Step::Making(step) => step.operation(),
-            Step::PollLoad => Operation::Load,
-            Step::Access(step) => step.operation(),
-            Step::Spine(step) => step.operation(),
-            Step::Handshake(step) => step.operation(),
-            Step::Copying(step) => step.operation(),
-            Step::Turning(step) => step.operation(),
+            Step::Making(step) => step.touch(),
+            Step::PollLoad => (Address::Phase, Operation::Load),
+            Step::Access(step) => step.touch(),
+            Step::Spine(step) => step.touch(),
+            Step::Handshake(step) => step.touch(),
+            Step::Copying(step) => step.touch(),
+            Step::Turning(step) => step.touch(),
         }
     }
 }
 
 impl MakingStep {
-    fn address(&self) -> Address
-        ensures { result ≡ making_address self.now }
+    #[inline(always)]
+    fn touch(&self) -> (Address, Operation)
+        ensures address { result.0 ≡ making_address self.now }
+        ensures operation { result.1 ≡ making_operation self.now }
     {
         match *self {
-            MakingStep::Claim { group }
-            | MakingStep::GiveBack { group, .. }
-            | MakingStep::Birth { group, .. }
-            | MakingStep::LastBirth { group, .. } => Address::Control(group),
-            MakingStep::NewbornStore { fragment, part, .. } => Address::Word { fragment, part },
-        }
-    }
-
-    fn operation(&self) -> Operation
-        ensures { result ≡ making_operation self.now }
-    {
-        match *self {
-            MakingStep::Claim { .. } => Operation::Or(ALL_TAKEN),
-            MakingStep::GiveBack { bits, .. } => Operation::And(all_but(bits)),
-            MakingStep::NewbornStore { word, .. } => Operation::Store(word),
-            MakingStep::Birth { bits, black, .. } | MakingStep::LastBirth { bits, black, .. } => {
-                Operation::Or(birth_bits(black, bits))
+            MakingStep::Claim { group } => (Address::Control(group), Operation::Or(ALL_TAKEN)),
+            MakingStep::GiveBack { group, bits } => {
+                (Address::Control(group), Operation::And(all_but(bits)))
+            }
+            MakingStep::NewbornStore {
+                fragment,
+                part,
+                word,
+            } => (Address::Word { fragment, part }, Operation::Store(word)),
+            MakingStep::Birth { group, bits, black }
+            | MakingStep::LastBirth { group, bits, black } => {
+                (
+                    Address::Control(group),
+                    Operation::Or(birth_bits(black, bits)),
+                )
             }
         }
     }
 }
 
 impl AccessStep {
-    fn address(&self) -> Address
-        ensures { result ≡ access_address self.now }
+    #[inline(always)]
+    fn touch(&self) -> (Address, Operation)
+        ensures address { result.0 ≡ access_address self.now }
+        ensures operation { result.1 ≡ access_operation self.now }
     {
         match *self {
-            AccessStep::WalkLoad { fragment } => Address::Word { fragment, part: 0 },
-            AccessStep::NameLoad { head } => Address::Word {
-                fragment: head,
-                part: 1,
-            },
-            AccessStep::GetLoad { fragment, part }
-            | AccessStep::OldLoad { fragment, part }
-            | AccessStep::Swap { fragment, part, .. } => Address::Word { fragment, part },
-            AccessStep::Shade { fragment } => Address::Control(fragment / GROUP_FRAGMENTS),
-        }
-    }
-
-    fn operation(&self) -> Operation
-        ensures { result ≡ access_operation self.now }
-    {
-        match *self {
-            AccessStep::WalkLoad { .. }
-            | AccessStep::NameLoad { .. }
-            | AccessStep::GetLoad { .. }
-            | AccessStep::OldLoad { .. } => Operation::Load,
-            AccessStep::Shade { fragment } => Operation::Or(shade_bit(fragment)),
-            AccessStep::Swap { word, .. } => Operation::Exchange(word),
+            AccessStep::WalkLoad { fragment } => {
+                (Address::Word { fragment, part: 0 }, Operation::Load)
+            }
+            AccessStep::NameLoad { head } => {
+                let name = Address::Word {
+                    fragment: head,
+                    part: 1,
+                };
+                (name, Operation::Load)
+            }
+            AccessStep::GetLoad { fragment, part } | AccessStep::OldLoad { fragment, part } => {
+                (Address::Word { fragment, part }, Operation::Load)
+            }
+            AccessStep::Shade { fragment } => {
+                let control = Address::Control(fragment / GROUP_FRAGMENTS);
+                (control, Operation::Or(shade_bit(fragment)))
+            }
+            AccessStep::Swap {
+                fragment,
+                part,
+                word,
+            } => (Address::Word { fragment, part }, Operation::Exchange(word)),
         }
     }
 }
 
 impl SpineStep {
-    fn address(&self) -> Address
-        ensures { result ≡ spine_address self.now }
+    #[inline(always)]
+    fn touch(&self) -> (Address, Operation)
+        ensures address { result.0 ≡ spine_address self.now }
+        ensures operation { result.1 ≡ spine_operation self.now }
     {
         match *self {
-            SpineStep::BudgetAdd { .. } | SpineStep::BudgetTakeBack { .. } => Address::Budget,
-            SpineStep::SpotClaim { .. } => Address::Spot,
-            SpineStep::SpineStore { half, offset, .. } | SpineStep::WordLoad { half, offset } => {
-                Address::Spine { half, offset }
+            SpineStep::BudgetAdd { words } => (Address::Budget, Operation::Add(u64::from(words))),
+            SpineStep::BudgetTakeBack { words } => {
+                (Address::Budget, Operation::Subtract(u64::from(words)))
             }
-            SpineStep::AddressLoad { sentinel } => Address::Word {
-                fragment: sentinel,
-                part: 2,
-            },
-        }
-    }
-
-    fn operation(&self) -> Operation
-        ensures { result ≡ spine_operation self.now }
-    {
-        match *self {
-            SpineStep::BudgetAdd { words } | SpineStep::SpotClaim { words } => {
-                Operation::Add(u64::from(words))
+            SpineStep::SpotClaim { words } => (Address::Spot, Operation::Add(u64::from(words))),
+            SpineStep::SpineStore {
+                half,
+                offset,
+                fragment,
+            } => {
+                let word = spine_word(fragment);
+                (Address::Spine { half, offset }, Operation::Store(word))
             }
-            SpineStep::BudgetTakeBack { words } => Operation::Subtract(u64::from(words)),
-            SpineStep::SpineStore { fragment, .. } => Operation::Store(spine_word(fragment)),
-            SpineStep::AddressLoad { .. } | SpineStep::WordLoad { .. } => Operation::Load,
+            SpineStep::AddressLoad { sentinel } => {
+                let place = Address::Word {
+                    fragment: sentinel,
+                    part: 2,
+                };
+                (place, Operation::Load)
+            }
+            SpineStep::WordLoad { half, offset } => {
+                (Address::Spine { half, offset }, Operation::Load)
+            }
         }
     }
 }
 
 impl HandshakeStep {
-    fn address(&self) -> Address
-        ensures { result ≡ handshake_address self.now }
+    #[inline(always)]
+    fn touch(&self) -> (Address, Operation)
+        ensures address { result.0 ≡ handshake_address self.now }
+        ensures operation { result.1 ≡ handshake_operation self.now }
     {
         match *self {
-            HandshakeStep::AnswerStore { seat, .. } | HandshakeStep::LeaveStore { seat } => {
-                Address::Answer(seat)
+            HandshakeStep::AnswerStore { seat, phase } => {
+                (Address::Answer(seat), Operation::Store(phase))
             }
-        }
-    }
-
-    fn operation(&self) -> Operation
-        ensures { result ≡ handshake_operation self.now }
-    {
-        match *self {
-            HandshakeStep::AnswerStore { phase, .. } => Operation::Store(phase),
-            HandshakeStep::LeaveStore { .. } => Operation::Store(LEFT),
+            HandshakeStep::LeaveStore { seat } => (Address::Answer(seat), Operation::Store(LEFT)),
         }
     }
 }
 
 impl CopyingStep {
-    fn address(&self) -> Address
-        ensures { result ≡ copying_address self.now }
+    #[inline(always)]
+    fn touch(&self) -> (Address, Operation)
+        ensures address { result.0 ≡ copying_address self.now }
+        ensures operation { result.1 ≡ copying_operation self.now }
     {
         match *self {
-            CopyingStep::FlipStore { .. } | CopyingStep::CopyClaim { .. } => Address::Spot,
-            CopyingStep::CopyLoad { half, offset } | CopyingStep::CopyStore { half, offset, .. } =>
-                { Address::Spine { half, offset } }
-            CopyingStep::SwingStore { sentinel, .. } => Address::Word {
-                fragment: sentinel,
-                part: 2,
-            },
-            CopyingStep::BudgetReturn { .. } => Address::Budget,
-        }
-    }
-
-    fn operation(&self) -> Operation
-        ensures { result ≡ copying_operation self.now }
-    {
-        match *self {
-            CopyingStep::FlipStore { half } => Operation::Store(fixed_word(u32::from(half))),
-            CopyingStep::CopyClaim { words } => Operation::Add(u64::from(words)),
-            CopyingStep::CopyLoad { .. } => Operation::Load,
-            CopyingStep::CopyStore { word, .. } => Operation::Store(word),
-            CopyingStep::SwingStore { spot, .. } => Operation::Store(spot),
-            CopyingStep::BudgetReturn { words } => Operation::Subtract(u64::from(words)),
+            CopyingStep::FlipStore { half } => {
+                let first = fixed_word(u32::from(half));
+                (Address::Spot, Operation::Store(first))
+            }
+            CopyingStep::CopyClaim { words } => (Address::Spot, Operation::Add(u64::from(words))),
+            CopyingStep::CopyLoad { half, offset } => {
+                (Address::Spine { half, offset }, Operation::Load)
+            }
+            CopyingStep::CopyStore { half, offset, word } => {
+                (Address::Spine { half, offset }, Operation::Store(word))
+            }
+            CopyingStep::SwingStore { sentinel, spot } => {
+                let place = Address::Word {
+                    fragment: sentinel,
+                    part: 2,
+                };
+                (place, Operation::Store(spot))
+            }
+            CopyingStep::BudgetReturn { words } => {
+                (Address::Budget, Operation::Subtract(u64::from(words)))
+            }
         }
     }
 }
 
 impl TurningStep {
-    fn address(&self) -> Address
-        ensures { result ≡ turning_address self.now }
+    #[inline(always)]
+    fn touch(&self) -> (Address, Operation)
+        ensures address { result.0 ≡ turning_address self.now }
+        ensures operation { result.1 ≡ turning_operation self.now }
     {
         match *self {
-            TurningStep::LookLoad { seat } => Address::Answer(seat),
-            TurningStep::AdvanceStore { .. } | TurningStep::EndAdvance { .. } => Address::Phase,
-            TurningStep::GroupLoad { group }
-            | TurningStep::Free { group, .. }
-            | TurningStep::Clear { group } => Address::Control(group),
-            TurningStep::ScanLoad { fragment, part } => Address::Word { fragment, part },
-            TurningStep::MarkShade { fragment } | TurningStep::Blacken { fragment } => {
-                Address::Control(fragment / GROUP_FRAGMENTS)
-            }
-            TurningStep::MetaLoad { fragment } => Address::Word { fragment, part: 0 },
-        }
-    }
-
-    fn operation(&self) -> Operation
-        ensures { result ≡ turning_operation self.now }
-    {
-        match *self {
-            TurningStep::LookLoad { .. }
-            | TurningStep::GroupLoad { .. }
-            | TurningStep::ScanLoad { .. }
-            | TurningStep::MetaLoad { .. } => Operation::Load,
+            TurningStep::LookLoad { seat } => (Address::Answer(seat), Operation::Load),
             TurningStep::AdvanceStore { phase } | TurningStep::EndAdvance { phase, .. } => {
-                Operation::Store(phase)
+                (Address::Phase, Operation::Store(phase))
             }
-            TurningStep::MarkShade { fragment } => Operation::Or(shade_bit(fragment)),
-            TurningStep::Blacken { fragment } => Operation::Or(blacken_bit(fragment)),
-            TurningStep::Free { bits, .. } => Operation::And(free_mask(bits)),
-            TurningStep::Clear { .. } => Operation::And(MARKS_CLEARED),
+            TurningStep::GroupLoad { group } => (Address::Control(group), Operation::Load),
+            TurningStep::ScanLoad { fragment, part } => {
+                (Address::Word { fragment, part }, Operation::Load)
+            }
+            TurningStep::MarkShade { fragment } => {
+                let control = Address::Control(fragment / GROUP_FRAGMENTS);
+                (control, Operation::Or(shade_bit(fragment)))
+            }
+            TurningStep::Blacken { fragment } => {
+                let control = Address::Control(fragment / GROUP_FRAGMENTS);
+                (control, Operation::Or(blacken_bit(fragment)))
+            }
+            TurningStep::MetaLoad { fragment } => {
+                (Address::Word { fragment, part: 0 }, Operation::Load)
+            }
+            TurningStep::Free { group, bits } => {
+                (Address::Control(group), Operation::And(free_mask(bits)))
+            }
+            TurningStep::Clear { group } => {
+                (Address::Control(group), Operation::And(MARKS_CLEARED))
+            }
         }
     }
 }

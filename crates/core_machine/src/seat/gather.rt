@@ -12,7 +12,7 @@ use crate::place::{Making, Place};
 use crate::seat::SeatParty;
 use crate::step::MakingStep;
 use crate::table::fragments::{
-    add_clear, copied, count_in, first_group, joined, leave_out, mask_in,
+    add_clear, append, count_in, first_group, leave_out, mask_in, refill,
 };
 use heap_model::{Command, Entry, Heap, Reply};
 
@@ -57,11 +57,12 @@ impl SeatParty {
         ensures seat { self.new.seat ≡ after_gather heap.now self.old.seat }
         ensures spare { self.new.spare ≡ self.old.spare }
     {
-        let all = joined(self.reserve.as_slice(), self.hand.as_slice());
-        let (used, rest) = all.as_slice().split_at(self.command.need() as usize);
-        self.reserve = copied(rest);
-        self.hand = copied(used);
-        self.body = copied(used);
+        let need = self.command.need() as usize;
+        refill(&mut self.body, self.reserve.as_slice());
+        append(&mut self.body, self.hand.as_slice());
+        refill(&mut self.reserve, &self.body.as_slice()[need..]);
+        self.body.truncate(need);
+        refill(&mut self.hand, self.body.as_slice());
         if self.tried > 0 {
             self.cursor = (self.cursor + self.tried - 1) % heap.groups;
         }

@@ -22,6 +22,7 @@ pub enum Operation {
 
 impl Operation {
     /// The word that it leaves where it found this one.
+    #[inline(always)]
     pub fn written(&self, found: u64) -> u64
         ensures { result ≡ operation_result self.now found }
     {

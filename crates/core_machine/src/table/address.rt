@@ -24,6 +24,7 @@ pub enum Address {
 }
 
 /// Where a spine word stands behind the fragments; past both halves where its offset is too large.
+#[inline(always)]
 fn spine_index(spine: usize, half: u8, offset: usize) -> usize
     requires spine { spine < 2 ^ 32 }
     requires half { half < 2 }
@@ -43,6 +44,7 @@ fn spine_index(spine: usize, half: u8, offset: usize) -> usize
 
 impl Address {
     /// Where the word stands in the table; past its end where a spine word's offset is too large.
+    #[inline(always)]
     pub fn index(&self, heap: &Heap) -> usize
         requires limits { IsHeap heap.now }
         requires in_table { InTable heap.now self.now }

@@ -14,9 +14,6 @@ pub const MOST_KEPT: usize = MOST_RESERVE as usize + 1;
 /// The most fragments that a hand holds: those of the largest array, less one, and a group.
 pub const MOST_HELD: usize = 1040;
 
-/// The most fragments of a reserve and a hand together.
-const MOST_JOINED: usize = MOST_KEPT + MOST_HELD;
-
 /// Fragments that a seat keeps between two calls.
 pub type Reserve = ArrayVec<u16, MOST_KEPT>;
 
@@ -124,27 +121,22 @@ pub fn last_run(fragments: &[u16]) -> usize
         .count()
 }
 
-/// The same fragments in a buffer of their own.
-pub fn copied<const N: usize>(fragments: &[u16]) -> ArrayVec<u16, N>
-    requires { length fragments.now ≤ N }
-    ensures { result.items ≡ fragments.now }
+/// Adds these fragments.
+pub fn append<const N: usize>(buffer: &mut ArrayVec<u16, N>, fragments: &[u16])
+    requires { length buffer.old.items + length fragments.now ≤ N }
+    ensures { buffer.new.items ≡ buffer.old.items ++ fragments.now }
 {
-    let mut copy = ArrayVec::new();
-    match copy.try_extend_from_slice(fragments) {
-        Ok(()) => copy,
+    match buffer.try_extend_from_slice(fragments) {
+        Ok(()) => (),
         Err(_) => unreachable!(),
     }
 }
 
-/// The reserve, and after it the hand.
-pub fn joined(reserve: &[u16], hand: &[u16]) -> ArrayVec<u16, MOST_JOINED>
-    requires reserve { length reserve.now ≤ MOST_KEPT }
-    requires hand { length hand.now ≤ MOST_HELD }
-    ensures { result.items ≡ reserve.now ++ hand.now }
+/// Puts these fragments into the place of those that it has.
+pub fn refill<const N: usize>(buffer: &mut ArrayVec<u16, N>, fragments: &[u16])
+    requires { length fragments.now ≤ N }
+    ensures { buffer.new.items ≡ fragments.now }
 {
-    let mut all = copied(reserve);
-    match all.try_extend_from_slice(hand) {
-        Ok(()) => all,
-        Err(_) => unreachable!(),
-    }
+    buffer.clear();
+    append(buffer, fragments);
 }

@@ -37,17 +37,19 @@ pub fn store(words: &mut [u64], heap: &Heap, address: Address, word: u64)
 /// Does to its word what the step does, and answers the word as it was before. Past the end of the table that was 0,
 /// and nothing is written.
 #[tactic(auto, unfolding(crate::specs::table::Layout::at, crate::specs::table::Layout::put))]
+#[inline(always)]
 pub fn perform(words: &mut Vec<u64>, heap: &Heap, step: &Step) -> u64
     requires limits { IsHeap heap.now }
     requires in_table { InTable heap.now (address_of step.now) }
     ensures found { result ≡ at heap.now words.old.items (address_of step.now) }
     ensures words { words.new.items ≡ put heap.now words.old.items (address_of step.now) (word_after step.now result) }
 {
-    let index = step.address().index(heap);
+    let (address, operation) = step.touch();
+    let index = address.index(heap);
     if index >= words.len() {
         return 0;
     }
     let found = words[index];
-    words[index] = step.operation().written(found);
+    words[index] = operation.written(found);
     found
 }
