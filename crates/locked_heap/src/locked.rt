@@ -1,4 +1,4 @@
-ghost use Rattle.std.specs.Prelude.{◌≡◌, ◌≢◌, ◌+◌, ◌<◌, false, length, OnOk, OnErr};
+ghost use Rattle.std.specs.Prelude.{◌≡◌, ◌≢◌, ◌+◌, ◌<◌, false, length, IfOk, OnOk, OnErr};
 ghost use Rattle.heap_model.specs.declared.command.Command.TheVariants.{Collect};
 ghost use Rattle.locked_heap.specs.Given.{IsGiven, script_of};
 ghost use Rattle.locked_heap.specs.Locked.{IsRunFrom, AllHaveCome, IsParted, IsNext, SeatHasLeft, ComesOneFurther, OwesMore};
@@ -47,6 +47,8 @@ impl<N: Handed> Locked<N> {
         requires heap { machine.heap ≡ N.given.heap }
         requires opening { machine.state ≡ N.given.opening }
         requires patience { patience ≡ N.given.patience }
+        ensures owed { IfOk result (λ locked. locked.owed ≡ 0) }
+        ensures over { IfOk result (λ locked. locked.over ≡ false) }
     {
         let seats = machine.heap().seats as usize;
         let begin = Progress {
