@@ -2,15 +2,19 @@
 
 use heap_model::Gate;
 use std::sync::atomic::{AtomicU64, Ordering};
+use std::thread::yield_now;
 
 /// The most turns of a wait at a gate.
-pub const MOST_TURNS: u64 = 100_000_000;
+const MOST_TURNS: u64 = 100_000_000;
 
-/// Waits until the number is at least this, and tells whether it came to be.
+/// Waits until the number is at least this, and tells whether it came to be. Now and then it lets other threads go on, since on a busy machine they may be behind.
 pub fn comes_to(number: &AtomicU64, least: u64) -> bool {
-    for _ in 0..MOST_TURNS {
+    for turn in 0..MOST_TURNS {
         if number.load(Ordering::SeqCst) >= least {
             return true;
+        }
+        if turn % 1000 == 0 {
+            yield_now();
         }
     }
     false
