@@ -91,6 +91,7 @@ impl Machine {
     }
 
     /// The one step that the seat makes next; none where no call is in flight.
+    #[inline(always)]
     pub(crate) fn due_of_seat(&self, seat: u8) -> Option<Step>
         ensures { result ≡ due_step self.now.heap seat (seat_at self.now.state seat) }
     {
@@ -109,6 +110,7 @@ impl Machine {
     }
 
     /// Puts the command of a seat in flight.
+    #[inline(always)]
     pub fn begin(&mut self, seat: u8, command: Command)
         requires can { Can self.old.heap self.old.state (Begins seat command) }
         requires room { 2 * need_of command + 4 ≤ spare_of self.old seat }
@@ -174,6 +176,7 @@ impl Machine {
     }
 
     /// Makes the due step of the seat, and answers the word as it was before.
+    #[inline(always)]
     pub(crate) fn step_of_seat(&mut self, seat: u8, step: &Step) -> u64
         requires due { due_step self.old.heap seat (seat_at self.old.state seat) ≡ Some step.now }
         requires room { 2 ≤ spare_of self.old seat }
@@ -204,6 +207,7 @@ impl Machine {
     }
 
     /// Makes the collector's due step: answers the word as it was before, and what the turn comes to.
+    #[inline(always)]
     fn turn(&mut self, step: &Step) -> (u64, Turn)
         requires due { (next_turn self.old.heap self.old.state.collector).step ≡ step.now }
         requires room { 2 ≤ spare_of self.old (length self.old.state.seats) }

@@ -37,6 +37,7 @@ fn is_served(command: &Command) -> bool
 
 impl SeatParty {
     /// Whether the command may be begun now.
+    #[inline(always)]
     pub fn may_begin(&self, command: &Command) -> bool
         ensures { IsTrue result ↔ MayBegin self.now.seat command.now }
     {
@@ -58,6 +59,7 @@ impl SeatParty {
     }
 
     /// Puts the command in flight.
+    #[inline(always)]
     pub fn begin(&mut self, heap: &Heap, command: Command)
         requires limits { IsHeap heap.now }
         requires fits { Fits heap.now self.old.seat }

@@ -11,6 +11,7 @@ use heap_model::Heap;
 
 impl SeatParty {
     /// The step of making that is due.
+    #[inline(always)]
     fn due_making(&self, heap: &Heap, number: u8, place: Making) -> Step
         requires limits { IsHeap heap.now }
         requires number { number < heap.now.seats }
@@ -38,6 +39,7 @@ impl SeatParty {
     }
 
     /// The step of access that is due.
+    #[inline(always)]
     fn due_access(&self, heap: &Heap, number: u8, place: Access) -> Step
         requires limits { IsHeap heap.now }
         requires number { number < heap.now.seats }
@@ -120,6 +122,7 @@ impl SeatParty {
     }
 
     /// The one step that the seat makes next; none where no call is in flight.
+    #[inline(always)]
     pub fn due(&self, heap: &Heap, number: u8) -> Option<Step>
         requires limits { IsHeap heap.now }
         requires number { number < heap.now.seats }

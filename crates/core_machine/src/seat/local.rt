@@ -48,6 +48,7 @@ impl SeatParty {
     }
 
     /// Tells the reply, at a load of the phase.
+    #[inline(always)]
     pub(crate) fn learn_local(&mut self, number: u8, found: u64)
         requires command { IsCommand self.old.seat.command }
         requires spare { 0 < self.old.spare }

@@ -14,6 +14,7 @@ use heap_model::Heap;
 
 impl SeatParty {
     /// Learns what a step of making found.
+    #[inline(always)]
     fn learn_making(&mut self, heap: &Heap, number: u8, place: Making, found: u64)
         requires limits { IsHeap heap.now }
         requires number { number < heap.now.seats }
@@ -37,6 +38,7 @@ impl SeatParty {
     }
 
     /// Learns what a step of access found.
+    #[inline(always)]
     fn learn_access(&mut self, heap: &Heap, number: u8, place: Access, found: u64)
         requires limits { IsHeap heap.now }
         requires number { number < heap.now.seats }
@@ -90,6 +92,7 @@ impl SeatParty {
     }
 
     /// Learns the word that its due step found.
+    #[inline(always)]
     pub fn learn(&mut self, heap: &Heap, number: u8, found: u64)
         requires limits { IsHeap heap.now }
         requires number { number < heap.now.seats }
