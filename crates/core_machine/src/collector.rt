@@ -74,7 +74,6 @@ impl CollectorParty {
     }
 
     /// The step of its next turn.
-    #[inline(always)]
     pub fn due(&self, heap: &Heap) -> Step
         requires limits { IsHeap heap.now }
         requires fits { CollectorFits heap.now self.now.collector }
@@ -251,7 +250,6 @@ impl CollectorParty {
     }
 
     /// Learns the word that its turn found. Each phase has an entry, so there is always a number left for the next one.
-    #[inline(always)]
     pub fn learn(&mut self, heap: &Heap, found: u64) -> Turn
         requires limits { IsHeap heap.now }
         requires fits { CollectorFits heap.now self.old.collector }

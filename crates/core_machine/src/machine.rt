@@ -207,7 +207,6 @@ impl Machine {
     }
 
     /// Makes the collector's due step: answers the word as it was before, and what the turn comes to.
-    #[inline(always)]
     fn turn(&mut self, step: &Step) -> (u64, Turn)
         requires due { (next_turn self.old.heap self.old.state.collector).step ≡ step.now }
         requires room { 2 ≤ spare_of self.old (length self.old.state.seats) }
