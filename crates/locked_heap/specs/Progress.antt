@@ -1,5 +1,5 @@
 -- How far a seat has come with its script.
-use Rattle.std.specs.Prelude.{◌≡◌, ◌≢◌, ℕ, ◌+◌, ◌-◌, ◌*◌, ◌^◌, ◌<◌, ◌≤◌, ◌⊎◌, Bool, true, false, if◌then◌else◌, List, [], ◌∷◌, ◌++◌, length, take, slice_get, slice_index_or, Option, Some, None}
+use Rattle.std.specs.Prelude.{◌≡◌, ◌≢◌, ℕ, ◌+◌, ◌-◌, ◌*◌, ◌^◌, ◌<◌, ◌≤◌, ◌⊎◌, Bool, true, false, if◌then◌else◌, List, [], ◌∷◌, ◌++◌, length, take, slice_get, slice_index_or, Option, Some, None, All}
 use Rattle.heap_model.specs.declared.command.Command.{Command}
 use Rattle.heap_model.specs.declared.command.Command.TheVariants.{Collect, Leave}
 use Rattle.heap_model.specs.declared.entry.Entry.{Entry}
@@ -16,6 +16,11 @@ at_begin = record { place = 0; gone = false; target = None; paid = 0 }
 -- how far the seat of this number has come
 abbrev pub progress_at : List Progress → ℕ → Progress
 progress_at seats number = slice_index_or seats number at_begin
+
+-- so many seats have come to their leave
+pub record HaveAllLeft (seats : ℕ) (came : List Progress) : Type 0 where
+  pub each_once : length came ≡ seats
+  pub gone : All (λ progress. progress.gone ≡ true) came
 
 -- the leave of a seat that has left
 abbrev pub leave_told : Bool → List Command

@@ -1,8 +1,10 @@
-ghost use Rattle.std.specs.Prelude.{◌≡◌, ◌<◌, ◌^◌, length, map, All};
+ghost use Rattle.std.specs.Prelude.{◌≡◌, ◌<◌, ◌^◌, true, length, map, All, IfOk};
 ghost use Rattle.locked_heap.specs.Given.{script_of};
+ghost use Rattle.locked_heap.specs.Progress.{HaveAllLeft};
 
 use crate::handed::Handed;
 use crate::locked::Locked;
+use crate::progress::Progress;
 use heap_model::{Command, Gate, Memory};
 use slack_pace::Pace;
 use std::alloc::Global;
@@ -30,24 +32,30 @@ fn make_command<N: Handed, R: Wait>(
     unreachable!()
 }
 
-/// Makes each command of the seat's script once it has passed the gate, and lets the seat leave.
+/// Makes each command of the seat's script once it has passed the gate, lets the seat leave, and tells how far it has come then.
 fn work<N: Handed, G: Gate, R: Wait>(
     rt: &R,
     held: &Mutex<Locked<N>>,
     seat: u8,
     script: &[Command],
     gate: &G,
-) -> Result<(), Memory>
+) -> Result<Progress, Memory>
     requires within { seat < N.given.heap.seats }
     requires script { script.now ≡ script_of N.given seat }
     requires few { length script.now < 2 ^ 32 }
+    ensures { IfOk result (λ progress. progress.gone ≡ true) }
 {
     for n in 0..script.len() {
         gate.pass(seat, n as u32);
         make_command(rt, held, seat, script, n)?;
     }
-    held.lock(rt).go_on(seat, script)?;
-    Ok(())
+    for _ in rt.forever() {
+        let progress = held.lock(rt).go_on(seat, script)?;
+        if progress.gone {
+            return Ok(progress);
+        }
+    }
+    unreachable!()
 }
 
 /// Makes slack turns of the collector until each seat has left, or the seats' workers have returned.
@@ -68,39 +76,42 @@ fn collect<N: Handed, R: Wait>(
     unreachable!()
 }
 
-/// Makes the scripts in a thread for each seat, and tells when all of these have returned.
+/// Makes the scripts in a thread for each seat, tells when all of these have returned, and how far each seat has come then.
 fn work_seats<N: Handed + Send + Sync, G: Gate, R: Threads + Wait + Sync>(
     rt: &R,
     alloc: Global,
     held: &Mutex<Locked<N>>,
     scripts: &[Vec<Command>],
     gate: &G,
-) -> Result<(), Memory>
+) -> Result<Vec<Progress>, Memory>
     requires scripts { map (λ script. script.items) scripts.now ≡ N.given.scripts }
     requires seated { length scripts.now ≡ N.given.heap.seats }
     requires seats { N.given.heap.seats < 256 }
     requires few { All (λ script. length script.items < 2 ^ 32) scripts.now }
+    ensures { IfOk result (λ came. HaveAllLeft N.given.heap.seats came.items) }
 {
     let done = map_indices(
         rt,
         alloc,
         scripts.len(),
-        &|seat: usize| -> Result<(), Memory>
+        &|seat: usize| -> Result<Progress, Memory>
             requires within { seat < length scripts.now }
             requires scripts { map (λ script. script.items) scripts.now ≡ N.given.scripts }
             requires seated { length scripts.now ≡ N.given.heap.seats }
             requires seats { N.given.heap.seats < 256 }
             requires few { All (λ script. length script.items < 2 ^ 32) scripts.now }
+            ensures { IfOk result (λ progress. progress.gone ≡ true) }
         { work(rt, held, seat as u8, scripts[seat].as_slice(), gate) },
     );
     held.lock(rt).end();
-    for came in done? {
-        came?;
+    let mut came = Vec::new(alloc);
+    for progress in done? {
+        came.push(progress?)?;
     }
-    Ok(())
+    Ok(came)
 }
 
-/// Works on the scripts in a thread for each seat, while one more makes the collector's slack turns.
+/// Works on the scripts in a thread for each seat, while one more makes the collector's slack turns, and tells how far each seat has come then.
 pub fn work_all<N: Handed + Send + Sync, G: Gate, R: Threads + Wait + Sync>(
     rt: &R,
     alloc: Global,
@@ -108,20 +119,22 @@ pub fn work_all<N: Handed + Send + Sync, G: Gate, R: Threads + Wait + Sync>(
     scripts: &[Vec<Command>],
     mut pace: Box<dyn Pace>,
     gate: &G,
-) -> Result<(), Memory>
+) -> Result<Vec<Progress>, Memory>
     requires scripts { map (λ script. script.items) scripts.now ≡ N.given.scripts }
     requires seated { length scripts.now ≡ N.given.heap.seats }
     requires seats { N.given.heap.seats < 256 }
     requires few { All (λ script. length script.items < 2 ^ 32) scripts.now }
+    ensures { IfOk result (λ came. HaveAllLeft N.given.heap.seats came.items) }
 {
     let (slack, seats) = join(
         rt,
         move || collect(rt, held, &mut pace),
-        || -> Result<(), Memory>
+        || -> Result<Vec<Progress>, Memory>
             requires scripts { map (λ script. script.items) scripts.now ≡ N.given.scripts }
             requires seated { length scripts.now ≡ N.given.heap.seats }
             requires seats { N.given.heap.seats < 256 }
             requires few { All (λ script. length script.items < 2 ^ 32) scripts.now }
+            ensures { IfOk result (λ came. HaveAllLeft N.given.heap.seats came.items) }
         { work_seats(rt, alloc, held, scripts, gate) },
     );
     slack?;
