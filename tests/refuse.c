@@ -1,4 +1,5 @@
 /* Preloaded before a program, refuses one of its allocations: the one whose number REFUSE tells, counted from 1. */
+#include <errno.h>
 #include <stdatomic.h>
 #include <stddef.h>
 #include <stdlib.h>
@@ -17,7 +18,11 @@ __attribute__((constructor)) static void read_number(void) {
 }
 
 static int refuses(void) {
-    return atomic_fetch_add(&asked, 1) + 1 == refused;
+    if (atomic_fetch_add(&asked, 1) + 1 != refused) {
+        return 0;
+    }
+    errno = ENOMEM;
+    return 1;
 }
 
 void *malloc(size_t size) {
