@@ -11,6 +11,7 @@ use Rattle.heap_model.specs.declared.reply.Reply.TheVariants as replies
 use Rattle.heap_model.specs.declared.entry.Entry.{Entry}
 use Rattle.heap_model.specs.declared.entry.Entry.TheVariants.{Said, Answers}
 use Rattle.heap_model.specs.Command.{IsCommand}
+use Rattle.heap_model.specs.graph.Changes.{with_register}
 use Rattle.heap_model.specs.graph.Growth.{after_reply}
 use Rattle.heap_model.specs.Needs.{made_by, need_of}
 use Rattle.heap_model.specs.calls.SeatCalls.{Adds, ComesBefore, GathersEnough, GathersTooLittle, last_gives, takes_of, gives_of}
@@ -19,7 +20,7 @@ use Rattle.heap_model.specs.calls.SeatState.{SeatState}
 use Rattle.heap_model.specs.account.Space.{taken_of, spent_of}
 use Rattle.library_tests.specs.LoneSeat.{claim_of, lone_heap, lone_graph, AsksFor, IsLone, IsLoneGraph, TellsLone, TakesEnough, TakesTooLittle}
 use Rattle.library_tests.proofs.LoneEntries.{AreQuiet, ComeTo, come_to-answers, come_to-append, come_to-none, come_to-said, come_to-takes, come_to-gives, lone_graph-call, quiet-append, quiet-gives, quiet-takes, tells_more, total_of-append}
-use Rattle.library_tests.proofs.LoneLemmas.{IsLoneGraph-left, IsLoneGraph-made, IsLoneGraph-set, after_full}
+use Rattle.library_tests.proofs.LoneLemmas.{IsLoneGraph-left, IsLoneGraph-made, IsLoneGraph-put, IsLoneGraph-set, after_full}
 use Rattle.library_tests.proofs.LoneLists.{gives-claim_of, sum-claim_of}
 
 -- entries were noted, and then the reply to the command
@@ -189,3 +190,18 @@ pub lone_after_set : (mine new : List Entry) (r i v : ℕ) {registers : List Val
     → IsCommand (commands.Set r i v) → sets + 1 < 2 ^ 26 → new ≡ mine ++ Said 0 (commands.Set r i v) (replies.Was 0) ∷ [] → IsLone new registers lengths (sets + 1) left unborn last
 lone_after_set mine new r i v {unborn = unborn} {last = last} is in_range few said =
     lone_after mine [] new (commands.Set r i v) (replies.Was 0) unborn last is (notes_none mine new _ _ said) in_range (λ g. refl) come_to-none (omega arith) (omega arith) (IsLoneGraph-set (lone_graph mine) r i v is.graph) is.few_objects few
+
+-- a reply that changes nothing
+pub lone_after_same : (mine new : List Entry) (command : Command) (reply : Reply) {registers : List Value} {lengths : List ℕ} {sets : ℕ} {left : Bool} {unborn last : ℕ} → IsLone mine registers lengths sets left unborn last
+    → IsCommand command → made_by command reply ≡ 0 → after_reply (lone_graph mine) 0 command reply ≡ lone_graph mine → new ≡ mine ++ Said 0 command reply ∷ [] → IsLone new registers lengths sets left unborn last
+lone_after_same mine new command reply {registers} {lengths} {sets} {left} {unborn} {last} is in_range unmade same said =
+    lone_after mine [] new command reply unborn last is (notes_none mine new _ _ said) in_range (λ g. refl) come_to-none (omega (arith, unmade)) (omega arith)
+    (subst (λ g. IsLoneGraph g registers lengths sets left) (sym same) is.graph) is.few_objects is.few_sets
+
+-- a reply that puts a value into a register
+pub lone_after_put : (mine new : List Entry) (d : ℕ) (value : Value) (command : Command) (reply : Reply) {registers : List Value} {lengths : List ℕ} {sets : ℕ} {left : Bool} {unborn last : ℕ} → IsLone mine registers lengths sets left unborn last
+    → IsCommand command → made_by command reply ≡ 0 → after_reply (lone_graph mine) 0 command reply ≡ with_register (lone_graph mine) 0 d value → new ≡ mine ++ Said 0 command reply ∷ []
+    → IsLone new (set registers d value) lengths sets left unborn last
+lone_after_put mine new d value command reply {registers} {lengths} {sets} {left} {unborn} {last} is in_range unmade puts said =
+    lone_after mine [] new command reply unborn last is (notes_none mine new _ _ said) in_range (λ g. refl) come_to-none (omega (arith, unmade)) (omega arith)
+    (subst (λ g. IsLoneGraph g (set registers d value) lengths sets left) (sym puts) (IsLoneGraph-put (lone_graph mine) d value is.graph)) is.few_objects is.few_sets

@@ -15,7 +15,7 @@ use Rattle.heap_model.specs.declared.entry.Entry.{Entry}
 use Rattle.heap_model.specs.graph.Objects.{graph_seat, register_value, target_node, absent_graph_seat}
 use Rattle.heap_model.specs.graph.Graph.{Graph, Node, GraphSeat, unset, fresh}
 use Rattle.heap_model.specs.graph.Growth.{after_reply}
-use Rattle.heap_model.specs.graph.Changes.{with_graph_seat, write, with_cell, with_object_cell, count_set, set_cell, add, leave}
+use Rattle.heap_model.specs.graph.Changes.{with_graph_seat, with_register, write, with_cell, with_object_cell, count_set, set_cell, add, leave}
 use Rattle.heap_model.specs.calls.SeatState.{SeatState, own_graph}
 use Rattle.library_tests.specs.LoneSeat.{lone_heap, lone_graph, lone_length, IsLoneGraph, AsksFor}
 
@@ -35,6 +35,11 @@ IsLoneGraph-updated g p alone board registers lengths sets left =
 
 count_set-lone : (g : Graph) {registers : List Value} {lengths : List ℕ} {sets : ℕ} {left : Bool} → IsLoneGraph g registers lengths sets left → IsLoneGraph (count_set g 0) registers lengths (sets + 1) left
 count_set-lone g is = IsLoneGraph-updated g _ is.alone is.board is.same_registers is.same_lengths (ap (λ n. n + 1) is.same_sets) is.same_left
+
+-- a register has another value
+pub IsLoneGraph-put : (g : Graph) (d : ℕ) (value : Value) {registers : List Value} {lengths : List ℕ} {sets : ℕ} {left : Bool} → IsLoneGraph g registers lengths sets left
+    → IsLoneGraph (with_register g 0 d value) (set registers d value) lengths sets left
+IsLoneGraph-put g d value is = IsLoneGraph-updated g _ is.alone is.board (ap (λ rs. set rs d value) is.same_registers) is.same_lengths is.same_sets is.same_left
 
 -- an element that is put in its own place changes nothing
 map-set_own : {A B : Type 0} (f : A → B) (xs : List A) (i : ℕ) (d y : A) → f y ≡ f (get_or xs i d) → map f (set xs i y) ≡ map f xs
