@@ -3,6 +3,7 @@ pub mod InnerStage
 pub mod Kept
 pub mod Claims
 pub mod Making
+pub mod Owes
 pub mod Reaching
 pub mod Replies
 pub mod OwnStage

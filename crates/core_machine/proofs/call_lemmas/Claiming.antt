@@ -7,18 +7,13 @@ use Rattle.std.proofs.lemmas.List.{map-append, append_cancel_right, nil_from_len
 use Rattle.std.proofs.lemmas.List.Elements.{filter-append, All-nil, All-cons, All-head, All-tail}
 use Rattle.std.proofs.lemmas.List.Filters.{length-filter_both}
 use Rattle.std.proofs.lemmas.List.Sums.{sum_by-cons}
-use Rattle.heap_model.specs.declared.command.Command.{Command}
-use Rattle.heap_model.specs.declared.command.Command.TheVariants.{New, Array}
 use Rattle.heap_model.specs.declared.entry.Entry.{Entry}
 use Rattle.heap_model.specs.declared.entry.Entry.TheVariants.{Takes, GivesBack}
 use Rattle.heap_model.specs.declared.id.Id.{Id}
-use Rattle.heap_model.specs.declared.reply.Reply.{Reply}
 use Rattle.heap_model.specs.declared.reply.Reply.TheVariants as replies
-use Rattle.heap_model.specs.calls.SeatCalls.{takes_of, gives_of, IsGroupCount, ClaimsBefore, ComesBefore}
-use Rattle.heap_model.specs.account.Space.{need_of}
+use Rattle.heap_model.specs.calls.SeatCalls.{takes_of, gives_of, IsGroupCount, ClaimsBefore}
 use Rattle.heap_model.proofs.account_lemmas.Snoc.{same_last}
 use Rattle.core_machine.specs.calls.Claims.{AreGroupsOf, HasTaken, GivesBackAll}
-use Rattle.core_machine.specs.seat.Commands.{MakesObject, IsArrayCall}
 use Rattle.core_machine.specs.table.Fragments.{in_group, out_of_group, part_in, part_out, clear_in}
 use Rattle.core_machine.specs.seat.Making.{first_group_of}
 use Rattle.core_machine.specs.seat.MakingMoves.{takes_some}
@@ -166,17 +161,3 @@ gives_over number unborn need given told gives few =
         → told ≡ takes_of number gives.counts ++ gives_of number gives.counts
     whole [] groups shown = sym (append-nil told) ∙ shown
     whole (count ∷ left) groups shown = absurd (omega (arith, groups.0.0, groups.1))
-
--- what comes before the reply to a command that makes an object
-pub comes_of_object : (number unborn last : ℕ) (command : Command) (reply : Reply) (before : List Entry) → MakesObject command
-    → ClaimsBefore number unborn (need_of command) reply before → ComesBefore number unborn last command reply before
-comes_of_object number unborn last (New d fields) reply before makes claims = claims
-comes_of_object number unborn last (Array d cells) (replies.SpineFull shown used) before makes claims = absurd claims
-comes_of_object number unborn last (Array d cells) _ before makes claims = claims
-comes_of_object number unborn last _ reply before makes claims = absurd makes
-
--- nothing comes before the refusal of an array's spine words
-pub comes_of_withdrawal : (number unborn last : ℕ) (command : Command) (shown used : ℕ) (before : List Entry) → IsArrayCall command → before ≡ []
-    → ComesBefore number unborn last command (replies.SpineFull shown used) before
-comes_of_withdrawal number unborn last (Array d cells) shown used before an_array none = none
-comes_of_withdrawal number unborn last _ shown used before an_array none = absurd an_array

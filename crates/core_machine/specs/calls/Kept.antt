@@ -54,3 +54,7 @@ WasMade tells step = (word : ℕ) × tells step word
 pub record IsUntold (before kept : Kept) (told : List Entry) : Type 0 where
   pub kept_stays : kept ≡ before
   pub none_told : told ≡ []
+
+-- nothing is told of any word
+abbrev pub tells_nothing : Step → ℕ → Type 0
+tells_nothing step word = Unit {0}
