@@ -8,12 +8,10 @@ pub mod Claiming
 pub mod GoingOn
 pub mod Granting
 pub mod InnerCalls
-pub mod Owes
 pub mod Playing
 pub mod PlayingBegins
 pub mod PlayingInner
 pub mod PlayingOn
 pub mod RepliesAlone
 pub mod Restoring
-pub mod Saying
 pub mod Stages

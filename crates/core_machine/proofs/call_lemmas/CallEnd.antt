@@ -1,11 +1,12 @@
 -- What a call that is over comes to.
-use Rattle.std.proofs.Common.{◌≡◌, ◌≢◌, ℕ, ◌+◌, ◌-◌, ◌^◌, ◌<◌, ◌≤◌, List, [], ◌∷◌, ◌++◌, length, Option, Some, None, refl, sym, ap, subst, ◌∙◌, length-append, append_assoc, append-nil, arith}
+use Rattle.std.proofs.Common.{◌≡◌, ℕ, ◌+◌, ◌-◌, ◌^◌, ◌<◌, ◌≤◌, ◌⊎◌, List, [], ◌∷◌, ◌++◌, length, Option, Some, None, refl, sym, ap, subst, ◌∙◌, inl, inr, length-append, append_assoc, append-nil, arith}
 use Rattle.std.specs.Prelude.{IsSome, option_and_then, option_map}
 use Rattle.core_machine.specs.declared.step.Step.{Step}
 use Rattle.core_machine.specs.declared.table.address.Address.{Address}
+use Rattle.core_machine.specs.declared.table.address.Address.TheVariants.{Phase}
 use Rattle.core_machine.specs.table.Layout.{at, InTable}
 use Rattle.std.specs.List.{AllByRecursion}
-use Rattle.std.proofs.lemmas.List.{append_cancel_right}
+use Rattle.std.proofs.lemmas.List.{append_cancel_left}
 use Rattle.std.proofs.lemmas.Option.{slice_get-get_or}
 use Rattle.std.proofs.Math.Seq.{get_or-append_seam}
 use Rattle.heap_model.specs.declared.heap.Heap.{Heap}
@@ -13,23 +14,24 @@ use Rattle.heap_model.specs.declared.command.Command.{Command}
 use Rattle.heap_model.specs.declared.entry.Entry.{Entry}
 use Rattle.heap_model.specs.declared.entry.Entry.TheVariants.{Said}
 use Rattle.heap_model.specs.declared.reply.Reply.{Reply}
-use Rattle.heap_model.specs.declared.reply.Reply.TheVariants.{Done}
-use Rattle.heap_model.specs.calls.SeatCalls.{last_gives}
+use Rattle.heap_model.specs.calls.SeatCalls.{leave_entries}
 use Rattle.core_machine.specs.declared.place.Place.{Place}
 use Rattle.core_machine.specs.declared.place.Place.TheVariants as places
 use Rattle.core_machine.specs.seat.Seat.{Seat}
 use Rattle.core_machine.specs.Moves.{Move, move_at, next_move, due_step}
 use Rattle.core_machine.specs.machine.Machine.{State, seat_at, Steps, state_after}
 use Rattle.heap_model.specs.declared.command.Command.TheVariants.{Leave}
-use Rattle.core_machine.specs.machine.Calls.{IsBeside, PlaysCall, CountsCall, TellsLeave, AnswersNew, AnswersArray, reply_of, last_reply_of, IsPlaceRefusal, LeavesAll}
+use Rattle.core_machine.specs.machine.Calls.{IsBeside, IsPhaseNear, PlaysCall, CountsCall, TellsLeave, AnswersNew, AnswersArray, reply_of, last_reply_of, IsPlaceRefusal, LeavesAll}
 use Rattle.core_machine.specs.machine.Value.{MachineValue, IsMachine, log_of, spare_of, SpendsRoom}
-use Rattle.core_machine.proofs.call_lemmas.Saying.{Says, IsOver}
-use Rattle.core_machine.proofs.call_lemmas.Stages.{ComesDue, Answered, Stage}
+use Rattle.core_machine.specs.calls.Kept.{kept_of, tells_nothing}
+use Rattle.core_machine.specs.calls.Replies.{ComesFirst, IsAnswered}
+use Rattle.core_machine.proofs.call_lemmas.Stages.{Answered, AloneStage}
+use Rattle.core_machine.proofs.own_stages.End.{comes_before, own_answered, counts_by, leave_told}
 use Rattle.core_machine.specs.seat.Awaiting.{entries_awaited_at}
 use Rattle.core_machine.specs.seat.Commands.{IsRecordCall, IsArrayCall}
 use Rattle.core_machine.proofs.call_lemmas.Calling.{Playing, playing_more}
 use Rattle.core_machine.proofs.call_lemmas.CallRoom.{log_of_seat, step_room, spends_on}
-use Rattle.core_machine.proofs.call_lemmas.Owes.{owes, steps_left}
+use Rattle.core_machine.specs.calls.Owes.{owes, steps_left}
 
 -- a call that has no step due is over
 idle_at : (heap : Heap) (number : ℕ) (seat : Seat) (place : Place) → option_map (λ m. m.step) (move_at heap number seat place) ≡ None → place ≡ places.Idle
@@ -48,13 +50,7 @@ idle_from heap number seat none = idle_at heap number seat seat.place none
 pub answered : (heap : Heap) (old now : State) (number : ℕ) (command : Command) (playing : Playing heap old now number command)
     → due_step heap number (seat_at now number) ≡ None → Answered heap old now number command playing.told
 answered heap old now number command playing none =
-    subst (Stage heap old now number command playing.told (seat_at now number)) (idle_from heap number (seat_at now number) none) playing.stage
-
--- and it told no more than that
-pub over : (heap : Heap) (old now : State) (number : ℕ) (command : Command) (playing : Playing heap old now number command)
-    → due_step heap number (seat_at now number) ≡ None → IsOver (seat_at old number) number command (seat_at now number) playing.told
-over heap old now number command playing none =
-    subst (Says (seat_at old number) number command (seat_at now number) playing.told) (idle_from heap number (seat_at now number) none) playing.says
+    subst (AloneStage heap old now number command playing.told (seat_at now number)) (idle_from heap number (seat_at now number) none) playing.stage.alone
 
 -- a reply that is told last is the last
 pub last_reply-said : (entries_ : List Entry) (number : ℕ) (command : Command) (reply : Reply) → last_reply_of (entries_ ++ Said number command reply ∷ []) ≡ Some reply
@@ -65,12 +61,10 @@ last_reply-said entries_ number command reply =
     rw last (ap (option_and_then reply_of) (slice_get-get_or (entries_ ++ entry ∷ []) (length entries_) entry (omega arith)
     ∙ ap Some (get_or-append_seam entries_ entry [] entry)))
 
--- a list has one last reply, and one front before it
-one_last : (number : ℕ) (command : Command) (reply other : Reply) (told before front : List Entry) → told ≡ before ++ Said number command reply ∷ [] → told ≡ front ++ Said number command other ∷ [] → front ≡ before
-one_last number command reply other told before front is also =
-    let same : last_reply_of (front ++ Said number command other ∷ []) ≡ last_reply_of (before ++ Said number command reply ∷ []) = ap last_reply_of (sym also ∙ is) in
-    let e : other ≡ reply = some_reply (sym (last_reply-said front number command other) ∙ same ∙ last_reply-said before number command reply) in
-    append_cancel_right front before (Said number command reply ∷ []) (ap (λ (r : Reply). front ++ Said number command r ∷ []) (sym e) ∙ sym also ∙ is)
+-- a list has one last reply
+one_reply : (number : ℕ) (command : Command) (reply other : Reply) (told before front : List Entry) → told ≡ before ++ Said number command reply ∷ [] → told ≡ front ++ Said number command other ∷ [] → other ≡ reply
+one_reply number command reply other told before front is also =
+    some_reply (sym (last_reply-said front number command other) ∙ ap last_reply_of (sym also ∙ is) ∙ last_reply-said before number command reply)
   where
     some_reply : {a b : Reply} → Some a ≡ Some b → a ≡ b
     some_reply e = cc
@@ -83,32 +77,56 @@ all_mine heap old now number command playing none =
     let mine = playing.mine in
     sym (append-nil (seat_at now number).mine) ∙ ap (λ (l : List Entry). (seat_at now number).mine ++ l) (sym (ap (entries_awaited_at heap now.words number (seat_at now number)) idle)) ∙ mine
 
--- what comes before the reply to a command, be it a leave or not
-whole_comes : (heap : Heap) (old : State) (number : ℕ) (command : Command) (reply : Reply) (before : List Entry) → (command ≢ Leave → ComesDue heap old number command reply before)
-    → (command ≡ Leave → before ≡ last_gives number (length (seat_at old number).reserve)) → ComesDue heap old number command reply before
-whole_comes heap old number Leave reply before other leave near = leave refl
-whole_comes heap old number _ reply before other leave near = other (λ e. cc) near
+-- by the seat's own view it was answered too, with this reply
+pub record OwnEnd (heap : Heap) (old now : State) (number : ℕ) (command : Command) (told : List Entry) (reply : Reply) : Type 0 where
+  pub first : List Entry
+  pub last : told ≡ first ++ Said number command reply ∷ []
+  pub beside : AllByRecursion (IsBeside number) first
+  pub comes : ComesFirst number (kept_of (seat_at old number)) command reply first
+  pub counts : CountsCall (seat_at old number) (seat_at now number) command
+  pub leave : command ≡ Leave → told ≡ leave_entries number (length (seat_at old number).reserve)
+
+own_end : (heap : Heap) (old now : State) (number : ℕ) (command : Command) (playing : Playing heap old now number command)
+    (none : due_step heap number (seat_at now number) ≡ None) → OwnEnd heap old now number command playing.told (answered heap old now number command playing none).reply
+own_end heap old now number command playing none =
+    let answer = answered heap old now number command playing none in
+    let own = playing.stage.own in
+    let same : playing.listed ≡ playing.told = append_cancel_left (seat_at old number).mine playing.listed playing.told (sym own.mine ∙ all_mine heap old now number command playing none) in
+    let is : IsAnswered tells_nothing heap number command (kept_of (seat_at old number)) (kept_of (seat_at now number)) playing.told =
+    subst (IsAnswered tells_nothing heap number command (kept_of (seat_at old number)) (kept_of (seat_at now number))) same
+    (own_answered tells_nothing heap number command (seat_at old number) (seat_at now number) playing.listed own (idle_from heap number (seat_at now number) none)) in
+    let reply : is.reply ≡ answer.reply = one_reply number command answer.reply is.reply playing.told answer.before is.first answer.last is.last in
+    record {
+      first = is.first;
+      last = is.last ∙ ap (λ (r : Reply). is.first ++ Said number command r ∷ []) reply;
+      beside = is.beside;
+      comes = subst (λ (r : Reply). ComesFirst number (kept_of (seat_at old number)) command r is.first) reply is.comes;
+      counts = counts_by tells_nothing heap number command (seat_at old number) (seat_at now number) is.first is.reply is.stands;
+      leave = λ a_leave. leave_told tells_nothing heap number (kept_of (seat_at old number)) (kept_of (seat_at now number)) playing.told
+          (subst (λ (c : Command). IsAnswered tells_nothing heap number c (kept_of (seat_at old number)) (kept_of (seat_at now number)) playing.told) a_leave is);
+    }
 
 -- the whole call
 pub plays_call : (heap : Heap) (old now : State) (number : ℕ) (command : Command) (playing : Playing heap old now number command)
     (none : due_step heap number (seat_at now number) ≡ None) → PlaysCall heap old now number command (answered heap old now number command playing none).reply
 plays_call heap old now number command playing none =
     let answer = answered heap old now number command playing none in
-    let ended = over heap old now number command playing none in
-    let said = ended.replied in
+    let own = own_end heap old now number command playing none in
     record {
       steps = playing.steps;
       can = playing.can;
       ends = playing.ends;
       idle = idle_from heap number (seat_at now number) none;
-      before = answer.before;
-      shown = playing.shows ∙ answer.last;
-      mine = all_mine heap old now number command playing none ∙ ap (λ (l : List Entry). (seat_at old number).mine ++ l) answer.last;
-      comes = whole_comes heap old number command answer.reply answer.before answer.comes (λ a_leave.
-          sym (one_last number command answer.reply Done playing.told answer.before (last_gives number (length (seat_at old number).reserve)) answer.last
-          (ended.leave a_leave ∙ ap (λ (c : Command). last_gives number (length (seat_at old number).reserve) ++ Said number c Done ∷ []) (sym a_leave))));
-      beside = subst (AllByRecursion (IsBeside number)) (one_last number command answer.reply said.reply playing.told answer.before said.before answer.last said.last) said.beside;
+      before = own.first;
+      shown = playing.shows ∙ own.last;
+      mine = all_mine heap old now number command playing none ∙ ap (λ (l : List Entry). (seat_at old number).mine ++ l) own.last;
+      comes = λ near. comes_before number (kept_of (seat_at old number)) command answer.reply own.first own.comes (λ polls p is. near_told p (answer.phase polls p is) (near polls));
+      beside = own.beside;
     }
+  where
+    near_told : (p : ℕ) → p ≡ at heap old.words Phase → IsPhaseNear heap old number → (p ≡ (seat_at old number).answered) ⊎ (p ≡ (seat_at old number).answered + 1)
+    near_told p is (inl same) = inl (is ∙ same)
+    near_told p is (inr next) = inr (is ∙ next)
 
 -- the reply that its last entry tells
 pub replied : (heap : Heap) (old now : State) (number : ℕ) (command : Command) (playing : Playing heap old now number command)
@@ -195,7 +213,7 @@ pub call_over : {heap : Heap} {old : State} (now : MachineValue) {number : ℕ} 
     → due_step heap number (seat_at now.state number) ≡ None → last_reply_of (log_of now number) ≡ Some reply → CallOver heap old now.state number command reply
 call_over {heap} {old} now {number} {command} {reply} playing none last =
     let answer = answered heap old now.state number command playing none in
-    let ended = over heap old now.state number command playing none in
+    let ended = own_end heap old now.state number command playing none in
     let told = ap last_reply_of (log_of_seat now number playing.within) ∙ replied heap old now.state number command playing none in
     let same : answer.reply ≡ reply = some_same answer.reply reply (sym told ∙ last) in
     record {

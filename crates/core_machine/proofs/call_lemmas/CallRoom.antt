@@ -12,7 +12,7 @@ use Rattle.core_machine.specs.seat.Seat.{Seat, need}
 use Rattle.core_machine.specs.Moves.{Move, next_move, due_step, seat_after}
 use Rattle.core_machine.specs.machine.Machine.{State, seat_at, found_by, after_begin, Begins, Steps, Can, state_after, state_after_due}
 use Rattle.core_machine.specs.machine.Value.{MachineValue, IsMachine, log_of, spare_of, SpendsRoom}
-use Rattle.core_machine.proofs.call_lemmas.Owes.{owes, steps_left}
+use Rattle.core_machine.specs.calls.Owes.{owes, steps_left}
 use Rattle.core_machine.proofs.moves.Standing.{MoveStands}
 use Rattle.core_machine.proofs.machine_lemmas.Runs.{seat_at-set, machine_after, moves_stand}
 use Rattle.core_machine.proofs.moves.{begin_stands}

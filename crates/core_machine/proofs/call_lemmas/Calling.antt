@@ -8,16 +8,18 @@ use Rattle.heap_model.specs.declared.entry.Entry.{Entry}
 use Rattle.core_machine.specs.declared.table.address.Address.{Address}
 use Rattle.core_machine.specs.declared.table.address.Address.TheVariants.{Budget}
 use Rattle.core_machine.specs.table.Layout.{at, InTable}
-use Rattle.core_machine.specs.seat.Seat.{Seat}
+use Rattle.core_machine.specs.seat.Seat.{Seat, call_over}
 use Rattle.core_machine.specs.Moves.{Move, next_move, seat_after}
 use Rattle.core_machine.specs.machine.Machine.{State, seat_at, found_by, state_after_move, after_begin, Begins, Steps, Can, state_after, state_after_due, entries_shown, entries, Run, state_after_all, history}
 use Rattle.core_machine.specs.machine.Calls.{call_events}
 use Rattle.core_machine.specs.machine.Value.{IsMachine}
 use Rattle.core_machine.proofs.table_lemmas.Addresses.{at-lt}
-use Rattle.core_machine.proofs.call_lemmas.Stages.{Stage}
-use Rattle.core_machine.proofs.call_lemmas.PlayingOn.{stage_moved}
-use Rattle.core_machine.proofs.call_lemmas.PlayingBegins.{stage_begun}
-use Rattle.core_machine.proofs.call_lemmas.Saying.{Says}
+use Rattle.core_machine.specs.calls.Kept.{tells_nothing}
+use Rattle.core_machine.proofs.call_lemmas.Stages.{Stage, AloneAfter}
+use Rattle.core_machine.proofs.call_lemmas.PlayingOn.{alone_moved}
+use Rattle.core_machine.proofs.call_lemmas.PlayingBegins.{alone_begun}
+use Rattle.core_machine.proofs.own_stages.{own_leads, own_begins}
+use Rattle.core_machine.proofs.seat_lemmas.Aside.{over_idle}
 use Rattle.core_machine.proofs.moves.{begin_stands}
 use Rattle.core_machine.proofs.moves.Standing.{MoveStands}
 use Rattle.core_machine.specs.seat.Awaiting.{entries_awaited}
@@ -33,8 +35,9 @@ pub record Playing (heap : Heap) (old now : State) (number : ℕ) (command : Com
   pub told : List Entry
   pub shows : history heap old (call_events number command steps) ≡ told
   pub mine : (seat_at now number).mine ++ entries_awaited heap now.words number (seat_at now number) ≡ (seat_at old number).mine ++ told
-  pub stage : Stage heap old now number command told (seat_at now number) (seat_at now number).place
-  pub says : Says (seat_at old number) number command (seat_at now number) told (seat_at now number).place
+  pub listed : List Entry
+  pub stage : Stage heap old now number command told listed (seat_at now number)
+  pub resting : call_over (seat_at old number) ≡ seat_at old number
 
 pub playing_begun : (heap : Heap) (old : State) (number : ℕ) (command : Command) → IsMachine heap old → Can heap old (Begins number command)
     → Playing heap old (state_after heap old (Begins number command)) number command
@@ -53,19 +56,33 @@ playing_begun heap old number command machine can =
       told = [];
       shows = refl;
       mine = subst (λ (s : Seat). s.mine ++ entries_awaited heap now.words number s ≡ seat.mine ++ []) (sym here) (rw (stands.kept, stands.awaits now.words) refl);
-      stage = subst (λ (s : Seat). Stage heap old now number command [] s s.place) (sym here) (stage_begun heap old number now (machine.fit number can.0) can.1.idle refl (at-lt heap old.words Budget machine.wide) command can.1.served);
-      says = subst (λ (s : Seat). Says seat number command s [] s.place) (sym here) stands.says;
+      listed = [];
+      stage = subst (Stage heap old now number command [] []) (sym here) (record {
+        own = own_begins tells_nothing heap number seat command machine.limits (machine.fit number can.0) can.1;
+        alone = alone_begun heap old number now (machine.fit number can.0) can.1.idle refl (at-lt heap old.words Budget machine.wide) command can.1.served;
+      });
+      resting = over_idle heap seat (machine.fit number can.0) can.1.idle;
     }
 
+-- what the seat's own list gets by a due move that found this word
+abbrev more_listed : Option Move → ℕ → List Entry
+more_listed None found = []
+more_listed (Some move) found = move.adds found
+
+-- the word that a due move finds; 0 where none is due
+abbrev found_due : Heap → State → Option Move → ℕ
+found_due heap now None = 0
+found_due heap now (Some move) = found_by heap now move.step
+
 -- what a move leaves: the entries and the stage
-more_by : (heap : Heap) (old now : State) (number : ℕ) (command : Command) (told : List Entry) (move : Option Move)
-    → number < length now.seats → (seat_at now number).mine ++ entries_awaited heap now.words number (seat_at now number) ≡ (seat_at old number).mine ++ told
-    → IfSome move (λ m. Stage heap old (state_after_move heap now number m) number command (told ++ m.shows now.words (found_by heap now m.step)) (seat_after m (found_by heap now m.step)) (seat_after m (found_by heap now m.step)).place)
+more_by : (heap : Heap) (old now : State) (number : ℕ) (command : Command) (told listed : List Entry) (move : Option Move) → next_move heap number (seat_at now number) ≡ move
+    → IsMachine heap now → number < length now.seats → (seat_at now number).mine ++ entries_awaited heap now.words number (seat_at now number) ≡ (seat_at old number).mine ++ told
+    → Stage heap old now number command told listed (seat_at now number) → IfSome move (AloneAfter heap old number command now told)
     → IfSome move (MoveStands heap number (seat_at now number) (seat_at now number).place) → IsSome move
     → ((seat_at (state_after_due heap now number move) number).mine ++ entries_awaited heap (state_after_due heap now number move).words number (seat_at (state_after_due heap now number move) number) ≡ (seat_at old number).mine ++ (told ++ entries_shown heap now move))
-    × Stage heap old (state_after_due heap now number move) number command (told ++ entries_shown heap now move) (seat_at (state_after_due heap now number move) number) (seat_at (state_after_due heap now number move) number).place
-more_by heap old now number command told None within mine stage stands some = cc
-more_by heap old now number command told (Some m) within mine stage stands some =
+    × Stage heap old (state_after_due heap now number move) number command (told ++ entries_shown heap now move) (listed ++ more_listed move (found_due heap now move)) (seat_at (state_after_due heap now number move) number)
+more_by heap old now number command told listed None is machine within mine stage alone stands some = cc
+more_by heap old now number command told listed (Some m) is machine within mine stage alone stands some =
     let found = found_by heap now m.step in
     let here : seat_at (state_after_move heap now number m) number ≡ seat_after m found = seat_at-set now.seats number (seat_after m found) within in
     let adds = stands.adds now in
@@ -77,18 +94,11 @@ more_by heap old now number command told (Some m) within mine stage stands some 
     ∙ ap (λ (l : List Entry). (seat_at now number).mine ++ l) adds.told ∙ sym (append_assoc (seat_at now number).mine (entries_awaited heap now.words number (seat_at now number)) shows_)
     ∙ ap (λ (l : List Entry). l ++ shows_) mine ∙ append_assoc (seat_at old number).mine told shows_ in (
       subst (λ (s : Seat). s.mine ++ entries_awaited heap (state_after_move heap now number m).words number s ≡ (seat_at old number).mine ++ (told ++ shows_)) (sym here) mine_,
-      subst (λ (s : Seat). Stage heap old (state_after_move heap now number m) number command (told ++ shows_) s s.place) (sym here) stage,
+      subst (Stage heap old (state_after_move heap now number m) number command (told ++ shows_) (listed ++ m.adds found)) (sym here) (record {
+        own = own_leads tells_nothing heap number command (seat_at old number) (seat_at now number) listed m found machine.limits (omega (arith, within, machine.seated, machine.limits.seats_fit)) (machine.fit number within) is tt stage.own;
+        alone = alone;
+      }),
     )
-
--- what a move leaves of what is said
-says_by : (heap : Heap) (old : Seat) (now : State) (number : ℕ) (command : Command) (told : List Entry) (move : Option Move) → number < length now.seats → IsSome move
-    → IfSome move (MoveStands heap number (seat_at now number) (seat_at now number).place) → Says old number command (seat_at now number) told (seat_at now number).place
-    → Says old number command (seat_at (state_after_due heap now number move) number) (told ++ entries_shown heap now move) (seat_at (state_after_due heap now number move) number).place
-says_by heap old now number command told None within some stands says = cc
-says_by heap old now number command told (Some m) within some stands says =
-    let found = found_by heap now m.step in
-    subst (λ (s : Seat). Says old number command s (told ++ m.shows now.words found) s.place) (sym (seat_at-set now.seats number (seat_after m found) within))
-    (stands.says old command now.words told says found)
 
 pub playing_more : (heap : Heap) (old now : State) (number : ℕ) (command : Command) → ((a : Address) → InTable heap a → at heap old.words a < 2 ^ 64)
     → Playing heap old now number command → IsSome (next_move heap number (seat_at now number))
@@ -99,9 +109,9 @@ playing_more heap old now number command small playing some =
     let next = state_after heap now (Steps number) in
     let machine = machine_after heap now (Steps number) playing.machine some in
     let stands = moves_stand heap now number playing.machine playing.within in
-    let left = more_by heap old now number command playing.told (next_move heap number (seat_at now number)) playing.within playing.mine
-    (stage_moved heap old number command now playing.told playing.within playing.machine small playing.stage)
-    stands some in
+    let move = next_move heap number (seat_at now number) in
+    let left = more_by heap old now number command playing.told playing.listed move refl playing.machine playing.within playing.mine playing.stage
+    (alone_moved heap old number command now playing.told playing.within playing.resting playing.machine small playing.listed playing.stage) stands some in
     record {
       steps = playing.steps + 1;
       can = runs.can;
@@ -111,6 +121,7 @@ playing_more heap old now number command small playing some =
       told = playing.told ++ entries heap now (Steps number);
       shows = runs.shows;
       mine = left.0;
+      listed = playing.listed ++ more_listed move (found_due heap now move);
       stage = left.1;
-      says = says_by heap (seat_at old number) now number command playing.told (next_move heap number (seat_at now number)) playing.within some stands playing.says;
+      resting = playing.resting;
     }

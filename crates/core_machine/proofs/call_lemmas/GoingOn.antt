@@ -11,21 +11,19 @@ use Rattle.heap_model.specs.account.Space.{need_of}
 use Rattle.core_machine.specs.seat.Commands.{IsRecordCall, IsArrayCall}
 use Rattle.core_machine.specs.declared.table.address.Address.TheVariants.{Budget, Control}
 use Rattle.core_machine.specs.declared.place.Place.TheVariants as places
-use Rattle.core_machine.specs.declared.place.Making.{Making}
-use Rattle.core_machine.specs.declared.place.Making.TheVariants.{Returning, Refusing}
 use Rattle.core_machine.specs.table.Fragments.{clear_in}
 use Rattle.core_machine.specs.table.Layout.{at}
 use Rattle.core_machine.specs.seat.Seat.{Seat, with_entries}
-use Rattle.core_machine.specs.seat.Making.{gather_next, after_gather, next_object_id}
+use Rattle.core_machine.specs.seat.Making.{gather_next, after_gather}
 use Rattle.core_machine.specs.machine.Machine.{State, seat_at}
 use Rattle.core_machine.specs.seat.Fits.{IsAtRest, FitsPlace, Fits}
 use Rattle.core_machine.specs.machine.Calls.{free_count, KeepsOwn}
-use Rattle.core_machine.proofs.call_lemmas.Claiming.{GivesBackAll, taken_none, taken_enough, gives_none}
+use Rattle.core_machine.specs.calls.Kept.{Kept, kept_of}
 use Rattle.core_machine.proofs.table_lemmas.Free.{sum_zero}
 use Rattle.core_machine.proofs.seat_lemmas.Fitting.{goes_on_cases, returning_cases, settled_cases}
 use Rattle.core_machine.proofs.call_lemmas.Asking.{AsksWords, asks_none}
 use Rattle.core_machine.proofs.call_lemmas.Restoring.{claims_none}
-use Rattle.core_machine.proofs.call_lemmas.Stages.{WhileGathering, WhileReturning, WhileMaking, Untouched, Stage}
+use Rattle.core_machine.proofs.call_lemmas.Stages.{WhileGathering, WhileReturning, WhileMaking, AloneStage}
 
 -- each group is passed when as many were claimed as there are
 every_group : (groups cursor tried g : ℕ) (P : ℕ → Type 0) → cursor < groups → groups ≤ tried → g < groups
@@ -50,21 +48,12 @@ record_words (New d fields) a_record = refl
 record_words _ a_record = absurd a_record
 
 -- what the seat keeps of its own, whatever else changes
-pub own_kept : (old seat next : Seat) → KeepsOwn old seat → next.registers ≡ seat.registers → next.reserve ≡ seat.reserve → next.cursor ≡ seat.cursor → next.made ≡ seat.made → KeepsOwn old next
-own_kept old seat next own registers reserve cursor made = record {
-  registers_stay = registers ∙ own.registers_stay;
-  reserve_stays = reserve ∙ own.reserve_stays;
-  cursor_stays = cursor ∙ own.cursor_stays;
-  made_stays = made ∙ own.made_stays;
-}
-
--- a seat that was left alone keeps its own
-pub untouched_own : (old now : State) (number : ℕ) (told : List Entry) (seat : Seat) → Untouched old now number told seat → KeepsOwn (seat_at old number) seat
-untouched_own old now number told seat is = record {
-  registers_stay = ap (λ (s : Seat). s.registers) is.seat_stays;
-  reserve_stays = ap (λ (s : Seat). s.reserve) is.seat_stays;
-  cursor_stays = ap (λ (s : Seat). s.cursor) is.seat_stays;
-  made_stays = ap (λ (s : Seat). s.made) is.seat_stays;
+pub own_kept : (old seat next : Seat) → kept_of seat ≡ kept_of old → next.registers ≡ seat.registers → next.reserve ≡ seat.reserve → next.cursor ≡ seat.cursor → next.made ≡ seat.made → KeepsOwn old next
+own_kept old seat next kept registers reserve cursor made = record {
+  registers_stay = registers ∙ ap (λ (k : Kept). k.registers) kept;
+  reserve_stays = reserve ∙ ap (λ (k : Kept). k.reserve) kept;
+  cursor_stays = cursor ∙ ap (λ (k : Kept). k.cursor) kept;
+  made_stays = made ∙ ap (λ (k : Kept). k.made) kept;
 }
 
 -- an array is no record
@@ -74,60 +63,40 @@ array_no_record _ an_array a_record = an_array
 
 module _ (heap : Heap) (old : State) (number : ℕ) (command : Command) where
   -- while what was claimed is given back, of which nothing was yet
-  while_returning : (now : State) (told more : List Entry) (seat : Seat) → seat.given ≡ 0 → WhileGathering heap old now.words number command told seat → free_count heap now.words ≡ 0 → (m : Making)
-      → WhileReturning heap old now.words number command told (with_entries (record seat { place = places.Making m }) more)
-  while_returning now told more seat none while nothing m = record {
-    own = own_kept (seat_at old number) seat _ while.own refl refl refl refl;
-    all = omega (arith, while.free, nothing, none);
-    claims = while.claims;
-    gives = subst (λ (given : ℕ). GivesBackAll number given seat.hand told) (sym none) (gives_none number (length (seat_at old number).reserve) (need_of command) seat.hand told while.takes);
-  }
+  while_returning : (words : List ℕ) (seat : Seat) → seat.given ≡ 0 → WhileGathering heap old words command seat.cursor seat.tried seat.hand → free_count heap words ≡ 0
+      → WhileReturning heap old words command seat.hand seat.given
+  while_returning words seat none while nothing = record { all = omega (arith, while.free, nothing, none); claims = while.claims }
 
   -- where the call goes on with what is gathered
-  pub stage_goes_on : (now : State) (told more : List Entry) (seat : Seat) → seat.command ≡ command → seat.given ≡ 0 → seat.cursor < heap.groups
-      → WhileGathering heap old now.words number command told seat
-      → Stage heap old now number command told (with_entries (gather_next heap seat) more) (gather_next heap seat).place
-  stage_goes_on now told more seat is none cursor while =
+  pub alone_goes_on : (now : State) (told more : List Entry) (seat : Seat) → seat.command ≡ command → seat.given ≡ 0 → seat.cursor < heap.groups → seat.reserve ≡ (seat_at old number).reserve
+      → WhileGathering heap old now.words command seat.cursor seat.tried seat.hand
+      → AloneStage heap old now number command told (with_entries (gather_next heap seat) more) (gather_next heap seat).place
+  alone_goes_on now told more seat is none cursor same while =
       let long = length-append seat.reserve seat.hand in
-      let kept = ap (length {A = ℕ}) while.own.reserve_stays in
-      goes_on_cases (λ s. Stage heap old now number command told (with_entries s more) s.place) heap seat
+      let kept = ap (length {A = ℕ}) same in
+      goes_on_cases (λ s. AloneStage heap old now number command told (with_entries s more) s.place) heap seat
       (λ enough.
-      let making : WhileMaking heap old number command told seat.made = record {
-        granted = while.claims.granted;
-        enough = omega (arith, while.free, enough, ap need_of is);
-        made_stays = while.own.made_stays;
-        claimed = taken_enough number (length (seat_at old number).reserve) (need_of command) seat.hand told (next_object_id number (seat_at old number)) while.takes (omega (arith, enough, ap need_of is));
-      } in
-      settled_cases (λ m. Stage heap old now number command told (with_entries (record (after_gather heap seat) { place = places.Making m }) more) (places.Making m)) seat.command
-      (λ an_array. (is, making)) (λ other. (is, making)))
-      (λ few left. (
-        is,
-        record {
-          own = own_kept (seat_at old number) seat _ while.own refl refl refl refl;
-          free = while.free;
-          passed = while.passed;
-          claims = while.claims;
-          takes = while.takes;
-        },
-      ))
+      let making : WhileMaking heap old number command = record { granted = while.claims.granted; enough = omega (arith, while.free, enough, ap need_of is) } in
+      settled_cases (λ m. AloneStage heap old now number command told (with_entries (record (after_gather heap seat) { place = places.Making m }) more) (places.Making m)) seat.command
+      (λ an_array. making) (λ other. making))
+      (λ few left. while)
       (λ few all.
       let nothing = sum_zero heap.groups (λ g. length (clear_in g (at heap now.words (Control g))))
       (λ g within. ap length (every_group heap.groups seat.cursor seat.tried g (λ k. clear_in k (at heap now.words (Control k)) ≡ []) cursor all within while.passed)) in
-      returning_cases (λ m. Stage heap old now number command told (with_entries (record seat { place = places.Making m }) more) (places.Making m)) seat.hand
-      (λ empty. (is, while_returning now told more seat none while nothing Refusing))
-      (λ some. (is, while_returning now told more seat none while nothing Returning)))
+      let returning = while_returning now.words seat none while nothing in
+      returning_cases (λ m. AloneStage heap old now number command told (with_entries (record seat { place = places.Making m }) more) (places.Making m)) seat.hand
+      (λ empty. returning) (λ some. returning))
 
   -- the making of a record is begun
-  pub stage_begun_new : (now : State) → Fits heap (seat_at old number) → (seat_at old number).place ≡ places.Idle → now.words ≡ old.words
+  pub alone_begun_new : (now : State) → Fits heap (seat_at old number) → (seat_at old number).place ≡ places.Idle → now.words ≡ old.words
       → at heap old.words Budget < 2 ^ 64 → IsRecordCall command
-      → Stage heap old now number command [] (gather_next heap (record (seat_at old number) { command = command })) (gather_next heap (record (seat_at old number) { command = command })).place
-  stage_begun_new now fits idle same small a_record =
+      → AloneStage heap old now number command [] (gather_next heap (record (seat_at old number) { command = command })) (gather_next heap (record (seat_at old number) { command = command })).place
+  alone_begun_new now fits idle same small a_record =
       let seat = seat_at old number in
       let rest : IsAtRest seat = subst (FitsPlace heap seat) idle fits.at_place in
       let begun_ = gather_next heap (record seat { command = command }) in
-      subst (λ (s : Seat). Stage heap old now number command [] s begun_.place) (with_entries-nil begun_)
-      (stage_goes_on now [] [] (record seat { command = command }) refl rest.none_given fits.own.cursor_within (record {
-        own = record { registers_stay = refl; reserve_stays = refl; cursor_stays = refl; made_stays = refl };
+      subst (λ (s : Seat). AloneStage heap old now number command [] s begun_.place) (with_entries-nil begun_)
+      (alone_goes_on now [] [] (record seat { command = command }) refl rest.none_given fits.own.cursor_within refl (record {
         free = rw (same, rest.empty_hand) (omega arith);
         passed = λ i below. absurd (omega (arith, rest.none_tried));
         claims = record {
@@ -136,5 +105,4 @@ module _ (heap : Heap) (old : State) (number : ℕ) (command : Command) where
           granted = λ an_array. absurd (array_no_record command an_array a_record);
           claims = rw (same, rest.empty_hand) (claims_none heap old.words);
         };
-        takes = rw rest.empty_hand (taken_none number (length seat.reserve) (need_of command) fits.own.small_reserve);
       }))

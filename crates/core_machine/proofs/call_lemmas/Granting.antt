@@ -1,12 +1,11 @@
 -- A call that makes an array by itself asks for its spine words.
-use Rattle.std.proofs.Common.{◌≡◌, ℕ, ◌%◌, ◌^◌, ◌<◌, List, [], ◌∷◌, ◌++◌, length, refl, sym, ap, subst, ◌∙◌, append-nil, arith}
+use Rattle.std.proofs.Common.{◌≡◌, ℕ, ◌%◌, ◌^◌, ◌<◌, List, [], ◌∷◌, ◌++◌, length, refl, sym, ap, subst, arith}
 use Rattle.heap_model.specs.declared.heap.Heap.{Heap}
 use Rattle.heap_model.specs.declared.command.Command.{Command}
 use Rattle.heap_model.specs.Needs.{spine_need_of}
 use Rattle.heap_model.specs.declared.entry.Entry.{Entry}
 use Rattle.heap_model.specs.declared.entry.Entry.TheVariants.{Said}
 use Rattle.heap_model.specs.declared.reply.Reply.TheVariants as replies
-use Rattle.heap_model.specs.account.Space.{need_of}
 use Rattle.core_machine.specs.seat.Commands.{IsArrayCall}
 use Rattle.core_machine.specs.declared.table.address.Address.{Address}
 use Rattle.core_machine.specs.declared.table.address.Address.TheVariants.{Budget}
@@ -17,13 +16,13 @@ use Rattle.core_machine.specs.machine.Machine.{State, seat_at, found_by, state_a
 use Rattle.core_machine.specs.seat.Fits.{SeatIsGranting, SeatIsWithdrawing}
 use Rattle.core_machine.specs.machine.Calls.{KeepsOwn}
 use Rattle.core_machine.specs.machine.Value.{IsMachine}
-use Rattle.core_machine.proofs.call_lemmas.Claiming.{taken_none, comes_of_withdrawal}
+use Rattle.core_machine.specs.calls.Kept.{Kept, kept_of}
 use Rattle.core_machine.proofs.seat_lemmas.Fitting.{budget_cases, words_of_array}
 use Rattle.core_machine.proofs.call_lemmas.Asking.{AsksWords, asks_some, asks_free, taken_back}
 use Rattle.core_machine.proofs.call_lemmas.Restoring.{claims_none}
 use Rattle.core_machine.proofs.machine_lemmas.Runs.{seat_at-set}
-use Rattle.core_machine.proofs.call_lemmas.Stages.{WhileWithdrawing, Untouched, Stage, StageAfter}
-use Rattle.core_machine.proofs.call_lemmas.GoingOn.{own_kept, untouched_own, array_no_record, stage_goes_on}
+use Rattle.core_machine.proofs.call_lemmas.Stages.{WhileWithdrawing, AloneStage, AloneAfter}
+use Rattle.core_machine.proofs.call_lemmas.GoingOn.{own_kept, array_no_record, alone_goes_on}
 
 module _ (heap : Heap) (old : State) (number : ℕ) (command : Command) (now : State) (told : List Entry) (machine : IsMachine heap now) (within : number < length now.seats)
     (small : (a : Address) → InTable heap a → at heap old.words a < 2 ^ 64) where
@@ -31,44 +30,32 @@ module _ (heap : Heap) (old : State) (number : ℕ) (command : Command) (now : S
   the_seat = seat_at now number
 
   abbrev Leads : Move → Type 0
-  Leads = StageAfter heap old number command now told
+  Leads = AloneAfter heap old number command now told
 
   -- the spine words were asked for: they are too many, or what is gathered goes on
-  pub stage_granted : SeatIsGranting the_seat → the_seat.command ≡ command → Untouched old now number told the_seat → Leads (grant_move heap number the_seat)
-  stage_granted is same while =
+  pub alone_granted : SeatIsGranting the_seat → the_seat.command ≡ command → kept_of the_seat ≡ kept_of (seat_at old number) → now.words ≡ old.words → Leads (grant_move heap number the_seat)
+  alone_granted is same kept stay =
       let seat = the_seat in
       let rest = is.0 in
       let fits = machine.fit number within in
       let found = at heap now.words Budget in
       let after_ = state_after_move heap now number (grant_move heap number seat) in
-      let words : found ≡ at heap old.words Budget = ap (λ (w : List ℕ). at heap w Budget) while.words_stay in
+      let words : found ≡ at heap old.words Budget = ap (λ (w : List ℕ). at heap w Budget) stay in
       let need_ : spine_need seat ≡ spine_need_of command = ap spine_need_of same in
       let asked : AsksWords heap (spine_need_of command) old.words after_.words =
-      subst (λ (n : ℕ). AsksWords heap n old.words after_.words) need_ (subst (λ (w : List ℕ). AsksWords heap (spine_need seat) w after_.words) while.words_stay (asks_some heap (spine_need seat) now.words machine.table)) in
-      let own = untouched_own old now number told seat while in
-      let none : told ++ [] ≡ [] = append-nil told ∙ while.none_told in
-      budget_cases (λ s. Stage heap old after_ number command (told ++ []) (with_entries s []) s.place) heap seat found
-      (λ lacks. (
-        same,
-        record {
-          own = own_kept (seat_at old number) seat _ own refl refl refl refl;
-          lacks = omega (arith, lacks, words, need_);
-          found = words;
-          asked = asked;
-          none_told = none;
-        },
-      ))
-      (λ grants. stage_goes_on heap old number command after_ (told ++ []) [] seat same rest.none_given fits.own.cursor_within (record {
-        own = own;
+      subst (λ (n : ℕ). AsksWords heap n old.words after_.words) need_ (subst (λ (w : List ℕ). AsksWords heap (spine_need seat) w after_.words) stay (asks_some heap (spine_need seat) now.words machine.table)) in
+      budget_cases (λ s. AloneStage heap old after_ number command (told ++ []) (with_entries s []) s.place) heap seat found
+      (λ lacks. record { lacks = omega (arith, lacks, words, need_); found = words; asked = asked })
+      (λ grants. alone_goes_on heap old number command after_ (told ++ []) [] seat same rest.none_given fits.own.cursor_within (ap (λ (k : Kept). k.reserve) kept) (record {
         free = rw rest.empty_hand (omega (arith, asks_free heap (spine_need_of command) old.words after_.words asked));
         passed = λ i below. absurd (omega (arith, rest.none_tried));
         claims = record { base = after_.words; asked = asked; granted = λ an_array lacks. absurd (omega (arith, grants, lacks, words, need_)); claims = rw rest.empty_hand (claims_none heap after_.words) };
-        takes = rw (none, rest.empty_hand) (taken_none number (length (seat_at old number).reserve) (need_of command) (omega (arith, fits.own.small_reserve, ap (length {A = ℕ}) own.reserve_stays)));
       }))
 
   -- they were taken back, and the refusal was told
-  pub stage_withdrawn : SeatIsWithdrawing heap the_seat → the_seat.command ≡ command → WhileWithdrawing heap old now.words number command told the_seat → Leads (withdraw_move number the_seat)
-  stage_withdrawn is same while =
+  pub alone_withdrawn : SeatIsWithdrawing heap the_seat → the_seat.command ≡ command → kept_of the_seat ≡ kept_of (seat_at old number)
+      → WhileWithdrawing heap old now.words command (seat_at now number).used → Leads (withdraw_move number the_seat)
+  alone_withdrawn is same kept while =
       let seat = the_seat in
       let move = withdraw_move number seat in
       let after_ = state_after_move heap now number move in
@@ -81,12 +68,12 @@ module _ (heap : Heap) (old : State) (number : ℕ) (command : Command) (now : S
         before = told;
         last = ap (λ (c : Command). told ++ Said number c (replies.SpineFull (spine_need seat) (seat.used % 2 ^ 32)) ∷ []) same;
         refused = λ refusal. absurd refusal;
-        comes = λ stays near. comes_of_withdrawal number (length (seat_at old number).reserve) (seat_at old number).answered command (spine_need seat) (seat.used % 2 ^ 32) told an_array while.none_told;
+        phase = λ a_poll p e. cc;
         answer = λ a_record. absurd (array_no_record command an_array a_record);
         array = λ an_array_. record {
           spine_refused = λ lacks. record {
             shows = rw (while.found, same) refl;
-            own_stays = subst (KeepsOwn (seat_at old number)) (sym here) (own_kept (seat_at old number) seat _ while.own refl refl refl refl);
+            own_stays = subst (KeepsOwn (seat_at old number)) (sym here) (own_kept (seat_at old number) seat _ kept refl refl refl refl);
             table_stays = taken_back heap (spine_need seat) old.words now.words (subst (λ (n : ℕ). AsksWords heap n old.words now.words) (sym need_) while.asked) now.words machine.table small
                 (omega (arith, few.1)) (λ a there. refl);
           };

@@ -1,5 +1,5 @@
 -- A call that is made by itself, step by step.
-use Rattle.std.proofs.Common.{◌≡◌, ℕ, ◌+◌, ◌*◌, ◌%◌, ◌^◌, ◌<◌, ◌⊎◌, List, [], ◌∷◌, ◌++◌, length, refl, sym, ap, subst, inl, inr, length-append, append-nil, bit_or, arith}
+use Rattle.std.proofs.Common.{◌≡◌, ℕ, ◌+◌, ◌*◌, ◌%◌, ◌^◌, ◌<◌, List, [], ◌∷◌, ◌++◌, length, refl, sym, ap, subst, inl, inr, length-append, bit_or, arith}
 use Rattle.std.proofs.lemmas.Bool.Decides.{eqb_tells}
 use Rattle.std.proofs.lemmas.List.Filters.{length-filter_both}
 use Rattle.heap_model.specs.declared.heap.Heap.{Heap}
@@ -7,11 +7,8 @@ use Rattle.heap_model.specs.declared.command.Command.{Command}
 use Rattle.heap_model.specs.Needs.{spine_need_of}
 use Rattle.heap_model.specs.declared.entry.Entry.{Entry}
 use Rattle.heap_model.specs.declared.entry.Entry.TheVariants.{Said, GivesBack}
-use Rattle.heap_model.specs.declared.reply.Reply.{Reply}
 use Rattle.heap_model.specs.declared.reply.Reply.TheVariants as replies
-use Rattle.heap_model.specs.calls.SeatCalls.{ComesBefore}
 use Rattle.heap_model.specs.account.Space.{need_of}
-use Rattle.core_machine.specs.seat.Commands.{MakesObject}
 use Rattle.core_machine.specs.declared.table.address.Address.{Address}
 use Rattle.core_machine.specs.declared.table.address.Address.TheVariants.{Control}
 use Rattle.core_machine.specs.declared.place.Place.TheVariants as places
@@ -24,10 +21,11 @@ use Rattle.core_machine.specs.seat.Seat.{Seat, need, spine_need, with_entries}
 use Rattle.core_machine.specs.seat.Making.{next_group_of, first_group_of, after_give_back, after_listing, after_store, store_place, next_object_id}
 use Rattle.core_machine.specs.Moves.{Move, seat_after, listing_move, claim_move, give_back_move, refusal_move, store_move, bearing_move, is_last_birth, takes_some, making_move}
 use Rattle.core_machine.specs.machine.Machine.{State, seat_at, found_by, state_after_move}
-use Rattle.core_machine.specs.seat.Fits.{SeatIsGathering, SeatIsRefusing, HasBody, FitsMaking}
+use Rattle.core_machine.specs.seat.Fits.{SeatIsGathering, SeatIsRefusing, FitsMaking}
 use Rattle.core_machine.specs.machine.Calls.{free_count, within_reach, KeepsOwn, IsRefused}
 use Rattle.core_machine.specs.machine.Value.{IsMachine}
-use Rattle.core_machine.proofs.call_lemmas.Claiming.{GivesBackAll, taken_more, gives_more, gives_over, comes_of_object}
+use Rattle.core_machine.specs.calls.Kept.{Kept, kept_of, tells_nothing}
+use Rattle.core_machine.specs.calls.OwnStage.{MakingStage}
 use Rattle.core_machine.proofs.table_lemmas.Addresses.{at-put_other, at-put_same}
 use Rattle.core_machine.proofs.table_lemmas.Bits.{bool_tells}
 use Rattle.core_machine.proofs.table_lemmas.Free.{free-claimed, clear_in-claimed}
@@ -37,9 +35,9 @@ use Rattle.core_machine.proofs.table_lemmas.Filters.{out_shorter}
 use Rattle.core_machine.proofs.call_lemmas.Asking.{AsksWords, asks_small, refusal_restores}
 use Rattle.core_machine.proofs.call_lemmas.Restoring.{Claims, claims_more, claims_less, claims_over}
 use Rattle.core_machine.proofs.machine_lemmas.Runs.{seat_at-set}
-use Rattle.core_machine.proofs.call_lemmas.Stages.{WhileGathering, WhileReturning, WhileMaking, StageOf, Stage, StageAfter}
-use Rattle.core_machine.proofs.call_lemmas.GoingOn.{own_kept, stage_goes_on}
-use Rattle.core_machine.proofs.call_lemmas.Granting.{stage_granted, stage_withdrawn}
+use Rattle.core_machine.proofs.call_lemmas.Stages.{WhileGathering, WhileReturning, WhileMaking, MakingAlone, AloneStage, AloneAfter}
+use Rattle.core_machine.proofs.call_lemmas.GoingOn.{own_kept, alone_goes_on}
+use Rattle.core_machine.proofs.call_lemmas.Granting.{alone_granted, alone_withdrawn}
 
 -- the group that was claimed is passed too
 passed_more : (heap : Heap) (words : List ℕ) (cursor tried i : ℕ) → length words ≡ table_length heap → (cursor + tried) % heap.groups < heap.groups → i < tried + 1
@@ -62,24 +60,26 @@ module _ (heap : Heap) (old : State) (number : ℕ) (command : Command) (now : S
   abbrev pub the_seat : Seat
   the_seat = seat_at now number
 
+  -- what the seat keeps is what it kept at the begin
+  abbrev KeepsIt : Type 0
+  KeepsIt = kept_of the_seat ≡ kept_of (seat_at old number)
+
   -- what a move leads to
   abbrev pub Leads : Move → Type 0
-  Leads = StageAfter heap old number command now told
+  Leads = AloneAfter heap old number command now told
 
-  stage_claimed : SeatIsGathering heap the_seat → the_seat.command ≡ command → WhileGathering heap old now.words number command told the_seat → Leads (claim_move heap number the_seat)
-  stage_claimed is same while =
+  alone_claimed : SeatIsGathering heap the_seat → the_seat.command ≡ command → KeepsIt → WhileGathering heap old now.words command (seat_at now number).cursor (seat_at now number).tried (seat_at now number).hand
+      → Leads (claim_move heap number the_seat)
+  alone_claimed is same kept while =
       let seat = the_seat in
       let fits = machine.fit number within in
       let group = next_group_of heap seat in
       let n = at heap now.words (Control group) in
       let there : group < heap.groups = omega (arith, fits.own.cursor_within) in
       let got = clear_in group n in
-      let after_ = put heap now.words (Control group) (bit_or n all_taken) in
       let freed = free-claimed heap now.words group machine.table there in
-      let lacks : (part_in group seat.hand ≡ []) ⊎ (got ≡ []) = elim (while.claims.claims.controls group there) [ inl untouched ↦ inl untouched.0 | inr claimed ↦ inr claimed.1 ] in
-      stage_goes_on heap old number command (state_after_move heap now number (claim_move heap number seat)) _ (takes_some number (length got))
-      (record seat { hand = seat.hand ++ got; tried = seat.tried + 1 }) same is.none_given fits.own.cursor_within (record {
-        own = own_kept (seat_at old number) seat _ while.own refl refl refl refl;
+      alone_goes_on heap old number command (state_after_move heap now number (claim_move heap number seat)) _ (takes_some number (length got))
+      (record seat { hand = seat.hand ++ got; tried = seat.tried + 1 }) same is.none_given fits.own.cursor_within (ap (λ (k : Kept). k.reserve) kept) (record {
         free = omega (arith, freed, while.free, length-append seat.hand got);
         passed = λ i below. passed_more heap now.words seat.cursor seat.tried i machine.table there below while.passed;
         claims = record {
@@ -88,13 +88,10 @@ module _ (heap : Heap) (old : State) (number : ℕ) (command : Command) (now : S
           granted = while.claims.granted;
           claims = claims_more heap while.claims.base now.words seat.hand group machine.table there (asks_small heap (spine_need_of command) old.words while.claims.base while.claims.asked small) while.claims.claims;
         };
-        takes = taken_more number (length (seat_at old number).reserve) (need_of command) seat.hand told group n while.takes
-            (omega (arith, is.too_few, ap need_of same, ap (length {A = ℕ}) while.own.reserve_stays)) lacks;
       })
 
-  stage_given_back : SeatIsRefusing heap the_seat → 0 < length the_seat.hand → the_seat.command ≡ command → WhileReturning heap old now.words number command told the_seat
-      → Leads (give_back_move number the_seat)
-  stage_given_back is some same while =
+  alone_given_back : SeatIsRefusing heap the_seat → 0 < length the_seat.hand → WhileReturning heap old now.words command (seat_at now number).hand (seat_at now number).given → Leads (give_back_move number the_seat)
+  alone_given_back is some while =
       let seat = the_seat in
       let fits = machine.fit number within in
       let group = first_group_of seat.hand in
@@ -104,41 +101,36 @@ module _ (heap : Heap) (old : State) (number : ℕ) (command : Command) (now : S
       let less = claims_less heap while.claims.base now.words seat.hand group machine.table there (omega arith) while.claims.claims in
       let entry = GivesBack number (length (part_in group seat.hand)) in
       let after_ = state_after_move heap now number (give_back_move number seat) in
-      let next : (m : Making) → WhileReturning heap old after_.words number command (told ++ entry ∷ []) (with_entries (record (after_give_back seat) { place = places.Making m }) (entry ∷ [])) = λ m. record {
-        own = own_kept (seat_at old number) seat _ while.own refl refl refl refl;
+      let next : WhileReturning heap old after_.words command (part_out group seat.hand) (seat.given + length (part_in group seat.hand)) = record {
         all = omega (arith, while.all);
         claims = record { base = while.claims.base; asked = while.claims.asked; granted = while.claims.granted; claims = less };
-        gives = gives_more number seat.given seat.hand told while.gives some;
       } in
-      returning_cases (λ m. Stage heap old after_ number command (told ++ entry ∷ []) (with_entries (record (after_give_back seat) { place = places.Making m }) (entry ∷ [])) (places.Making m))
-      (part_out group seat.hand) (λ empty. (same, next Refusing)) (λ left. (same, next Returning))
+      returning_cases (λ m. AloneStage heap old after_ number command (told ++ entry ∷ []) (with_entries (record (after_give_back seat) { place = places.Making m }) (entry ∷ [])) (places.Making m))
+      (part_out group seat.hand) (λ empty. next) (λ left. next)
 
-  stage_refused : SeatIsRefusing heap the_seat → the_seat.hand ≡ [] → the_seat.command ≡ command → WhileReturning heap old now.words number command told the_seat
-      → Leads (refusal_move number the_seat)
-  stage_refused is empty same while =
+  alone_refused : SeatIsRefusing heap the_seat → the_seat.hand ≡ [] → the_seat.command ≡ command → KeepsIt
+      → WhileReturning heap old now.words command (seat_at now number).hand (seat_at now number).given → Leads (refusal_move number the_seat)
+  alone_refused is empty same kept while =
       let seat = the_seat in
       let after_ = state_after_move heap now number (refusal_move number seat) in
       let here : seat_at after_ number ≡ seat_after (refusal_move number seat) (found_by heap now (refusal_move number seat).step) = seat_at-set now.seats number _ within in
+      let reserve = ap (λ (k : Kept). length k.reserve) kept in
       let given : seat.given ≡ free_count heap old.words = omega (arith, while.all, ap (length {A = ℕ}) empty) in
-      let found : length seat.reserve + seat.given ≡ within_reach heap old number = omega (arith, given, ap (length {A = ℕ}) while.own.reserve_stays) in
+      let found : length seat.reserve + seat.given ≡ within_reach heap old number = omega (arith, given, reserve) in
       let few : within_reach heap old number < need_of command = omega (arith, is.too_few, ap need_of same, found) in
-      let own = length (seat_at old number).reserve in
-      let full : replies.Full (need seat) (length seat.reserve + seat.given) ≡ replies.Full (need_of command) (own + seat.given) = rw (same, while.own.reserve_stays) refl in
       let refused : IsRefused heap old after_ number command (replies.Full (need seat) (length seat.reserve + seat.given)) = record {
         shows = rw (found, same) refl;
-        own_stays = subst (KeepsOwn (seat_at old number)) (sym here) (own_kept (seat_at old number) seat _ while.own refl refl refl refl);
+        own_stays = subst (KeepsOwn (seat_at old number)) (sym here) (own_kept (seat_at old number) seat _ kept refl refl refl refl);
         table_stays = refusal_restores heap seat.command old.words while.claims.base now.words is.makes.an_object is.makes.in_range machine.table small
             (subst (λ (n : ℕ). AsksWords heap n old.words while.claims.base) (sym (ap spine_need_of same)) while.claims.asked)
             (claims_over heap while.claims.base now.words (subst (Claims heap while.claims.base now.words) empty while.claims.claims));
       } in
-      let claimed = gives_over number own (need_of command) seat.given told (subst (λ (hand : List ℕ). GivesBackAll number seat.given hand told) empty while.gives) (omega (arith, few, given)) in
       record {
         reply = replies.Full (need seat) (length seat.reserve + seat.given);
         before = told;
         last = ap (λ (c : Command). told ++ Said number c (replies.Full (need seat) (length seat.reserve + seat.given)) ∷ []) same;
         refused = λ refusal. absurd refusal;
-        comes = λ stays near. subst (λ (reply : Reply). ComesBefore number own (seat_at old number).answered command reply told) (sym full)
-            (comes_of_object number own (seat_at old number).answered command (replies.Full (need_of command) (own + seat.given)) told (subst MakesObject same is.makes.an_object) claimed);
+        phase = λ a_poll p e. cc;
         answer = λ a_record. record { made = λ enough. absurd (omega (arith, enough, few)); refused = λ lacks. refused };
         array = λ an_array. record {
           spine_refused = λ lacks. absurd (while.claims.granted an_array lacks);
@@ -147,28 +139,24 @@ module _ (heap : Heap) (old : State) (number : ℕ) (command : Command) (now : S
         };
       }
 
-  -- a move that tells nothing
-  no_more : WhileMaking heap old number command told the_seat.made → WhileMaking heap old number command (told ++ []) the_seat.made
-  no_more while = subst (λ (t : List Entry). WhileMaking heap old number command t the_seat.made) (sym (append-nil told)) while
-
-  stage_listed : the_seat.command ≡ command → WhileMaking heap old number command told the_seat.made → Leads (listing_move the_seat)
-  stage_listed same while =
+  alone_listed : WhileMaking heap old number command → Leads (listing_move the_seat)
+  alone_listed while =
       let seat = the_seat in
       let after_ = state_after_move heap now number (listing_move seat) in
-      listing_cases (λ m. Stage heap old after_ number command (told ++ []) (with_entries (record (after_listing seat) { place = places.Making m }) []) (places.Making m)) (seat.listed + 1) (spine_need seat)
-      (λ more. (same, no_more while)) (λ all. (same, no_more while))
+      listing_cases (λ m. AloneStage heap old after_ number command (told ++ []) (with_entries (record (after_listing seat) { place = places.Making m }) []) (places.Making m)) (seat.listed + 1) (spine_need seat)
+      (λ more. while) (λ all. while)
 
-  stage_stored : the_seat.command ≡ command → WhileMaking heap old number command told the_seat.made → Leads (store_move number the_seat)
-  stage_stored same while =
+  alone_stored : WhileMaking heap old number command → Leads (store_move number the_seat)
+  alone_stored while =
       let seat = the_seat in
       let after_ = state_after_move heap now number (store_move number seat) in
-      elim (eqb_tells (seat.stored + 1) (4 * length seat.body)) as (λ _. Stage heap old after_ number command (told ++ []) (with_entries (after_store seat) []) (places.Making (store_place (seat.stored + 1) seat.body))) [
-        | inl all ↦ rw all.0 (same, no_more while)
-        | inr left ↦ rw left.0 (same, no_more while)
+      elim (eqb_tells (seat.stored + 1) (4 * length seat.body)) as (λ _. AloneStage heap old after_ number command (told ++ []) (with_entries (after_store seat) []) (places.Making (store_place (seat.stored + 1) seat.body))) [
+        | inl all ↦ rw all.0 while
+        | inr left ↦ rw left.0 while
       ]
 
-  stage_bearing : the_seat.place ≡ places.Making Bearing → HasBody the_seat → the_seat.command ≡ command → WhileMaking heap old number command told the_seat.made → Leads (bearing_move number the_seat)
-  stage_bearing place is same while =
+  alone_bearing : the_seat.place ≡ places.Making Bearing → the_seat.command ≡ command → the_seat.made ≡ (seat_at old number).made → WhileMaking heap old number command → Leads (bearing_move number the_seat)
+  alone_bearing place same made while =
       let seat = the_seat in
       elim (bool_tells (is_last_birth seat)) as (λ _. Leads (bearing_move number seat)) [
         | inl last ↦ rw last (record {
@@ -176,25 +164,25 @@ module _ (heap : Heap) (old : State) (number : ℕ) (command : Command) (now : S
           before = told;
           last = ap (λ (c : Command). told ++ Said number c (replies.Made (next_object_id number seat)) ∷ []) same;
           refused = λ refusal. absurd refusal;
-          comes = λ stays near. comes_of_object number (length (seat_at old number).reserve) (seat_at old number).answered command (replies.Made (next_object_id number seat)) told (subst MakesObject same is.makes.an_object) while.claimed;
-          answer = λ a_record. record { made = λ enough. rw while.made_stays refl; refused = λ lacks. absurd (omega (arith, lacks, while.enough)) };
+          phase = λ a_poll p e. cc;
+          answer = λ a_record. record { made = λ enough. rw made refl; refused = λ lacks. absurd (omega (arith, lacks, while.enough)) };
           array = λ an_array. record {
             spine_refused = λ lacks. absurd (while.granted an_array lacks);
-            made = λ granted enough. rw while.made_stays refl;
+            made = λ granted enough. rw made refl;
             refused = λ granted lacks. absurd (omega (arith, lacks, while.enough));
           };
         })
-        | inr more ↦ rw (more, place) (same, no_more while)
+        | inr more ↦ rw (more, place) while
       ]
 
-  pub stage_making : (place : Making) → the_seat.place ≡ places.Making place → FitsMaking heap the_seat place → (the_seat.command ≡ command) × StageOf heap old now number command told the_seat place
-      → Leads (making_move heap number the_seat place)
-  stage_making Granting here fits stage = stage_granted heap old number command now told machine within small fits stage.0 stage.1
-  stage_making Withdrawing here fits stage = stage_withdrawn heap old number command now told machine within small fits stage.0 stage.1
-  stage_making Gathering here fits stage = stage_claimed fits stage.0 stage.1
-  stage_making Returning here fits stage = stage_given_back fits.0 fits.1 stage.0 stage.1
-  stage_making Refusing here fits stage = stage_refused fits.0 fits.1 stage.0 stage.1
-  stage_making Placing here fits stage = (stage.0, no_more stage.1)
-  stage_making Listing here fits stage = stage_listed stage.0 stage.1
-  stage_making Storing here fits stage = stage_stored stage.0 stage.1
-  stage_making Bearing here fits stage = stage_bearing here fits.0 stage.0 stage.1
+  pub alone_making : (place : Making) → the_seat.place ≡ places.Making place → FitsMaking heap the_seat place → the_seat.command ≡ command → (mine : List Entry)
+      → MakingStage tells_nothing heap number (kept_of (seat_at old number)) the_seat mine place → MakingAlone heap old now.words number command the_seat place → Leads (making_move heap number the_seat place)
+  alone_making Granting here fits same mine own alone = alone_granted heap old number command now told machine within small fits same own.kept_stays alone
+  alone_making Withdrawing here fits same mine own alone = alone_withdrawn heap old number command now told machine within small fits same own.0.kept_stays alone
+  alone_making Gathering here fits same mine own alone = alone_claimed fits same own.0 alone
+  alone_making Returning here fits same mine own alone = alone_given_back fits.0 fits.1 alone
+  alone_making Refusing here fits same mine own alone = alone_refused fits.0 fits.1 same own.0 alone
+  alone_making Placing here fits same mine own alone = alone
+  alone_making Listing here fits same mine own alone = alone_listed alone
+  alone_making Storing here fits same mine own alone = alone_stored alone
+  alone_making Bearing here fits same mine own alone = alone_bearing here same (ap (λ (k : Kept). k.made) own.0.kept_is) alone

@@ -15,7 +15,7 @@ use Rattle.core_machine.specs.seat.Seat.{Seat, call_over}
 use Rattle.core_machine.proofs.call_lemmas.CallEnd.{StepsOn, steps_on, idle_from}
 use Rattle.core_machine.proofs.call_lemmas.CallRoom.{log_of_seat}
 use Rattle.core_machine.proofs.call_lemmas.InnerCalls.{IsDone, InnerStage, InnerLeads, stage_first, inner_leads}
-use Rattle.core_machine.proofs.call_lemmas.Owes.{owes}
+use Rattle.core_machine.specs.calls.Owes.{owes}
 use Rattle.core_machine.proofs.machine_lemmas.Runs.{runs_on, seat_at-set, machine_after}
 use Rattle.core_machine.proofs.moves.Collect.{inner_stands}
 use Rattle.core_machine.proofs.seat_lemmas.Aside.{over_idle}

@@ -1,12 +1,10 @@
 -- Commands whose calls tell their reply alone, and refusals that leave the registers.
 use Rattle.std.specs.Prelude.{nat_lt, if◌then◌else◌}
-use Rattle.std.proofs.Common.{◌≡◌, ℕ, Bool, true, false, List, [], Option, Some, None, refl}
+use Rattle.std.proofs.Common.{◌≡◌, ℕ, Bool, true, false, List, Option, Some, None, refl}
 use Rattle.heap_model.specs.declared.command.Command.{Command}
 use Rattle.heap_model.specs.declared.command.Command.TheVariants as commands
-use Rattle.heap_model.specs.declared.entry.Entry.{Entry}
 use Rattle.heap_model.specs.declared.reply.Reply.{Reply}
 use Rattle.heap_model.specs.declared.reply.Reply.TheVariants.{NoObject, NoField}
-use Rattle.heap_model.specs.calls.SeatCalls.{ComesBefore}
 use Rattle.core_machine.specs.declared.seat.register.Register.{Register}
 use Rattle.core_machine.specs.machine.Calls.{IsPlaceRefusal}
 use Rattle.core_machine.specs.seat.Commands.{MakesObject}
@@ -48,20 +46,11 @@ pub set_alone : (command : Command) → IsSet command → RepliesAlone command
 set_alone (commands.Set r i v) a_set = tt
 set_alone _ a_set = absurd a_set
 
--- such a command makes no object, and nothing comes before its reply
+-- such a command makes no object
 pub alone_makes_none : (command : Command) → RepliesAlone command → MakesObject command → ⊥
 alone_makes_none (commands.New d fields) alone makes = alone
 alone_makes_none (commands.Array d cells) alone makes = alone
 alone_makes_none _ alone makes = makes
-
-pub alone_comes : (number unborn last : ℕ) (command : Command) (reply : Reply) (before : List Entry) → RepliesAlone command → before ≡ []
-    → ComesBefore number unborn last command reply before
-alone_comes number unborn last (commands.New d fields) reply before alone none = absurd alone
-alone_comes number unborn last (commands.Array d cells) reply before alone none = absurd alone
-alone_comes number unborn last commands.Poll reply before alone none = absurd alone
-alone_comes number unborn last commands.Collect reply before alone none = absurd alone
-alone_comes number unborn last commands.Leave reply before alone none = absurd alone
-alone_comes number unborn last _ reply before alone none = none
 
 -- such a call that looks at no word is refused without an object alone
 pub local_none : (registers : List Register) (command : Command) → IsPlaceRefusal (local_reply_of registers command) → local_reply_of registers command ≡ NoObject

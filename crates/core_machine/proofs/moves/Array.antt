@@ -1,5 +1,5 @@
 -- How an array asks for its spine words, and how its spine is made.
-use Rattle.std.proofs.Common.{◌≡◌, ℕ, ◌+◌, ◌<◌, [], ◌++◌, length, refl, ap, arith}
+use Rattle.std.proofs.Common.{◌≡◌, ℕ, ◌+◌, ◌<◌, [], length, refl, ap, arith}
 use Rattle.heap_words.specs.Spot.{spot_in}
 use Rattle.heap_model.specs.declared.command.Command.TheVariants.{Array}
 use Rattle.heap_model.specs.declared.heap.Heap.{Heap}
@@ -12,10 +12,9 @@ use Rattle.core_machine.specs.seat.Fits.{Fits, FitsMaking, HasArrayBody, SeatIsG
 use Rattle.core_machine.specs.seat.Making.{after_budget, after_listing, list_place}
 use Rattle.core_machine.specs.seat.Seat.{Seat, spine_need, with_entries}
 use Rattle.core_machine.proofs.call_lemmas.Awaits.{plain, after_words, goes_on_mine}
-use Rattle.core_machine.proofs.call_lemmas.Owes.{owes_making, making_steps, Nears}
-use Rattle.core_machine.proofs.call_lemmas.Saying.{Says, on, ends}
-use Rattle.core_machine.proofs.moves.Gather.{nears_gathered, goes_on_awaits, goes_on_says}
-use Rattle.core_machine.proofs.moves.Standing.{PlaceStands, CommandStands, present_at, aside_at, aside_ready, going_ready, rest_ready, resting_begins}
+use Rattle.core_machine.specs.calls.Owes.{owes_making, making_steps, Nears}
+use Rattle.core_machine.proofs.moves.Gather.{nears_gathered, goes_on_awaits}
+use Rattle.core_machine.proofs.moves.Standing.{PlaceStands, CommandStands, present_at, aside_at, aside_ready, rest_ready, resting_begins}
 use Rattle.core_machine.proofs.seat_lemmas.Aside.{IsAside, gone_aside, fits_over, fits_spine}
 use Rattle.core_machine.proofs.seat_lemmas.Fitting.{need_of_object, words_of_array, listed_all, budget_cases, listing_cases, fits_goes_on, gathers_at_rest}
 use Rattle.core_machine.proofs.table_lemmas.StepStands.{add_stands, take_back_stands, spot_stands, spine_store_stands}
@@ -61,9 +60,6 @@ grant_stands heap number seat here =
           let words = after_words heap now number seat move in
           plain heap now number seat move (budget_cases (λ s. s.mine ≡ seat.mine) heap seat found (λ lacks. refl) (λ grants. goes_on_mine heap seat)) (rw here.placed refl)
           (budget_cases (λ s. entries_awaited heap words number (with_entries s []) ≡ []) heap seat found (λ lacks. refl) (λ grants. goes_on_awaits heap words number seat [])) refl;
-      says = λ old command words told is found. budget_cases (λ s. Says old number command (with_entries s []) (told ++ []) s.place) heap seat found
-          (λ lacks. (on old number command seat _ told [] is.0 refl refl refl refl tt, is.1))
-          (λ grants. goes_on_says old number command heap seat seat told [] is refl refl refl refl tt);
     }
 
 -- they are taken back, and the refusal is told
@@ -74,7 +70,6 @@ withdraw_stands heap number seat here = record {
       here.fits.own.reserve_of_cursor (gone_aside (present_at heap number seat (places.Making Withdrawing) here (λ e. cc)));
   near = λ found. record { fewer = omega arith; paid = omega arith };
   adds = λ now. plain heap now number seat (withdraw_move number seat) refl (rw here.placed refl) refl refl;
-  says = λ old command words told is found. ends old number command seat _ told [] _ is (omega arith) (omega arith) refl tt;
 }
 
 -- the spine gets its place
@@ -89,7 +84,6 @@ placing_stands heap number seat here =
           (body, omega (arith, here.hand.1.none_listed, words.0)) aside.nowhere aside.silent;
       near = λ found. record { fewer = omega arith; paid = omega arith };
       adds = λ now. plain heap now number seat (placing_move seat) refl (rw here.placed refl) refl refl;
-      says = λ old command words_ told is found. (on old number command seat _ told [] is.0 refl refl refl refl tt, is.1);
     }
 
 module _ (heap : Heap) (seat : Seat) (body : HasArrayBody seat) (within : seat.listed < spine_need seat) where
@@ -122,9 +116,6 @@ listing_stands heap number seat here =
       fits = λ found small led. fits_listed heap seat body within here.fits (aside_at heap number seat (places.Making Listing) here (λ e. cc) here.way here.answer);
       near = λ found. nears_listed heap seat body within;
       adds = λ now. plain heap now number seat (listing_move seat) refl (rw here.placed refl) refl refl;
-      says = λ old command words told is found.
-          listing_cases (λ m. Says old number command (with_entries (record (after_listing seat) { place = places.Making m }) []) (told ++ []) (places.Making m)) (seat.listed + 1) (spine_need seat)
-          (λ more. (on old number command seat _ told [] is.0 refl refl refl refl tt, is.1)) (λ all. (on old number command seat _ told [] is.0 refl refl refl refl tt, is.1));
     }
 
 -- the making of an array begins
@@ -132,5 +123,4 @@ pub array_begins : (d cells : ℕ) → CommandStands (Array d cells)
 array_begins d cells heap number seat ready =
     let aside = aside_ready heap number seat (Array d cells) ready in
     resting_begins heap number seat (Array d cells) ready (places.Making Granting)
-    (rest_ready heap number seat (Array d cells) ready, record { an_object = tt; in_range = ready.may.in_range; numbered = ready.may.numbered }, tt) aside.nowhere aside.silent (λ words. refl)
-    (going_ready heap number seat (Array d cells) ready _ refl refl refl refl, λ e. cc) (omega arith)
+    (rest_ready heap number seat (Array d cells) ready, record { an_object = tt; in_range = ready.may.in_range; numbered = ready.may.numbered }, tt) aside.nowhere aside.silent (λ words. refl) (omega arith)

@@ -1,11 +1,10 @@
 -- How a new object gets its words, and is born.
-use Rattle.std.proofs.Common.{◌≡◌, ℕ, ◌+◌, ◌-◌, ◌*◌, ◌/◌, ◌^◌, ◌<◌, ◌≤◌, false, [], length, inl, inr, refl, arith, ◌++◌, set, get_or, subst, sym, ap, ◌∙◌, ◌%◌, bit_or, length-take}
+use Rattle.std.proofs.Common.{◌≡◌, ℕ, ◌+◌, ◌-◌, ◌*◌, ◌/◌, ◌^◌, ◌<◌, ◌≤◌, false, [], length, inl, inr, refl, arith, set, get_or, ap, ◌∙◌, ◌%◌, bit_or, length-take}
 use Rattle.std.proofs.lemmas.Bool.Decides.{eqb_tells}
 use Rattle.std.proofs.lemmas.List.{length-set}
 use Rattle.std.proofs.lemmas.List.Elements.{All-take, All-set}
 use Rattle.heap_model.specs.declared.heap.Heap.{Heap}
-use Rattle.heap_model.specs.declared.reply.Reply.TheVariants as replies
-use Rattle.core_machine.specs.Moves.{seat_after, bearing_move, is_last_birth, birth_move, last_birth_move, bears_black_of}
+use Rattle.core_machine.specs.Moves.{bearing_move, is_last_birth, birth_move, last_birth_move, bears_black_of}
 use Rattle.core_machine.specs.declared.place.Making.TheVariants.{Storing, Bearing}
 use Rattle.core_machine.specs.declared.place.Place.TheVariants as places
 use Rattle.core_machine.specs.declared.seat.register.Register.TheVariants.{Object}
@@ -17,8 +16,7 @@ use Rattle.core_machine.specs.seat.Seat.{Seat, with_entries}
 use Rattle.core_machine.specs.table.Fragments.{mask_of}
 use Rattle.core_machine.specs.table.Operation.{birth_bits_of}
 use Rattle.core_machine.proofs.call_lemmas.Awaits.{plain}
-use Rattle.core_machine.proofs.call_lemmas.Owes.{Nears}
-use Rattle.core_machine.proofs.call_lemmas.Saying.{Says, on, ends}
+use Rattle.core_machine.specs.calls.Owes.{Nears}
 use Rattle.core_machine.proofs.moves.Standing.{IsAt, MoveStands, PlaceStands, aside_at}
 use Rattle.core_machine.proofs.seat_lemmas.Aside.{IsAside, gone_aside, fits_over, fits_hand}
 use Rattle.core_machine.proofs.seat_lemmas.Fitting.{need_of_object}
@@ -70,7 +68,6 @@ store_stands heap number seat here =
       fits = λ found small led. fits_stored heap seat here.fits (aside_at heap number seat (places.Making Storing) here (λ e. cc) here.way here.answer) here.hand.0 here.hand.1 here.hand.2 here.hand.3;
       near = λ found. nears_stored heap seat here.hand.2 (omega (arith, ap length here.hand.1, here.hand.2));
       adds = λ now. plain heap now number seat (store_move number seat) refl (rw here.placed refl) refl refl;
-      says = λ old command words told is found. (on old number command seat _ told [] is.0 refl refl refl refl tt, is.1);
     }
 
 -- the hand's last fragments were born, and others are left
@@ -113,8 +110,6 @@ module _ (heap : Heap) (number : ℕ) (seat : Seat) (here : IsAt heap number sea
     fits = λ found small led. fits_born heap seat here.fits aside here.hand.0 here.hand.2 here.hand.3 here.hand.4 here.placed more;
     near = λ found. record { fewer = rw here.placed (omega (arith, shorter)); paid = rw here.placed (omega arith) };
     adds = λ now. plain heap now number seat (birth_move seat) refl (rw here.placed refl) (rw here.placed refl) refl;
-    says = λ old command words told is found. subst (Says old number command (seat_after (birth_move seat) found) (told ++ [])) (sym here.placed)
-        (on old number command seat (seat_after (birth_move seat) found) told [] is.0 refl refl refl refl tt, is.1);
   }
 
   last_birth_stands : MoveStands heap number seat (places.Making Bearing) (last_birth_move number seat)
@@ -123,8 +118,6 @@ module _ (heap : Heap) (number : ℕ) (seat : Seat) (here : IsAt heap number sea
     fits = λ found small led. fits_made heap number seat here.fits aside here.hand.0;
     near = λ found. record { fewer = omega (arith, here.hand.1); paid = omega arith };
     adds = λ now. plain heap now number seat (last_birth_move number seat) refl (rw here.placed refl) refl refl;
-    says = λ old command words told is found.
-        ends old number command seat (seat_after (last_birth_move number seat) found) told [] (replies.Made (next_object_id number seat)) is (omega arith) (omega arith) refl tt;
   }
 
 -- the fragments of a group are born

@@ -19,7 +19,7 @@ use Rattle.core_machine.specs.seat.Fits.{Fits, FitsPlace, FitsWay, FitsAnswer, I
 use Rattle.core_machine.specs.seat.Looks.{Looks, MayMake, looked, seen_phase, compared}
 use Rattle.core_machine.specs.seat.Seat.{Seat, call_over, after_call}
 use Rattle.core_machine.proofs.call_lemmas.Awaits.{plain}
-use Rattle.core_machine.proofs.call_lemmas.Owes.{owes, owes_at}
+use Rattle.core_machine.specs.calls.Owes.{owes, owes_at}
 use Rattle.core_machine.proofs.moves.Standing.{IsAt, PlaceStands, present_at}
 use Rattle.core_machine.proofs.seat_lemmas.Aside.{IsAside, gone_aside, aside_idle, fits_over, fits_ended}
 use Rattle.core_machine.proofs.table_lemmas.StepStands.{load_stands}
@@ -57,7 +57,6 @@ look_stands heap number seat here = record {
   fits = λ found small led. fits_looked heap number seat Looking (looked found seat.looks) here;
   near = λ found. record { fewer = omega arith; paid = omega arith };
   adds = λ now. plain heap now number seat (look_move seat) refl (rw here.placed refl) refl refl;
-  says = λ old command words told is found. absurd is;
 }
 
 -- the phase is loaded, with which the answer of another seat is to be compared
@@ -67,7 +66,6 @@ asking_stands other heap number seat here = record {
   fits = λ found small led. fits_asked heap number seat other found here;
   near = λ found. record { fewer = omega arith; paid = omega arith };
   adds = λ now. plain heap now number seat (asking_move seat other) refl (rw here.placed refl) refl refl;
-  says = λ old command words told is found. absurd is;
 }
 
 -- the other seat's word is loaded
@@ -77,7 +75,6 @@ comparing_stands other phase heap number seat here = record {
   fits = λ found small led. fits_looked heap number seat (Comparing other phase) (compared other phase found seat.looks) here;
   near = λ found. record { fewer = omega arith; paid = omega arith };
   adds = λ now. plain heap now number seat (comparing_move seat other phase) refl (rw here.placed refl) refl refl;
-  says = λ old command words told is found. absurd is;
 }
 
 -- the reply is told
@@ -87,7 +84,6 @@ note_stands reply heap number seat here = record {
   fits = λ found small led. fits_told heap number seat (Noting reply) (seen_phase found seat.looks) here;
   near = λ found. record { fewer = omega arith; paid = omega arith };
   adds = λ now. plain heap now number seat (note_move number seat reply) refl (rw here.placed refl) refl refl;
-  says = λ old command words told is found. absurd is;
 }
 
 -- what is asked of the begin of an inner call

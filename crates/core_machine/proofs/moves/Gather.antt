@@ -1,11 +1,11 @@
 -- What a call claims for a new object, gives back, and tells where too little is had.
-use Rattle.std.proofs.Common.{◌≡◌, ℕ, ◌+◌, ◌-◌, ◌*◌, ◌/◌, ◌^◌, ◌<◌, ◌≤◌, false, [], length, inl, inr, refl, arith, eqb, List, ◌∷◌, ◌++◌, drop, subst, sym, length-append, append_assoc, ◌≢◌, length-take}
+use Rattle.std.proofs.Common.{◌≡◌, ℕ, ◌+◌, ◌-◌, ◌*◌, ◌/◌, ◌^◌, ◌<◌, ◌≤◌, false, [], length, inl, inr, refl, arith, eqb, List, ◌∷◌, ◌++◌, drop, subst, sym, length-append, append_assoc, length-take}
 use Rattle.std.proofs.Math.Seq.{drop-append-add}
 use Rattle.std.proofs.lemmas.Bool.Decides.{eqb_tells}
 use Rattle.std.proofs.lemmas.List.Elements.{All-append, All-drop, All-filter}
 use Rattle.std.proofs.lemmas.List.Filters.{length-filter_both}
 use Rattle.std.proofs.lemmas.Nat.{and_le_r, or_lt}
-use Rattle.std.specs.List.{All, AllByRecursion}
+use Rattle.std.specs.List.{All}
 use Rattle.heap_model.specs.account.Space.{need_of}
 use Rattle.heap_model.specs.declared.command.Command.{Command}
 use Rattle.heap_model.specs.declared.command.Command.TheVariants.{New}
@@ -16,7 +16,6 @@ use Rattle.core_machine.specs.Moves.{takes_some, refusal_step}
 use Rattle.core_machine.specs.declared.place.Making.TheVariants.{Gathering, Returning, Refusing}
 use Rattle.core_machine.specs.declared.place.Place.TheVariants as places
 use Rattle.core_machine.specs.declared.step.Step.TheVariants.{PollLoad}
-use Rattle.core_machine.specs.machine.Calls.{IsBeside}
 use Rattle.core_machine.specs.machine.Machine.{found_by, MayBegin, after_begin}
 use Rattle.core_machine.specs.seat.Awaiting.{entries_awaited}
 use Rattle.core_machine.specs.seat.Fits.{Fits, MakesNext, SeatIsGathering, SeatIsRefusing, FitsPlace}
@@ -26,9 +25,8 @@ use Rattle.core_machine.specs.seat.Seat.{Seat, need, spine_need, with_entries}
 use Rattle.core_machine.specs.table.Fragments.{clear_in, part_out, in_group, out_of_group, part_in, mask_of}
 use Rattle.core_machine.specs.table.Operation.{all_taken}
 use Rattle.core_machine.proofs.call_lemmas.Awaits.{plain, after_words, goes_on_mine}
-use Rattle.core_machine.proofs.call_lemmas.Owes.{owes_making, making_steps, Nears, owes}
-use Rattle.core_machine.proofs.call_lemmas.Saying.{IsGoing, Says, on, ends}
-use Rattle.core_machine.proofs.moves.Standing.{PlaceStands, present_at, aside_at, CommandStands, going_ready, rest_ready}
+use Rattle.core_machine.specs.calls.Owes.{owes_making, making_steps, Nears, owes}
+use Rattle.core_machine.proofs.moves.Standing.{PlaceStands, present_at, aside_at, CommandStands, rest_ready}
 use Rattle.core_machine.proofs.seat_lemmas.Aside.{IsAside, gone_aside, fits_over, fits_hand, aside_idle}
 use Rattle.core_machine.proofs.seat_lemmas.Fitting.{need_of_object, fits_goes_on, fits_returning, goes_on_cases, returning_cases, settled_cases, gathers_at_rest, next_within}
 use Rattle.core_machine.proofs.table_lemmas.Clear.{length-clear_among}
@@ -115,17 +113,6 @@ pub goes_on_awaits : (heap : Heap) (words : List ℕ) (number : ℕ) (seat : Sea
 goes_on_awaits heap words number seat more =
     goes_on_cases (λ s. entries_awaited heap words number (with_entries s more) ≡ []) heap seat (λ enough. refl) (λ few left. refl) (λ few all. refl)
 
-took : (number count : ℕ) → AllByRecursion (IsBeside number) (takes_some number count)
-took number count = elim (eqb_tells count 0) as (λ _. AllByRecursion (IsBeside number) (takes_some number count)) [ inl none ↦ rw none.0 tt | inr some ↦ rw some.0 (refl, tt) ]
-
-pub goes_on_says : (old : Seat) (number : ℕ) (command : Command) (heap : Heap) (seat next : Seat) (told more : List Entry) → IsGoing old number command seat told × (command ≢ commands.Leave) → next.command ≡ seat.command → next.made ≡ seat.made → next.sets ≡ seat.sets → next.left ≡ seat.left
-    → AllByRecursion (IsBeside number) more → Says old number command (with_entries (gather_next heap next) more) (told ++ more) (gather_next heap next).place
-goes_on_says old number command heap seat next told more (is, stays) same made sets left beside =
-    goes_on_cases (λ s. Says old number command (with_entries s more) (told ++ more) s.place) heap next
-    (λ enough. (on old number command seat _ told more is same made sets left beside, stays))
-    (λ few more_. (on old number command seat _ told more is same made sets left beside, stays))
-    (λ few all. (on old number command seat _ told more is same made sets left beside, stays))
-
 -- a group is claimed
 pub claim_stands : PlaceStands (places.Making Gathering)
 claim_stands heap number seat here =
@@ -138,8 +125,6 @@ claim_stands heap number seat here =
       near = λ found. nears_claimed heap number seat found here.hand;
       adds = λ now. let found = found_by heap now move.step in
           plain heap now number seat move (goes_on_mine heap (next found)) (rw here.placed refl) (goes_on_awaits heap (after_words heap now number seat move) number (next found) (move.adds found)) refl;
-      says = λ old command words told is found.
-          goes_on_says old number command heap seat (next found) told (takes_some number (length (got found))) is refl refl refl refl (took number (length (got found)));
     }
 
 -- some fragments were given back
@@ -172,7 +157,6 @@ give_back_stands heap number seat here = record {
   fits = λ found small led. fits_given_back heap seat here.fits (aside_at heap number seat (places.Making Returning) here (λ e. cc) here.way here.answer) here.hand.0;
   near = λ found. nears_given_back heap seat _ here.hand.1;
   adds = λ now. plain heap now number seat (give_back_move number seat) refl (rw here.placed refl) refl refl;
-  says = λ old command words told is found. (on old number command seat _ told _ is.0 refl refl refl refl (refl, tt), is.1);
 }
 
 -- the step at which a refusal is told
@@ -188,7 +172,6 @@ refusal_stands heap number seat here = record {
       here.fits.own.reserve_of_cursor (gone_aside (present_at heap number seat (places.Making Refusing) here (λ e. cc)));
   near = λ found. record { fewer = omega arith; paid = omega arith };
   adds = λ now. plain heap now number seat (refusal_move number seat) refl (rw here.placed refl) refl refl;
-  says = λ old command words told is found. ends old number command seat _ told [] _ is (omega arith) (omega arith) refl tt;
 }
 
 -- a record is to be made
@@ -204,14 +187,10 @@ gather_begins d fields heap number seat ready =
     let next = record seat { command = New d fields } in
     let rest = rest_ready heap number seat (New d fields) ready in
     let some = need_of_object (New d fields) tt ready.may.in_range in
-    let going : (s : Seat) → s.command ≡ New d fields → s.made ≡ seat.made → s.sets ≡ seat.sets → s.left ≡ seat.left → IsGoing seat number (New d fields) s []
-    = going_ready heap number seat (New d fields) ready in
     record {
       fits = fits_gathers heap seat d fields ready.fits ready.may;
       kept = goes_on_mine heap next;
       awaits = λ words. goes_on_cases (λ s. entries_awaited heap words number s ≡ []) heap next (λ enough. refl) (λ few left. refl) (λ few all. refl);
-      says = goes_on_cases (λ s. Says seat number (New d fields) s [] s.place) heap next
-          (λ enough. (going _ refl refl refl refl, λ e. cc)) (λ few left. (going _ refl refl refl refl, λ e. cc)) (λ few all. (going _ refl refl refl refl, λ e. cc));
       owed = goes_on_cases (λ s. owes s ≤ 2 * need_of (New d fields) + 2) heap next (λ enough. omega arith) (λ few left. omega arith)
           (λ few all. absurd (omega (arith, all, rest.none_tried, ready.limits.some_group)));
     }

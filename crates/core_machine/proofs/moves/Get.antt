@@ -1,12 +1,9 @@
 -- A get loads its field, and the name of what that refers to.
-use Rattle.std.proofs.Common.{◌≡◌, ℕ, ◌^◌, ◌<◌, [], length, refl, arith, List, ◌++◌, subst, sym, append-nil, Option, Some, None, ◌≢◌}
+use Rattle.std.proofs.Common.{◌≡◌, ℕ, ◌^◌, ◌<◌, length, refl, arith, List, ◌++◌, subst, sym, append-nil, Option, Some, None}
 use Rattle.std.specs.Prelude.{IsSome}
 use Rattle.heap_words.specs.Cell.{cell_of}
 use Rattle.heap_words.specs.declared.kind.Kind.{Kind}
 use Rattle.heap_words.specs.declared.kind.Kind.TheVariants as kinds
-use Rattle.heap_model.specs.declared.command.Command.{Command}
-use Rattle.heap_model.specs.declared.command.Command.TheVariants as commands
-use Rattle.heap_model.specs.declared.entry.Entry.{Entry}
 use Rattle.heap_model.specs.declared.heap.Heap.{Heap}
 use Rattle.core_machine.specs.declared.place.Place.TheVariants as places
 use Rattle.core_machine.specs.declared.place.Access.TheVariants.{Getting, Naming}
@@ -22,8 +19,7 @@ use Rattle.core_machine.specs.seat.Seat.{Seat, with_entries}
 use Rattle.heap_words.specs.Loaded.{head_of}
 use Rattle.core_machine.specs.table.Decode.{id_of, plain_of, plain_register, IsWithinHeap}
 use Rattle.core_machine.proofs.call_lemmas.Awaits.{after_words}
-use Rattle.core_machine.proofs.call_lemmas.Owes.{Nears}
-use Rattle.core_machine.proofs.call_lemmas.Saying.{IsGoing, HasReplied, Says, replies_, ends}
+use Rattle.core_machine.specs.calls.Owes.{Nears}
 use Rattle.core_machine.proofs.moves.Standing.{PlaceStands, rests_at}
 use Rattle.core_machine.proofs.seat_lemmas.FittingAccess.{Rests, fits_access, fits_filled}
 use Rattle.core_machine.proofs.table_lemmas.Addresses.{put-at}
@@ -58,13 +54,6 @@ module _ (heap : Heap) (number : ℕ) (seat : Seat) where
   got_awaits words found None is = (refl, append-nil (got_adds number seat found None))
   got_awaits words found (Some head) is = (refl, rw is refl)
 
-module _ (old : Seat) (number : ℕ) (command : Command) where
-  got_says : (heap : Heap) (words : List ℕ) (seat : Seat) (told : List Entry) (found : ℕ) (head : Option ℕ) → IsGoing old number command seat told × (command ≢ commands.Leave)
-      → Says old number command (with_entries (after_get seat found head) (got_adds number seat found head)) (told ++ got_shows heap number seat words found head) (after_get seat found head).place
-  got_says heap words seat told found None is = ends old number command seat _ told [] _ is (omega arith) (omega arith) refl tt
-  got_says heap words seat told found (Some head) is =
-      (record { going = record { same = is.0.same; made_stays = is.0.made_stays; sets_stay = is.0.sets_stay; present_stays = is.0.present_stays; beside = tt }; replied = replies_ old number command seat told [] _ is.0 tt }, is.1)
-
 -- the field is loaded
 pub get_stands : PlaceStands (places.Access Getting)
 get_stands heap number seat here =
@@ -77,7 +66,6 @@ get_stands heap number seat here =
           let same : after_words heap now number seat move ≡ now.words = put-at heap now.words (Word seat.reached seat.part) in
           let by = got_awaits heap number seat now.words found (head_of found) refl in
           record { kept = by.0; told = rw (same, here.placed) by.1 };
-      says = λ old command words told is found. got_says old number command heap words seat told found (head_of found) is;
     }
 
 -- the name is loaded
@@ -88,9 +76,4 @@ name_stands heap number seat here = record {
       (some_within heap (head_of seat.loaded) here.way.1 here.fits.way.loaded_within);
   near = λ found. record { fewer = omega arith; paid = omega arith };
   adds = λ now. record { kept = refl; told = rw here.placed refl };
-  says = λ old command words told is found. record {
-    replied = subst (HasReplied old number command) (sym (append-nil told)) is.0.replied;
-    counts = record { made_more = omega (arith, is.0.going.made_stays); sets_more = omega (arith, is.0.going.sets_stay); present_stays = λ no_leave. is.0.going.present_stays };
-    leave = λ a_leave. absurd (is.1 a_leave);
-  };
 }

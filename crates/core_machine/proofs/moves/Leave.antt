@@ -1,17 +1,11 @@
 -- A seat gives back its reserve, and leaves.
-use Rattle.std.proofs.Common.{◌≡◌, ℕ, ◌-◌, ◌/◌, ◌^◌, [], length, inl, inr, refl, arith, List, ◌∷◌, ◌++◌, ap, ◌∙◌, true, replicate}
-use Rattle.std.proofs.lemmas.Bool.Decides.{eqb_tells}
+use Rattle.std.proofs.Common.{◌≡◌, ℕ, ◌-◌, ◌/◌, ◌^◌, [], refl, arith, List, ◌∷◌, true, replicate}
 use Rattle.std.proofs.lemmas.List.{length-replicate}
 use Rattle.std.proofs.lemmas.List.Elements.{All-nil, All-replicate}
 use Rattle.std.proofs.lemmas.Nat.{and_le_r}
 use Rattle.std.specs.List.{All}
-use Rattle.heap_model.specs.calls.SeatCalls.{last_gives}
-use Rattle.heap_model.specs.declared.command.Command.{Command}
 use Rattle.heap_model.specs.declared.command.Command.TheVariants as commands
-use Rattle.heap_model.specs.declared.entry.Entry.{Entry}
-use Rattle.heap_model.specs.declared.entry.Entry.TheVariants.{Said, GivesBack}
 use Rattle.heap_model.specs.declared.heap.Heap.{Heap}
-use Rattle.heap_model.specs.declared.reply.Reply.TheVariants as replies
 use Rattle.core_machine.specs.declared.place.Leaving.TheVariants.{Emptying, Parting}
 use Rattle.core_machine.specs.declared.place.Place.TheVariants as places
 use Rattle.core_machine.specs.declared.seat.register.Register.TheVariants.{Nil}
@@ -21,8 +15,7 @@ use Rattle.core_machine.specs.seat.Handshake.{after_emptying, after_leave, leave
 use Rattle.core_machine.specs.seat.Seat.{Seat}
 use Rattle.core_machine.specs.table.Fragments.{mask_of}
 use Rattle.core_machine.proofs.call_lemmas.Awaits.{plain}
-use Rattle.core_machine.proofs.call_lemmas.Saying.{on, replies_}
-use Rattle.core_machine.proofs.moves.Standing.{PlaceStands, aside_at, BeginStands, CommandStands, aside_ready, going_ready, rest_ready, resting_begins}
+use Rattle.core_machine.proofs.moves.Standing.{PlaceStands, aside_at, BeginStands, CommandStands, aside_ready, rest_ready, resting_begins}
 use Rattle.core_machine.proofs.seat_lemmas.Aside.{IsAside, gone_aside, fits_over}
 
 -- the reserve was given back
@@ -61,12 +54,7 @@ empty_stands heap number seat here = record {
   fits = λ found small led. fits_emptied heap seat here.fits (aside_at heap number seat (places.Leaving Emptying) here (λ e. cc) here.way here.answer) here.hand.0 here.hand.1;
   near = λ found. record { fewer = omega arith; paid = omega arith };
   adds = λ now. plain heap now number seat (empty_move number seat) refl (rw here.placed refl) refl refl;
-  says = λ old command words told is found.
-      (on old number command seat _ told _ is.0 refl refl refl refl (refl, tt), is.1, rw (is.2.0, is.2.1) (some (length old.reserve) is.2.2));
 }
-  where
-    some : (left : ℕ) → (left ≡ 0 → ⊥) → [] ++ GivesBack number left ∷ [] ≡ last_gives number left
-    some left has = elim (eqb_tells left 0) as (λ _. [] ++ GivesBack number left ∷ [] ≡ last_gives number left) [ inl none ↦ absurd (has none.1) | inr there ↦ rw there.0 refl ]
 
 -- the seat leaves
 pub leave_stands : PlaceStands (places.Leaving Parting)
@@ -75,11 +63,6 @@ leave_stands heap number seat here = record {
   fits = λ found small led. fits_parted heap seat here.fits here.hand.2;
   near = λ found. record { fewer = omega arith; paid = omega arith };
   adds = λ now. plain heap now number seat (leave_move number seat) refl (rw here.placed refl) refl refl;
-  says = λ old command words told is found. record {
-    replied = replies_ old number command seat told [] replies.Done is.0 tt;
-    counts = record { made_more = omega (arith, is.0.made_stays); sets_more = omega (arith, is.0.sets_stay); present_stays = λ no_leave. absurd (no_leave is.1) };
-    leave = λ a_leave. ap (λ (c : Command). told ++ Said number c replies.Done ∷ []) (is.0.same ∙ a_leave) ∙ ap (λ (es : List Entry). es ++ Said number commands.Leave replies.Done ∷ []) is.2;
-  };
 }
 
 -- a leave begins
@@ -88,9 +71,7 @@ leave_begins heap number seat ready = by seat.reserve refl where
   by : (reserve : List ℕ) → seat.reserve ≡ reserve → BeginStands heap number seat commands.Leave (record seat { command = commands.Leave; place = places.Leaving (leave_place reserve) })
   by [] is =
       let aside = aside_ready heap number seat commands.Leave ready in
-      resting_begins heap number seat commands.Leave ready (places.Leaving Parting) (rest_ready heap number seat commands.Leave ready, refl, is) aside.nowhere aside.silent (λ words. refl)
-      (going_ready heap number seat commands.Leave ready _ refl refl refl refl, refl, rw is refl) (omega arith)
+      resting_begins heap number seat commands.Leave ready (places.Leaving Parting) (rest_ready heap number seat commands.Leave ready, refl, is) aside.nowhere aside.silent (λ words. refl) (omega arith)
   by (fragment ∷ more) is =
       let aside = aside_ready heap number seat commands.Leave ready in
-      resting_begins heap number seat commands.Leave ready (places.Leaving Emptying) (rest_ready heap number seat commands.Leave ready, refl, rw is (omega arith)) aside.nowhere aside.silent (λ words. refl)
-      (going_ready heap number seat commands.Leave ready _ refl refl refl refl, refl, (refl, refl, λ none. absurd (omega (arith, none, ap (length {A = ℕ}) is)))) (omega arith)
+      resting_begins heap number seat commands.Leave ready (places.Leaving Emptying) (rest_ready heap number seat commands.Leave ready, refl, rw is (omega arith)) aside.nowhere aside.silent (λ words. refl) (omega arith)

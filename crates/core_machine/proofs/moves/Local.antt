@@ -1,5 +1,5 @@
 -- A call that looks at no word tells its reply.
-use Rattle.std.proofs.Common.{ℕ, ◌≡◌, false, [], length, refl, arith, List, ◌∙◌, ◌≢◌}
+use Rattle.std.proofs.Common.{ℕ, ◌≡◌, false, length, refl, arith, List, ◌∙◌}
 use Rattle.std.proofs.lemmas.List.{length-set}
 use Rattle.std.proofs.lemmas.List.Elements.{All-set}
 use Rattle.std.specs.List.{All}
@@ -17,8 +17,7 @@ use Rattle.core_machine.specs.seat.Registers.{register_in}
 use Rattle.core_machine.specs.seat.Seat.{Seat, with_seen}
 use Rattle.core_machine.specs.seat.Local.{after_local, local_registers}
 use Rattle.core_machine.proofs.call_lemmas.Awaits.{plain}
-use Rattle.core_machine.proofs.call_lemmas.Saying.{ends}
-use Rattle.core_machine.proofs.moves.Standing.{PlaceStands, present_at, BeginStands, IsReady, aside_ready, going_ready, rest_ready, resting_begins}
+use Rattle.core_machine.proofs.moves.Standing.{PlaceStands, present_at, BeginStands, IsReady, aside_ready, rest_ready, resting_begins}
 use Rattle.core_machine.proofs.seat_lemmas.Aside.{gone_aside, fits_over}
 use Rattle.core_machine.proofs.table_lemmas.StepStands.{load_stands}
 use Rattle.core_machine.proofs.table_lemmas.WithinHeap.{register_fits}
@@ -50,13 +49,11 @@ telling_stands heap number seat here = record {
   fits = λ found small led. fits_local heap seat found here.fits (present_at heap number seat places.Local here (λ e. cc)) here.hand.1;
   near = λ found. record { fewer = omega arith; paid = omega arith };
   adds = λ now. plain heap now number seat (local_move number seat) refl (rw here.placed refl) refl refl;
-  says = λ old command words told is found. ends old number command seat _ told [] _ is (omega arith) (omega arith) refl tt;
 }
 
 -- a call begins that looks at no word
-pub tell_begins : (command : Command) → command ≢ commands.Leave → (heap : Heap) (number : ℕ) (seat : Seat) → IsReady heap seat command → IsLocal seat.registers command
+pub tell_begins : (command : Command) → (heap : Heap) (number : ℕ) (seat : Seat) → IsReady heap seat command → IsLocal seat.registers command
     → BeginStands heap number seat command (record seat { command = command; place = places.Local })
-tell_begins command stays heap number seat ready local =
+tell_begins command heap number seat ready local =
     let aside = aside_ready heap number seat command ready in
-    resting_begins heap number seat command ready places.Local (rest_ready heap number seat command ready, ready.may.in_range, local) aside.nowhere aside.silent (λ words. refl)
-    (going_ready heap number seat command ready _ refl refl refl refl, stays) (omega arith)
+    resting_begins heap number seat command ready places.Local (rest_ready heap number seat command ready, ready.may.in_range, local) aside.nowhere aside.silent (λ words. refl) (omega arith)

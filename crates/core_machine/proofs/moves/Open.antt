@@ -1,10 +1,9 @@
 -- A call opens an object, by its meta.
-use Rattle.std.proofs.Common.{◌≡◌, ℕ, ◌+◌, ◌%◌, [], length, inl, refl, arith, List, ◌++◌, subst, sym, Option, Some, None, ◌≢◌, ap}
+use Rattle.std.proofs.Common.{◌≡◌, ℕ, ◌+◌, ◌%◌, [], length, inl, refl, arith, List, subst, sym, Option, Some, None, ap}
 use Rattle.std.specs.Prelude.{IsSome}
 use Rattle.heap_model.specs.declared.command.Command.{Command}
 use Rattle.heap_model.specs.declared.command.Command.TheVariants.{Get, Set, Len}
 use Rattle.heap_model.specs.declared.command.Command.TheVariants as commands
-use Rattle.heap_model.specs.declared.entry.Entry.{Entry}
 use Rattle.heap_model.specs.declared.heap.Heap.{Heap}
 use Rattle.heap_model.specs.declared.reply.Reply.{Reply}
 use Rattle.core_machine.specs.declared.place.Place.TheVariants as places
@@ -23,11 +22,10 @@ use Rattle.core_machine.specs.seat.Seat.{Seat, with_entries}
 use Rattle.heap_words.specs.Loaded.{pointer_in, array_length_of}
 use Rattle.core_machine.specs.table.Decode.{IsWithinHeap}
 use Rattle.core_machine.proofs.call_lemmas.Awaits.{plain, after_words}
-use Rattle.core_machine.proofs.call_lemmas.Owes.{Nears}
-use Rattle.core_machine.proofs.call_lemmas.Saying.{IsGoing, Says, on, ends}
-use Rattle.core_machine.proofs.moves.Standing.{PlaceStands, rests_at, BeginStands, IsReady, aside_ready, going_ready, rest_ready}
+use Rattle.core_machine.specs.calls.Owes.{Nears}
+use Rattle.core_machine.proofs.moves.Standing.{PlaceStands, rests_at, BeginStands, IsReady, aside_ready, rest_ready}
 use Rattle.core_machine.proofs.moves.Local.{tell_begins}
-use Rattle.core_machine.proofs.moves.Walk.{fits_onward, nears_onward, onward_awaits, onward_mine, onward_says}
+use Rattle.core_machine.proofs.moves.Walk.{fits_onward, nears_onward, onward_awaits, onward_mine}
 use Rattle.core_machine.proofs.seat_lemmas.Aside.{gone_aside}
 use Rattle.core_machine.proofs.seat_lemmas.FittingAccess.{Rests, fits_access, fits_closed}
 use Rattle.core_machine.proofs.table_lemmas.StepStands.{load_stands}
@@ -58,12 +56,6 @@ length_adds : (heap : Heap) (words : List ℕ) (number : ℕ) (seat : Seat) (fou
 length_adds heap words number seat found None = (onward_mine (with_field_place seat) found, onward_awaits heap words number (with_field_place seat) found [])
 length_adds heap words number seat found (Some cells) = (refl, refl)
 
-length_says : (old : Seat) (number : ℕ) (command : Command) (seat : Seat) (told : List Entry) (found : ℕ) (cells : Option ℕ) → IsGoing old number command seat told × (command ≢ commands.Leave)
-    → Says old number command (with_entries (after_length seat found cells) []) (told ++ []) (after_length seat found cells).place
-length_says old number command seat told found None is = onward_says old number command (with_field_place seat) told found
-    (record { same = is.0.same; made_stays = is.0.made_stays; sets_stay = is.0.sets_stay; present_stays = is.0.present_stays; beside = is.0.beside }, is.1)
-length_says old number command seat told found (Some cells) is = (on old number command seat _ told [] is.0 refl refl refl refl tt, is.1)
-
 -- the meta was found
 fits_met : (heap : Heap) (seat : Seat) (found : ℕ) (reply : Option Reply) → Rests heap seat → SeatIsAtHead seat → meta_reply_of seat.command found ≡ reply
     → IsWithinHeap heap (pointer_in 0 found) → Fits heap (after_meta seat found reply)
@@ -82,12 +74,6 @@ module _ (heap : Heap) (number : ℕ) (seat : Seat) where
   met_adds words found None = length_adds heap words number seat found (array_length_of found)
   met_adds words found (Some reply) = (refl, refl)
 
-module _ (old : Seat) (number : ℕ) (command : Command) where
-  met_says : (seat : Seat) (told : List Entry) (found : ℕ) (reply : Option Reply) → IsGoing old number command seat told × (command ≢ commands.Leave)
-      → Says old number command (with_entries (after_meta seat found reply) (reply_entries_if number seat reply)) (told ++ reply_entries_if number seat reply) (after_meta seat found reply).place
-  met_says seat told found None is = length_says old number command seat told found (array_length_of found) is
-  met_says seat told found (Some reply) is = ends old number command seat _ told [] reply is (omega arith) (omega arith) refl tt
-
 -- the meta is loaded
 pub open_stands : PlaceStands (places.Access LoadingMeta)
 open_stands heap number seat here =
@@ -99,7 +85,6 @@ open_stands heap number seat here =
       adds = λ now. let found = found_by heap now move.step in
           let by = met_adds heap number seat (after_words heap now number seat move) found (meta_reply_of seat.command found) in
           plain heap now number seat move by.0 (rw here.placed refl) by.1 refl;
-      says = λ old command words told is found. met_says old number command seat told found (meta_reply_of seat.command found) is;
     }
 
 -- a command on an object that its register doesn't hold looks at no word
@@ -110,12 +95,12 @@ local_none registers (commands.Len r) names none = none
 local_none registers _ names none = absurd names
 
 -- a call on an object begins: without one it tells its reply at once
-pub open_begins : (command : Command) → command ≢ commands.Leave → NamesObject command → (heap : Heap) (number : ℕ) (seat : Seat) → IsReady heap seat command
+pub open_begins : (command : Command) → NamesObject command → (heap : Heap) (number : ℕ) (seat : Seat) → IsReady heap seat command
     → BeginStands heap number seat command (access_start (record seat { command = command }) (register_in seat.registers (object_of command)))
-open_begins command stays names heap number seat ready = by (register_in seat.registers (object_of command)) refl where
+open_begins command names heap number seat ready = by (register_in seat.registers (object_of command)) refl where
   by : (register : Register) → register_in seat.registers (object_of command) ≡ register → BeginStands heap number seat command (access_start (record seat { command = command }) register)
-  by Nil is = tell_begins command stays heap number seat ready (local_none seat.registers command names (ap register_head is))
-  by (Number n) is = tell_begins command stays heap number seat ready (local_none seat.registers command names (ap register_head is))
+  by Nil is = tell_begins command heap number seat ready (local_none seat.registers command names (ap register_head is))
+  by (Number n) is = tell_begins command heap number seat ready (local_none seat.registers command names (ap register_head is))
   by (Object head id) is =
       let aside = aside_ready heap number seat command ready in
       record {
@@ -142,6 +127,5 @@ open_begins command stays names heap number seat ready = by (register_in seat.re
         };
         kept = refl;
         awaits = λ words. refl;
-        says = (going_ready heap number seat command ready _ refl refl refl refl, stays);
         owed = omega arith;
       }

@@ -1,11 +1,10 @@
 -- A poll, and the answer to a new phase.
-use Rattle.std.proofs.Common.{◌≡◌, ℕ, ◌+◌, ◌-◌, ◌^◌, ◌<◌, ◌≤◌, false, [], length, inl, inr, refl, sym, subst, arith, List, ◌∷◌, ◌++◌, get_or, suc, ◌≢◌}
+use Rattle.std.proofs.Common.{◌≡◌, ℕ, ◌+◌, ◌-◌, ◌^◌, ◌<◌, ◌≤◌, false, [], length, inl, inr, refl, sym, subst, arith, List, ◌∷◌, get_or, suc, ◌≢◌}
 use Rattle.std.proofs.lemmas.Bool.Decides.{eqb_tells, leb_tells}
 use Rattle.heap_model.specs.declared.command.Command.TheVariants as commands
 use Rattle.heap_model.specs.declared.entry.Entry.{Entry}
 use Rattle.heap_model.specs.declared.entry.Entry.TheVariants.{Answers}
 use Rattle.heap_model.specs.declared.heap.Heap.{Heap}
-use Rattle.heap_model.specs.declared.reply.Reply.TheVariants as replies
 use Rattle.core_machine.specs.Moves.{seat_after}
 use Rattle.core_machine.specs.declared.place.Place.{Place}
 use Rattle.core_machine.specs.declared.place.Place.TheVariants as places
@@ -13,17 +12,16 @@ use Rattle.core_machine.specs.declared.place.Polling.{Polling}
 use Rattle.core_machine.specs.declared.place.Polling.TheVariants.{Asking, Shading, Answering}
 use Rattle.core_machine.specs.declared.step.Step.TheVariants.{PollLoad}
 use Rattle.core_machine.specs.machine.Machine.{found_by}
-use Rattle.core_machine.specs.seat.HandshakeMoves.{poll_move, poll_adds, root_move, answer_move}
+use Rattle.core_machine.specs.seat.HandshakeMoves.{poll_move, root_move, answer_move}
 use Rattle.core_machine.specs.seat.Awaiting.{entries_awaited}
 use Rattle.core_machine.specs.seat.Fits.{FitsPlace, FitsWay, FitsAnswer, IsAtRest, AnswersThePhase, Fits}
 use Rattle.core_machine.specs.seat.FitsAccess.{IsNowhere}
 use Rattle.core_machine.proofs.seat_lemmas.PollingOver.{over_cases}
 use Rattle.core_machine.specs.seat.Handshake.{polling_over, after_phase_load, after_root_shade, after_answer, roots, answer_next}
-use Rattle.core_machine.specs.seat.Seat.{Seat, with_seen, after_call, with_entries, seat_after_reply}
+use Rattle.core_machine.specs.seat.Seat.{Seat, with_seen, after_call, with_entries}
 use Rattle.core_machine.proofs.call_lemmas.Awaits.{plain, after_words}
-use Rattle.core_machine.proofs.call_lemmas.Owes.{Nears}
-use Rattle.core_machine.proofs.call_lemmas.Saying.{Says, on, ends}
-use Rattle.core_machine.proofs.moves.Standing.{IsAt, PlaceStands, present_at, CommandStands, aside_ready, going_ready, rest_ready, resting_begins}
+use Rattle.core_machine.specs.calls.Owes.{Nears}
+use Rattle.core_machine.proofs.moves.Standing.{IsAt, PlaceStands, present_at, CommandStands, aside_ready, rest_ready, resting_begins}
 use Rattle.core_machine.proofs.seat_lemmas.Aside.{gone_aside, fits_over, fits_ended}
 use Rattle.core_machine.proofs.table_lemmas.StepStands.{load_stands, shade_stands}
 use Rattle.core_machine.proofs.table_lemmas.WithinHeap.{roots_within, few_roots}
@@ -158,12 +156,6 @@ poll_stands heap number seat here =
       adds = λ now. let found = found_by heap now move.step in
           let by = phase_adds heap number (with_seen found seat) (after_words heap now number seat move) found (move.adds found) in
           plain heap now number seat move by.0 (rw here.placed refl) by.1 refl;
-      says = λ old command words told is found.
-          elim (eqb_tells found seat.answered) as (λ _. Says old number command (with_entries (after_phase_load (with_seen found seat) found) (poll_adds number seat found)) (told ++ poll_adds number seat found) (after_phase_load (with_seen found seat) found).place) [
-            | inl known ↦ rw known.0 (over_cases (λ s more. Says old number command (with_entries s more) (told ++ more) s.place) number seat.command (with_seen found seat) found (λ collects. absurd (cc (collects, is.0.same, is.1)))
-                (λ tells. ends old number command seat (seat_after_reply number (with_seen found seat) (replies.Phase found)) told [] (replies.Phase found) (is.0, λ e. cc (e, is.1)) (omega arith) (omega arith) refl tt))
-            | inr new ↦ rw new.0 (on old number command seat (with_entries (answer_next (record (with_seen found seat) { asked = found })) []) told [] is.0 refl refl refl refl tt, is.1)
-          ];
     }
 
 -- a root is shaded
@@ -173,7 +165,6 @@ root_stands heap number seat here = record {
   fits = λ found small led. fits_shaded heap seat (polls_at heap number seat Shading here here.answer.0.polls) here.answer.0.anew here.answer.1;
   near = λ found. nears_shades_on heap (record seat { shaded = seat.shaded + 1 }) ((length (roots seat) - seat.shaded) + 1) (omega (arith, here.answer.1));
   adds = λ now. plain heap now number seat (root_move seat) refl (rw here.placed refl) refl refl;
-  says = λ old command words told is found. (on old number command seat _ told [] is.0 refl refl refl refl tt, is.1);
 }
 
 -- the answer is stored
@@ -187,10 +178,6 @@ answer_stands heap number seat here = record {
       let words = after_words heap now number seat (answer_move number seat) in
       let by = over_cases (λ s more. (s.mine ≡ seat.mine) × (entries_awaited heap words number (with_entries s (Answers number seat.asked ∷ more)) ≡ [])) number seat.command stored seat.asked (λ collects. (refl, refl)) (λ tells. (refl, refl)) in
       plain heap now number seat (answer_move number seat) by.0 (rw here.placed refl) by.1 refl;
-  says = λ old command words told is found.
-      over_cases (λ s more. Says old number command (with_entries s (Answers number seat.asked ∷ more)) (told ++ Answers number seat.asked ∷ more) s.place) number seat.command stored seat.asked
-      (λ collects. absurd (cc (collects, is.0.same, is.1)))
-      (λ tells. ends old number command seat _ told (Answers number seat.asked ∷ []) _ (is.0, λ e. cc (e, is.1)) (omega arith) (omega arith) refl (refl, tt));
 }
   where
     stored : Seat
@@ -200,5 +187,4 @@ answer_stands heap number seat here = record {
 pub poll_begins : CommandStands commands.Poll
 poll_begins heap number seat ready =
     let aside = aside_ready heap number seat commands.Poll ready in
-    resting_begins heap number seat commands.Poll ready (places.Polling Asking) (rest_ready heap number seat commands.Poll ready) aside.nowhere (aside.silent, tt) (λ words. refl)
-    (going_ready heap number seat commands.Poll ready _ refl refl refl refl, refl) (omega arith)
+    resting_begins heap number seat commands.Poll ready (places.Polling Asking) (rest_ready heap number seat commands.Poll ready) aside.nowhere (aside.silent, tt) (λ words. refl) (omega arith)

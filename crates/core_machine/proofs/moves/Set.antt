@@ -1,8 +1,6 @@
 -- A set, with the barrier on or off.
-use Rattle.std.proofs.Common.{◌≡◌, ℕ, ◌+◌, ◌*◌, ◌^◌, ◌<◌, ◌≤◌, [], refl, arith, List, ◌++◌, subst, sym, true, Option, Some, None, ◌≢◌}
+use Rattle.std.proofs.Common.{◌≡◌, ℕ, ◌+◌, ◌*◌, ◌^◌, ◌<◌, ◌≤◌, [], refl, arith, List, subst, sym, true, Option, Some, None}
 use Rattle.std.specs.Prelude.{IsSome, unwrap_or}
-use Rattle.heap_model.specs.declared.command.Command.{Command}
-use Rattle.heap_model.specs.declared.command.Command.TheVariants as commands
 use Rattle.heap_model.specs.declared.entry.Entry.{Entry}
 use Rattle.heap_model.specs.declared.heap.Heap.{Heap}
 use Rattle.heap_model.specs.graph.Growth.{set_stamp}
@@ -20,8 +18,7 @@ use Rattle.core_machine.specs.seat.Seat.{Seat, with_entries}
 use Rattle.heap_words.specs.Loaded.{head_of}
 use Rattle.core_machine.specs.table.Decode.{IsWithinHeap}
 use Rattle.core_machine.proofs.call_lemmas.Awaits.{plain, after_words}
-use Rattle.core_machine.proofs.call_lemmas.Owes.{Nears}
-use Rattle.core_machine.proofs.call_lemmas.Saying.{IsGoing, Says, on, ends}
+use Rattle.core_machine.specs.calls.Owes.{Nears}
 use Rattle.core_machine.proofs.moves.Standing.{PlaceStands, rests_at}
 use Rattle.core_machine.proofs.seat_lemmas.Aside.{gone_aside}
 use Rattle.core_machine.proofs.seat_lemmas.FittingAccess.{Rests, fits_access, fits_closed}
@@ -68,19 +65,6 @@ module _ (heap : Heap) (number : ℕ) (seat : Seat) where
   old_found_adds words found None = (refl, old_awaits words found [])
   old_found_adds words found (Some head) = (refl, refl)
 
-module _ (old : Seat) (number : ℕ) (command : Command) where
-  old_says : (seat : Seat) (told : List Entry) (loaded : ℕ) → IsGoing old number command seat told × (command ≢ commands.Leave)
-      → Says old number command (with_entries (after_old (record seat { loaded = loaded })) []) (told ++ []) (after_old (record seat { loaded = loaded })).place
-  old_says seat told loaded is = by (register_head (register_in seat.registers (source_of seat.command))) where
-    by : (n : Option ℕ) → Says old number command (with_entries (at_access (record seat { loaded = loaded }) (new_place_of n)) []) (told ++ []) (places.Access (new_place_of n))
-    by None = (on old number command seat _ told [] is.0 refl refl refl refl tt, is.1)
-    by (Some head) = (on old number command seat _ told [] is.0 refl refl refl refl tt, is.1)
-
-  old_found_says : (seat : Seat) (told : List Entry) (found : ℕ) (head : Option ℕ) → IsGoing old number command seat told × (command ≢ commands.Leave)
-      → Says old number command (with_entries (after_old_load (record seat { loaded = found }) head) []) (told ++ []) (after_old_load (record seat { loaded = found }) head).place
-  old_found_says seat told found None is = old_says seat told found is
-  old_found_says seat told found (Some head) is = (on old number command seat _ told [] is.0 refl refl refl refl tt, is.1)
-
 -- the old value is loaded
 pub old_stands : PlaceStands (places.Access LoadingOld)
 old_stands heap number seat here =
@@ -92,7 +76,6 @@ old_stands heap number seat here =
       adds = λ now. let found = found_by heap now move.step in
           let by = old_found_adds heap number seat (after_words heap now number seat move) found (head_of found) in
           plain heap now number seat move by.0 (rw here.placed refl) by.1 refl;
-      says = λ old command words told is found. old_found_says old number command seat told found (head_of found) is;
     }
 
 -- the old value is shaded
@@ -104,7 +87,6 @@ shade_old_stands heap number seat here =
       fits = λ found small led. fits_old_done heap seat seat.loaded (rests_at heap number seat ShadingOld here) here.way.0 here.way.1 here.fits.way.loaded_within;
       near = λ found. nears_old_done heap seat seat.loaded 3 (omega arith);
       adds = λ now. plain heap now number seat move refl (rw here.placed refl) (old_awaits heap number seat (after_words heap now number seat move) seat.loaded []) refl;
-      says = λ old command words told is found. old_says old number command seat told seat.loaded is;
     }
 
 -- the new value is shaded
@@ -116,7 +98,6 @@ shade_new_stands heap number seat here = record {
       (here.way.0, λ off. gone_aside off here.way.1);
   near = λ found. record { fewer = omega arith; paid = omega arith };
   adds = λ now. plain heap now number seat (shade_new_move seat) refl (rw here.placed refl) refl refl;
-  says = λ old command words told is found. (on old number command seat _ told [] is.0 refl refl refl refl tt, is.1);
 }
 
 -- the field gets its new word
@@ -134,5 +115,4 @@ swap_stands heap number seat here =
       fits = λ found small led. fits_closed heap seat seat.registers (seat.sets + 1) (rests_at heap number seat Swapping here) here.fits.own.registers_whole here.fits.own.registers_fit;
       near = λ found. record { fewer = omega arith; paid = omega arith };
       adds = λ now. plain heap now number seat (swap_move number seat) refl (rw here.placed refl) refl refl;
-      says = λ old command words told is found. ends old number command seat _ told [] _ is (omega arith) (omega arith) refl tt;
     }

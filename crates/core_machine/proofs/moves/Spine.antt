@@ -1,5 +1,5 @@
 -- The way to a cell of an array, by its spine.
-use Rattle.std.proofs.Common.{ℕ, ◌*◌, ◌<◌, [], ◌++◌, refl, arith}
+use Rattle.std.proofs.Common.{ℕ, ◌*◌, ◌<◌, [], refl, arith}
 use Rattle.heap_model.specs.declared.heap.Heap.{Heap}
 use Rattle.core_machine.specs.declared.place.Access.TheVariants.{Locating, Indexing}
 use Rattle.core_machine.specs.declared.place.Place.TheVariants as places
@@ -14,10 +14,9 @@ use Rattle.core_machine.specs.seat.FitsAccess.{SeatIsAtSentinel}
 use Rattle.core_machine.specs.seat.Seat.{Seat, with_entries}
 use Rattle.heap_words.specs.Loaded.{payload_in}
 use Rattle.core_machine.proofs.call_lemmas.Awaits.{plain, after_words}
-use Rattle.core_machine.proofs.call_lemmas.Owes.{Nears}
-use Rattle.core_machine.proofs.call_lemmas.Saying.{on}
+use Rattle.core_machine.specs.calls.Owes.{Nears}
 use Rattle.core_machine.proofs.moves.Standing.{PlaceStands, rests_at}
-use Rattle.core_machine.proofs.moves.Walk.{field_fits, field_few, field_awaits, field_says}
+use Rattle.core_machine.proofs.moves.Walk.{field_fits, field_few, field_awaits}
 use Rattle.core_machine.proofs.seat_lemmas.FittingAccess.{Rests, fits_access, fits_addressed}
 use Rattle.core_machine.proofs.table_lemmas.StepStands.{load_stands}
 
@@ -30,7 +29,6 @@ locate_stands heap number seat here =
       fits = λ found small led. fits_addressed heap seat (spot_in found) Indexing (rests_at heap number seat Locating here) (record { half_within = omega arith; offset_within = omega arith }) here.way;
       near = λ found. record { fewer = omega arith; paid = omega arith };
       adds = λ now. plain heap now number seat move refl (rw here.placed refl) refl refl;
-      says = λ old command words told is found. (on old number command seat _ told [] is.0 refl refl refl refl tt, is.1);
     }
 
 -- the cell's fragment was reached, which the spine word names
@@ -55,6 +53,4 @@ index_stands heap number seat here =
       adds = λ now. let found = found_by heap now move.step in
           plain heap now number seat move refl (rw here.placed refl)
           (field_awaits heap (after_words heap now number seat move) number seat (with_entries (after_index seat found) []) seat.command) refl;
-      says = λ old command words told is found. let next = with_entries (after_index seat found) [] in
-          field_says old number command seat next (told ++ []) seat.command (on old number command seat next told [] is.0 refl refl refl refl tt, is.1);
     }

@@ -4,7 +4,6 @@ use Rattle.std.specs.Prelude.{IfSome}
 use Rattle.heap_model.specs.Heap.{IsHeap}
 use Rattle.heap_model.specs.account.Space.{need_of}
 use Rattle.heap_model.specs.declared.command.Command.{Command}
-use Rattle.heap_model.specs.declared.entry.Entry.{Entry}
 use Rattle.heap_model.specs.declared.heap.Heap.{Heap}
 use Rattle.core_machine.specs.Moves.{Move, move_at, seat_after}
 use Rattle.core_machine.specs.declared.place.Place.{Place}
@@ -18,8 +17,7 @@ use Rattle.core_machine.specs.seat.Seat.{Seat}
 use Rattle.core_machine.specs.table.Decode.{FoundPointsWithin}
 use Rattle.core_machine.specs.table.Operation.{address_of}
 use Rattle.core_machine.proofs.call_lemmas.Awaits.{Adds}
-use Rattle.core_machine.proofs.call_lemmas.Owes.{owes_at, steps_at, Nears, owes}
-use Rattle.core_machine.proofs.call_lemmas.Saying.{Says, Leads, IsGoing}
+use Rattle.core_machine.specs.calls.Owes.{owes_at, steps_at, Nears, owes}
 use Rattle.core_machine.proofs.seat_lemmas.Aside.{IsAside, present_busy, aside_idle, gone_aside}
 use Rattle.core_machine.proofs.seat_lemmas.FittingAccess.{Rests}
 use Rattle.core_machine.proofs.table_lemmas.StepStands.{StepStands}
@@ -42,8 +40,6 @@ pub record MoveStands (heap : Heap) (number : ℕ) (seat : Seat) (place : Place)
   pub near : (found : ℕ) → Nears heap (seat_after move found) (owes_at seat place) (steps_at heap seat place) (length (move.adds found))
   -- the seat's own list, with what is awaited, grows as the history does
   pub adds : (now : State) → Adds heap now number seat move
-  -- a call that is made by itself has told what it is to tell
-  pub says : (old : Seat) (command : Command) (words : List ℕ) (told : List Entry) → Says old number command seat told place → Leads old number command seat told words move
 
 -- so stands the move that is due at this place
 abbrev pub PlaceStands : Place → Type 0
@@ -88,8 +84,6 @@ pub record BeginStands (heap : Heap) (number : ℕ) (seat : Seat) (command : Com
   -- it adds no entry, and awaits none
   pub kept : begun_.mine ≡ seat.mine
   pub awaits : (words : List ℕ) → entries_awaited heap words number begun_ ≡ []
-  -- it has told nothing
-  pub says : Says seat number command begun_ [] begun_.place
   -- it owes no more than twice its need and two
   pub owed : owes begun_ ≤ 2 * need_of command + 2
 
@@ -104,19 +98,15 @@ module _ (heap : Heap) (number : ℕ) (seat : Seat) (command : Command) (ready :
   pub aside_ready : IsAside heap seat
   aside_ready = aside_idle heap seat ready.fits ready.may.idle ready.may.present
 
-  -- nothing was counted or told
-  pub going_ready : (next : Seat) → next.command ≡ command → next.made ≡ seat.made → next.sets ≡ seat.sets → next.left ≡ seat.left → IsGoing seat number command next []
-  going_ready next same made sets left = record { same = same; made_stays = made; sets_stay = sets; present_stays = left; beside = tt }
-
   -- the seat at the first place of its call
   abbrev pub placed_at : Place → Seat
   placed_at place = record seat { command = command; place = place }
 
   -- at a place where nothing is in the hand, reached or about to be answered
   pub resting_begins : (place : Place) → FitsPlace heap (placed_at place) place → FitsWay (placed_at place) place → FitsAnswer (placed_at place) place
-      → ((words : List ℕ) → entries_awaited_at heap words number (placed_at place) place ≡ []) → Says seat number command (placed_at place) [] place
+      → ((words : List ℕ) → entries_awaited_at heap words number (placed_at place) place ≡ [])
       → owes_at (placed_at place) place ≤ 2 * need_of command + 2 → BeginStands heap number seat command (placed_at place)
-  resting_begins place hand way answer awaits says owed = record {
+  resting_begins place hand way answer awaits owed = record {
     fits = record {
       own = ready.fits.own;
       hand = ready.fits.hand;
@@ -129,6 +119,5 @@ module _ (heap : Heap) (number : ℕ) (seat : Seat) (command : Command) (ready :
     };
     kept = refl;
     awaits = awaits;
-    says = says;
     owed = owed;
   }

@@ -1,10 +1,9 @@
 -- The way to a field.
-use Rattle.std.proofs.Common.{◌≡◌, ℕ, ◌+◌, ◌-◌, ◌*◌, ◌<◌, ◌≤◌, [], inl, inr, refl, arith, List, ◌++◌, subst, sym, Option, Some, None, ◌⊎◌, ◌≢◌}
+use Rattle.std.proofs.Common.{◌≡◌, ℕ, ◌+◌, ◌-◌, ◌*◌, ◌<◌, ◌≤◌, [], inl, inr, refl, arith, List, subst, sym, Option, Some, None, ◌⊎◌}
 use Rattle.std.proofs.lemmas.Bool.Decides.{eqb_tells}
 use Rattle.std.specs.Prelude.{unwrap_or}
 use Rattle.heap_model.specs.declared.command.Command.{Command}
 use Rattle.heap_model.specs.declared.command.Command.TheVariants.{Get, Set}
-use Rattle.heap_model.specs.declared.command.Command.TheVariants as commands
 use Rattle.heap_model.specs.declared.entry.Entry.{Entry}
 use Rattle.heap_model.specs.declared.heap.Heap.{Heap}
 use Rattle.core_machine.specs.declared.place.Place.TheVariants as places
@@ -20,8 +19,7 @@ use Rattle.core_machine.specs.seat.Seat.{Seat, with_entries}
 use Rattle.heap_words.specs.Loaded.{pointer_in, link_of}
 use Rattle.core_machine.specs.table.Decode.{IsWithinHeap}
 use Rattle.core_machine.proofs.call_lemmas.Awaits.{plain, after_words}
-use Rattle.core_machine.proofs.call_lemmas.Owes.{access_steps, Nears}
-use Rattle.core_machine.proofs.call_lemmas.Saying.{IsGoing, Says, on}
+use Rattle.core_machine.specs.calls.Owes.{access_steps, Nears}
 use Rattle.core_machine.proofs.moves.Standing.{PlaceStands, rests_at}
 use Rattle.core_machine.proofs.seat_lemmas.FieldPlaces.{field_cases}
 use Rattle.core_machine.proofs.seat_lemmas.FittingAccess.{Rests, fits_access}
@@ -125,27 +123,6 @@ onward_awaits heap words number seat found more =
 pub onward_mine : (seat : Seat) (found : ℕ) → (after_walk seat found).mine ≡ seat.mine
 onward_mine seat found = elim (eqb_tells seat.links 0) as (λ _. (after_walk seat found).mine ≡ seat.mine) [ inl none ↦ rw none.0 refl | inr some ↦ rw some.0 refl ]
 
-module _ (old : Seat) (number : ℕ) (command : Command) where
-  -- the way goes on
-  pub field_says : (seat next : Seat) (told : List Entry) (c : Command) → IsGoing old number command next told × (command ≢ commands.Leave) → Says old number command next told (places.Access (field_place_of seat c))
-  field_says seat next told c is = field_cases (λ p. Says old number command next told (places.Access p)) seat c is (λ on. is) (λ off. is)
-
-  way_says : (seat next : Seat) (told : List Entry) → IsGoing old number command next told × (command ≢ commands.Leave) → Says old number command next told (places.Access (way_place_of seat))
-  way_says seat next told is =
-      elim (eqb_tells seat.links 0) as (λ _. Says old number command next told (places.Access (way_place_of seat))) [ inl none ↦ rw none.0 (field_says seat next told seat.command is) | inr some ↦ rw some.0 is ]
-
-  pub onward_says : (seat : Seat) (told : List Entry) (found : ℕ) → IsGoing old number command seat told × (command ≢ commands.Leave) → Says old number command (with_entries (after_walk seat found) []) (told ++ []) (after_walk seat found).place
-  onward_says seat told found is =
-      elim (eqb_tells seat.links 0) as (λ _. Says old number command (with_entries (after_walk seat found) []) (told ++ []) (after_walk seat found).place) [
-        | inl none ↦
-            let next = with_entries (at_access seat (way_place_of seat)) [] in
-            let says : Says old number command next (told ++ []) (places.Access (way_place_of seat)) = way_says seat next (told ++ []) (on old number command seat next told [] is.0 refl refl refl refl tt, is.1) in
-            rw none.0 (rw none.0 at says)
-        | inr some ↦
-            let next = with_entries (at_access (after_link seat found) (way_place_of (after_link seat found))) [] in
-            rw some.0 (way_says (after_link seat found) next (told ++ []) (on old number command seat next told [] is.0 refl refl refl refl tt, is.1))
-      ]
-
 -- a link is loaded
 pub walk_stands : PlaceStands (places.Access Walking)
 walk_stands heap number seat here =
@@ -156,5 +133,4 @@ walk_stands heap number seat here =
       near = λ found. nears_onward heap seat found (seat.links + 4) (inr (here.way.more, refl));
       adds = λ now. let found = found_by heap now move.step in
           plain heap now number seat move (onward_mine seat found) (rw here.placed refl) (onward_awaits heap (after_words heap now number seat move) number seat found []) refl;
-      says = λ old command words told is found. onward_says old number command seat told found is;
     }

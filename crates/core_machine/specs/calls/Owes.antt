@@ -1,5 +1,5 @@
 -- How many steps and entries a call in flight has still to make, by its place.
-use Rattle.std.proofs.Common.{ℕ, ◌+◌, ◌-◌, ◌*◌, ◌<◌, ◌≤◌, length}
+use Rattle.std.specs.Prelude.{ℕ, ◌+◌, ◌-◌, ◌*◌, ◌<◌, ◌≤◌, length}
 use Rattle.heap_model.specs.declared.heap.Heap.{Heap}
 use Rattle.core_machine.specs.declared.place.Place.{Place}
 use Rattle.core_machine.specs.declared.place.Place.TheVariants as places
@@ -41,6 +41,7 @@ owes_at seat (places.Collecting place) = 1
 owes_at seat (places.Leaving Emptying) = 2
 owes_at seat (places.Leaving Parting) = 1
 
+-- the most entries that the seat's call still adds
 abbrev pub owes : Seat → ℕ
 owes seat = owes_at seat seat.place
 
@@ -93,6 +94,7 @@ steps_at heap seat (places.Collecting place) = collecting_steps place
 steps_at heap seat (places.Leaving Emptying) = 2
 steps_at heap seat (places.Leaving Parting) = 1
 
+-- the most steps that the seat's call still makes
 abbrev pub steps_left : Heap → Seat → ℕ
 steps_left heap seat = steps_at heap seat seat.place
 
