@@ -12,7 +12,7 @@ pub mod Set
 pub mod Spine
 pub mod Local
 pub mod Walk
-use Rattle.std.proofs.Common.{ℕ, ◌<◌, refl}
+use Rattle.std.proofs.Common.{◌≡◌, ℕ, ◌^◌, ◌<◌, Some, length, refl, subst}
 use Rattle.std.specs.Prelude.{IfSome}
 use Rattle.heap_model.specs.declared.heap.Heap.{Heap}
 use Rattle.heap_model.specs.Heap.{IsHeap}
@@ -28,7 +28,11 @@ use Rattle.core_machine.specs.declared.place.Polling.{Polling}
 use Rattle.core_machine.specs.declared.place.Polling.TheVariants.{Asking, Shading, Answering}
 use Rattle.core_machine.specs.declared.place.Access.{Access}
 use Rattle.core_machine.specs.declared.place.Access.TheVariants.{LoadingMeta, Walking, Locating, Indexing, Getting, Naming, LoadingOld, ShadingOld, ShadingNew, Swapping}
-use Rattle.core_machine.specs.Moves.{next_move}
+use Rattle.core_machine.specs.Moves.{Move, next_move, seat_after}
+use Rattle.core_machine.specs.calls.Owes.{Nears, owes, steps_left}
+use Rattle.core_machine.specs.table.Decode.{FoundPointsWithin}
+use Rattle.core_machine.specs.table.Operation.{address_of}
+use Rattle.core_machine.proofs.seat_lemmas.FittingEntries.{fits_entries}
 use Rattle.core_machine.specs.seat.Fits.{Fits}
 use Rattle.core_machine.specs.seat.Seat.{Seat}
 use Rattle.heap_model.specs.declared.command.Command.{Command}
@@ -93,6 +97,21 @@ stands_at (places.Leaving place) = leaving_stands place
 pub move_stands : (heap : Heap) (number : ℕ) (seat : Seat) → IsHeap heap → number < 16 → Fits heap seat → IfSome (next_move heap number seat) (MoveStands heap number seat seat.place)
 move_stands heap number seat limits few fits = stands_at seat.place heap number seat
     record { limits = limits; few = few; fits = fits; placed = refl; hand = fits.at_place; way = fits.way_at_place; answer = fits.answer_at_place }
+
+-- so it is with a move that is known
+pub due_stands : (heap : Heap) (number : ℕ) (seat : Seat) (move : Move) → IsHeap heap → number < 16 → Fits heap seat → next_move heap number seat ≡ Some move → MoveStands heap number seat seat.place move
+due_stands heap number seat move limits few fits due = subst (λ m. IfSome m (MoveStands heap number seat seat.place)) due (move_stands heap number seat limits few fits)
+
+-- the seat's data fit together after it, with its entries, where the word that it found leads within the heap
+pub due_fits : (heap : Heap) (number : ℕ) (seat : Seat) (move : Move) (found : ℕ) → IsHeap heap → number < 16 → Fits heap seat → next_move heap number seat ≡ Some move
+    → found < 2 ^ 64 → FoundPointsWithin heap (address_of move.step) found → Fits heap (seat_after move found)
+due_fits heap number seat move found limits few fits due small led =
+    fits_entries heap (move.told found) (move.adds found) ((due_stands heap number seat move limits few fits due).fits found small led)
+
+-- fewer steps are left after it, whatever word it found, and no more entries are added than were owed
+pub due_nears : (heap : Heap) (number : ℕ) (seat : Seat) (move : Move) (found : ℕ) → IsHeap heap → number < 16 → Fits heap seat → next_move heap number seat ≡ Some move
+    → Nears heap (seat_after move found) (owes seat) (steps_left heap seat) (length (move.adds found))
+due_nears heap number seat move found limits few fits due = (due_stands heap number seat move limits few fits due).near found
 
 -- each begin stands, by the command
 begin_at : (command : Command) → CommandStands command

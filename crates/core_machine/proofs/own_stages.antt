@@ -1,5 +1,6 @@
 -- What each step of a call leads to by the seat's own view, whatever word it has found, and that a call begins so.
 pub mod Answer
+pub mod Balance
 pub mod Begin
 pub mod Birth
 pub mod Claiming
@@ -8,8 +9,11 @@ pub mod Field
 pub mod Gather
 pub mod Inner
 pub mod Leading
+pub mod Once
+pub mod Sums
 pub mod Turns
 pub mod Way
+pub mod Weaker
 use Rattle.std.proofs.Common.{◌≡◌, ℕ, ◌<◌, List, [], ◌∷◌, ◌++◌, Option, Some, None, refl, sym, ap, subst, ◌∙◌, append_assoc}
 use Rattle.std.specs.Prelude.{IfSome}
 use Rattle.heap_model.specs.Heap.{IsHeap}

@@ -25,7 +25,7 @@ all_groups : (counts hand : List ℕ) → AreGroupsOf counts hand → All IsGrou
 all_groups [] hand is = All-nil IsGroupCount
 all_groups (count ∷ counts) hand is = All-cons IsGroupCount count counts is.0 (all_groups counts (part_out (first_group_of hand) hand) is.2)
 
-sum_groups : (counts hand : List ℕ) → AreGroupsOf counts hand → sum counts ≡ length hand
+pub sum_groups : (counts hand : List ℕ) → AreGroupsOf counts hand → sum counts ≡ length hand
 sum_groups [] hand is = sym (ap length is)
 sum_groups (count ∷ counts) hand is =
     let group = first_group_of hand in
