@@ -4,5 +4,6 @@ pub mod FieldPlaces
 pub mod Fitting
 pub mod FittingEntries
 pub mod FittingAccess
+pub mod Held
 pub mod LastRun
 pub mod PollingOver

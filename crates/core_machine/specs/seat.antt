@@ -1,4 +1,5 @@
 -- A seat's data, and how each move changes them.
+pub mod Hands
 pub mod HandshakeMoves
 pub mod Awaiting
 pub mod Collecting

@@ -1,4 +1,4 @@
-ghost use Rattle.std.specs.Prelude.{◌≡◌, ◌+◌, ◌-◌, ◌<◌, ◌≤◌, ◌^◌, ◌++◌, [], ◌∷◌, length, OnOk, OnErr};
+ghost use Rattle.std.specs.Prelude.{◌≡◌, min, ◌+◌, ◌-◌, ◌<◌, ◌≤◌, ◌^◌, ◌++◌, [], ◌∷◌, length, OnOk, OnErr};
 ghost use Rattle.core_machine.specs.collector.Collector.{opening_collector, next_turn, collector_after, has_answered_of, first_work as first_work_of, after_advance, advance_turn, end_turn, flip_turn, free_turn, return_turn, copying_turn, look_answer, after_look, after_counted_look};
 ghost use Rattle.core_machine.specs.collector.FitsCopying.{FitsCopying};
 ghost use Rattle.core_machine.specs.seat.Fits.{CollectorFits};
@@ -10,7 +10,8 @@ use crate::collector::copying::next_half;
 use crate::collector::marking::pass_on;
 use crate::collector::stage::{Copying, Scan, Stage};
 use crate::collector::sweeping::{cleared, examine_from, freed, sweep_on, swept};
-use crate::log::Log;
+use crate::log::kept::Log;
+use crate::log::{CountsEntries, Entries};
 use crate::step::{CopyingStep, SpineStep, Step, TurningStep};
 use crate::table::decode::spine_words;
 use heap_model::limits::GROUP_FRAGMENTS;
@@ -25,16 +26,17 @@ pub(crate) mod marking;
 pub(crate) mod stage;
 pub(crate) mod sweeping;
 
-/// What is kept of the collector: the phase, how far its turns are in it, and its entries.
+/// What is kept of the collector: the phase, how far its turns are in it, how many it has made, and its entries in a log.
 #[derive(Drop)]
-pub struct CollectorParty {
+pub struct CollectorParty<L: CountsEntries = Log> {
     pub(crate) phase: u64,
     pub(crate) stage: Stage,
     pub(crate) looked: u8,
-    pub(crate) log: Log,
+    pub(crate) turns: u64,
+    pub(crate) log: L,
 }
 
-impl Model for CollectorParty {
+impl<L: CountsEntries> Model for CollectorParty<L> {
     ghost use Rattle.core_machine.specs.machine.Value.{CollectorWithRoom};
 
     ghost Value = { CollectorWithRoom };
@@ -44,22 +46,42 @@ impl Model for CollectorParty {
         phase = party.phase;
         stage = party.stage;
         looked = party.looked;
-        log = party.log.entries;
+        log = L.listed party.log;
       };
-      spare = party.log.spare;
+      spare = L.left party.log;
+      turns = party.turns;
     } };
 }
 
 impl CollectorParty {
+    /// The collector's entries, in their order.
+    pub fn entries(&self) -> &[Entry]
+        ensures { result.now ≡ self.now.collector.log }
+    {
+        self.log.entries()
+    }
+
+    /// The collector's entries alone.
+    pub fn into_entries(self) -> Vec<Entry>
+        ensures { result.items ≡ self.collector.log }
+    {
+        let CollectorParty { log, .. } = self;
+        log.into_entries()
+    }
+}
+
+impl<L: CountsEntries> CollectorParty<L> {
     /// The collector at the opening.
-    pub fn opening(alloc: Global) -> CollectorParty
-        ensures { result.collector ≡ opening_collector }
+    pub fn opening(alloc: Global) -> CollectorParty<L>
+        ensures collector { result.collector ≡ opening_collector }
+        ensures turns { result.turns ≡ 0 }
     {
         CollectorParty {
             phase: 0,
             stage: Stage::Looking,
             looked: 0,
-            log: Log::new(alloc),
+            turns: 0,
+            log: L::empty(alloc),
         }
     }
 
@@ -69,8 +91,32 @@ impl CollectorParty {
         ensures more { self.old.spare ≤ self.new.spare }
         ensures room { OnOk result (n ≤ self.new.spare) }
         ensures memory { OnErr result (self.new ≡ self.old) }
+        ensures turns { self.new.turns ≡ self.old.turns }
     {
         self.log.reserve(n)
+    }
+
+    /// For how many more entries there is room.
+    pub fn spare(&self) -> usize
+        ensures spare { result ≡ self.now.spare }
+        ensures within { self.now.spare + length self.now.collector.log < 2 ^ 64 }
+    {
+        let _all = self.log.count();
+        self.log.spare()
+    }
+
+    /// The phase.
+    pub fn phase(&self) -> u64
+        ensures { result ≡ self.now.collector.phase }
+    {
+        self.phase
+    }
+
+    /// The number of turns that it has made, or the last number of 64 bits.
+    pub fn turns(&self) -> u64
+        ensures { result ≡ self.now.turns }
+    {
+        self.turns
     }
 
     /// The step of its next turn.
@@ -133,6 +179,7 @@ impl CollectorParty {
         ensures collector { self.new.collector ≡ after_look heap.now self.old.collector found }
         ensures answer { result ≡ look_answer self.old.collector found }
         ensures spare { self.new.spare ≡ self.old.spare }
+        ensures turns { self.new.turns ≡ self.old.turns }
     {
         if !self.has_answered(found) {
             return Turn::Waits {
@@ -150,6 +197,7 @@ impl CollectorParty {
         requires { self.old.collector.looked < heap.now.seats }
         ensures collector { self.new.collector ≡ after_counted_look heap.now self.old.collector }
         ensures spare { self.new.spare ≡ self.old.spare }
+        ensures turns { self.new.turns ≡ self.old.turns }
     {
         let seats = heap.seats;
         self.looked += 1;
@@ -181,6 +229,7 @@ impl CollectorParty {
         requires spare { 0 < self.old.spare }
         ensures collector { self.new.collector ≡ record (after_advance self.old.collector) { log = self.old.collector.log ++ entry ∷ [] } }
         ensures spare { self.old.spare ≤ self.new.spare + 1 }
+        ensures turns { self.new.turns ≡ self.old.turns }
     {
         self.phase += 1;
         self.stage = Stage::Looking;
@@ -194,6 +243,7 @@ impl CollectorParty {
         requires spare { 0 < self.old.spare }
         ensures collector { self.new.collector ≡ collector_after (free_turn heap.now self.old.collector group dead words) 0 }
         ensures spare { self.old.spare ≤ self.new.spare + 1 }
+        ensures turns { self.new.turns ≡ self.old.turns }
     {
         self.stage = freed(heap, group, words);
         self.log.push(Entry::Frees(dead.count_ones()));
@@ -205,6 +255,7 @@ impl CollectorParty {
         requires spare { 0 < self.old.spare }
         ensures collector { self.new.collector ≡ collector_after (return_turn heap.now self.old.collector group words) 0 }
         ensures spare { self.old.spare ≤ self.new.spare + 1 }
+        ensures turns { self.new.turns ≡ self.old.turns }
     {
         self.stage = sweep_on(heap, group);
         self.log.push(Entry::Returns(words));
@@ -217,6 +268,7 @@ impl CollectorParty {
         requires spare { 0 < self.old.spare }
         ensures collector { self.new.collector ≡ collector_after (copying_turn heap.now self.old.collector stage) found }
         ensures spare { self.old.spare + length self.old.collector.log ≤ self.new.spare + length self.new.collector.log }
+        ensures turns { self.new.turns ≡ self.old.turns }
     {
         self.stage = stage.after(heap, self.phase, found);
         if let Copying::Swinging(copy) = stage {
@@ -231,6 +283,7 @@ impl CollectorParty {
         ensures collector { self.new.collector ≡ collector_after (advance_turn self.old.collector) 0 }
         ensures answer { result ≡ (advance_turn self.old.collector).answer 0 }
         ensures spare { self.old.spare ≤ self.new.spare + 1 }
+        ensures turns { self.new.turns ≡ self.old.turns }
     {
         self.enter_phase(Entry::Advance(self.phase + 1));
         Turn::Stepped
@@ -243,6 +296,7 @@ impl CollectorParty {
         ensures collector { self.new.collector ≡ collector_after (end_turn self.old.collector kept) 0 }
         ensures answer { result ≡ (end_turn self.old.collector kept).answer 0 }
         ensures spare { self.old.spare ≤ self.new.spare + 1 }
+        ensures turns { self.new.turns ≡ self.old.turns }
     {
         let cycle = self.phase / CYCLE_PHASES;
         self.enter_phase(Entry::Ends { cycle, kept });
@@ -259,8 +313,10 @@ impl CollectorParty {
         ensures collector { self.new.collector ≡ collector_after (next_turn heap.now self.old.collector) found }
         ensures answer { result ≡ (next_turn heap.now self.old.collector).answer found }
         ensures spare { self.old.spare + length self.old.collector.log ≤ self.new.spare + length self.new.collector.log }
+        ensures turns { self.new.turns ≡ min (self.old.turns + 1) (2 ^ 64 - 1) }
     {
-        let _all = self.log.spare();
+        let _all = self.log.count();
+        self.turns = self.turns.saturating_add(1);
         match self.stage {
             Stage::Looking => return self.look(heap, found),
             Stage::Passing { group, found: some } => {

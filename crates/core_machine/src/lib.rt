@@ -11,7 +11,12 @@ mod table;
 
 pub use collector::CollectorParty;
 pub use collector::stage::{ArrayAt, Copying, Scan, SpineCopy, SpineScan, Stage, Visit};
+pub use log::counted::CountedLog;
+pub use log::kept::Log;
+pub use log::told::ToldLog;
+pub use log::{CountsEntries, Entries};
 pub use machine::Machine;
+pub use machine::opening::opening_words;
 pub use place::{Access, Collecting, Leaving, Making, Place, Polling};
 pub use seat::SeatParty;
 pub use seat::looks::{FoundBehind, Looks};

@@ -1,71 +1,48 @@
-ghost use Rattle.std.specs.Prelude.{◌≡◌, ◌+◌, ◌<◌, ◌≤◌, ◌^◌, length, [], ◌∷◌, ◌++◌, OnOk, OnErr};
+ghost use Rattle.std.specs.Prelude.{◌≡◌, ℕ, ◌+◌, ◌<◌, ◌≤◌, ◌^◌, List, length, [], ◌∷◌, ◌++◌, OnOk, OnErr};
 
 use heap_model::{Entry, Memory};
 use std::alloc::Global;
-use std::marker::Model;
 
-/// A party's entries, in their order, and room for more.
-#[derive(Drop)]
-pub struct Log {
-    entries: Vec<Entry>,
-}
+pub(crate) mod counted;
+pub(crate) mod kept;
+pub(crate) mod told;
 
-impl Model for Log {
-    ghost use Rattle.std.specs.Prelude.{◌-◌, vec_capacity, vec_len};
-    ghost use Rattle.core_machine.specs.Log.{LogWithRoom};
+/// A log of a party's entries, to which the next is added. What it keeps of them in memory is its own.
+pub trait Entries: Drop {
+    ghost use Rattle.heap_model.specs.declared.entry.Entry.{Entry};
 
-    ghost Value = { LogWithRoom };
-
-    ghost view = { λ log. record {
-      entries = log.entries.items;
-      spare = vec_capacity log.entries - vec_len log.entries;
-    } };
-}
-
-impl Log {
-    /// A log without entries.
-    pub fn new(alloc: Global) -> Log
-        ensures { result.entries ≡ [] }
-    {
-        Log {
-            entries: Vec::new(alloc),
-        }
-    }
-
-    /// The entries.
-    pub fn entries(&self) -> &[Entry]
-        ensures { result.now ≡ self.now.entries }
-    {
-        self.entries.as_slice()
-    }
+    /// The entries, in their order.
+    ghost listed: { Self → List Entry };
 
     /// For how many more entries there is room.
-    pub fn spare(&self) -> usize
-        ensures spare { result ≡ self.now.spare }
-        ensures within { self.now.spare + length self.now.entries < 2 ^ 64 }
-    {
-        self.entries.capacity() - self.entries.len()
-    }
+    ghost left: { Self → ℕ };
+
+    /// A log without entries.
+    fn empty(alloc: Global) -> Self
+        ensures { listed result ≡ [] };
+
+    /// For how many more entries there is room.
+    fn spare(&self) -> usize
+        ensures { result ≡ left self.now };
 
     /// Makes room for at least `n` more entries.
-    pub fn reserve(&mut self, n: usize) -> Result<(), Memory>
-        ensures same { self.new.entries ≡ self.old.entries }
-        ensures more { self.old.spare ≤ self.new.spare }
-        ensures room { OnOk result (n ≤ self.new.spare) }
-        ensures memory { OnErr result (self.new ≡ self.old) }
-    {
-        self.entries.reserve(n).map_err(|_| Memory)
-    }
+    fn reserve(&mut self, n: usize) -> Result<(), Memory>
+        ensures same { listed self.new ≡ listed self.old }
+        ensures more { left self.old ≤ left self.new }
+        ensures room { OnOk result (n ≤ left self.new) }
+        ensures memory { OnErr result (self.new ≡ self.old) };
 
     /// Adds an entry, for which there is room.
-    pub fn push(&mut self, entry: Entry)
-        requires { 0 < self.old.spare }
-        ensures entries { self.new.entries ≡ self.old.entries ++ entry ∷ [] }
-        ensures spare { self.old.spare ≤ self.new.spare + 1 }
-    {
-        match self.entries.push(entry) {
-            Ok(()) => (),
-            Err(_) => unreachable!(),
-        }
-    }
+    fn push(&mut self, entry: Entry)
+        requires { 0 < left self.old }
+        ensures entries { listed self.new ≡ listed self.old ++ entry ∷ [] }
+        ensures spare { left self.old ≤ left self.new + 1 };
+}
+
+/// A log whose entries are counted, together with those for which there is room, by a number of 64 bits.
+pub trait CountsEntries: Entries {
+    /// The number of entries.
+    fn count(&self) -> usize
+        ensures count { result ≡ length (Self.listed self.now) }
+        ensures within { Self.left self.now + length (Self.listed self.now) < 2 ^ 64 };
 }

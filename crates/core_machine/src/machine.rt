@@ -16,7 +16,7 @@ use crate::table::words::{load, perform};
 use heap_model::{Command, Entry, Heap, Inner, Memory, Turn};
 use std::marker::Model;
 
-mod opening;
+pub(crate) mod opening;
 mod play;
 mod space;
 
@@ -229,8 +229,8 @@ impl Machine {
         ensures { result.now ≡ log_of self.now party }
     {
         match self.seats.get(party as usize) {
-            Some(seat) => seat.mine.entries(),
-            None => self.collector.log.entries(),
+            Some(seat) => seat.entries(),
+            None => self.collector.entries(),
         }
     }
 
@@ -240,8 +240,8 @@ impl Machine {
         ensures { result ≡ spare_of self.now party }
     {
         match self.seats.get(party as usize) {
-            Some(seat) => seat.mine.spare(),
-            None => self.collector.log.spare(),
+            Some(seat) => seat.spare(),
+            None => self.collector.spare(),
         }
     }
 

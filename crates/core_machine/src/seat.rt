@@ -3,11 +3,13 @@ ghost use Rattle.heap_model.specs.Heap.{IsHeap};
 ghost use Rattle.core_machine.specs.seat.Seat.{with_entries, call_over, after_call, seat_after_reply};
 ghost use Rattle.core_machine.specs.machine.Opening.{opening_seat};
 
-use crate::log::Log;
+use crate::log::Entries;
+use crate::log::kept::Log;
 use crate::place::Place;
+use crate::seat::hands::Hands;
 use crate::seat::looks::Looks;
 use crate::seat::register::Register;
-use crate::table::fragments::{Hand, Reserve};
+use crate::table::fragments::Reserve;
 use heap_model::limits::REGISTER_COUNT;
 use heap_model::{Command, Entry, Heap, Id, Memory, Reply};
 use heap_words::Spot;
@@ -21,10 +23,12 @@ mod collecting;
 pub(crate) mod commands;
 mod due;
 mod gather;
+mod hands;
 mod handshake;
 mod local;
 pub(crate) mod looks;
 mod moves;
+mod reads;
 pub(crate) mod register;
 mod spine;
 mod walk;
@@ -32,14 +36,13 @@ mod walk;
 /// Where no spine stands that the seat knows of.
 const NO_SPOT: Spot = Spot { half: 0, offset: 0 };
 
-/// What is kept of a seat: its registers, its fragments, its call in flight, what it answered, and its entries.
+/// What is kept of a seat: its registers, its fragments, its call in flight, what it answered, and its entries in a log.
 #[derive(Drop)]
-pub struct SeatParty {
+pub struct SeatParty<L: Entries = Log> {
     pub(crate) registers: [Register; REGISTER_COUNT],
     pub(crate) reserve: Reserve,
     pub(crate) cursor: u16,
-    pub(crate) hand: Hand,
-    pub(crate) body: Hand,
+    pub(crate) hands: Hands,
     pub(crate) stored: u16,
     pub(crate) tried: u16,
     pub(crate) given: u16,
@@ -60,10 +63,10 @@ pub struct SeatParty {
     pub(crate) sets: u32,
     pub(crate) looks: Looks,
     pub(crate) left: bool,
-    pub(crate) mine: Log,
+    pub(crate) mine: L,
 }
 
-impl Model for SeatParty {
+impl<L: Entries> Model for SeatParty<L> {
     ghost use Rattle.core_machine.specs.machine.Value.{SeatWithRoom};
 
     ghost Value = { SeatWithRoom };
@@ -73,8 +76,8 @@ impl Model for SeatParty {
         registers = party.registers;
         reserve = party.reserve.items;
         cursor = party.cursor;
-        hand = party.hand.items;
-        body = party.body.items;
+        hand = party.hands.hand;
+        body = party.hands.body;
         stored = party.stored;
         tried = party.tried;
         given = party.given;
@@ -95,15 +98,15 @@ impl Model for SeatParty {
         sets = party.sets;
         looks = party.looks;
         left = party.left;
-        mine = party.mine.entries;
+        mine = L.listed party.mine;
       };
-      spare = party.mine.spare;
+      spare = L.left party.mine;
     } };
 }
 
-impl SeatParty {
+impl<L: Entries> SeatParty<L> {
     /// The seat of this number at the opening.
-    pub fn opening(alloc: Global, heap: &Heap, number: u8) -> SeatParty
+    pub fn opening(alloc: Global, heap: &Heap, number: u8) -> SeatParty<L>
         requires { IsHeap heap.now }
         ensures { result.seat ≡ opening_seat heap.now number }
     {
@@ -116,8 +119,7 @@ impl SeatParty {
             registers,
             reserve: Reserve::new(),
             cursor: u16::from(number) % heap.groups,
-            hand: Hand::new(),
-            body: Hand::new(),
+            hands: Hands::empty(),
             stored: 0,
             tried: 0,
             given: 0,
@@ -138,7 +140,7 @@ impl SeatParty {
             sets: 0,
             looks: Looks::none(),
             left: false,
-            mine: Log::new(alloc),
+            mine: L::empty(alloc),
         }
     }
 
@@ -166,8 +168,7 @@ impl SeatParty {
         ensures seat { self.new.seat ≡ call_over self.old.seat }
         ensures spare { self.new.spare ≡ self.old.spare }
     {
-        self.hand.clear();
-        self.body.clear();
+        self.hands.clear();
         self.stored = 0;
         self.tried = 0;
         self.given = 0;

@@ -21,10 +21,11 @@ pub record SeatWithRoom : Type 0 where
 abbrev pub KeepsRoom : SeatWithRoom → SeatWithRoom → Type 0
 KeepsRoom old new = old.spare + length old.seat.mine ≤ new.spare + length new.seat.mine
 
--- the collector's data, and for how many more entries it has room
+-- the collector's data, for how many more entries it has room, and how many turns it has made, as far as 64 bits count them
 pub record CollectorWithRoom : Type 0 where
   pub collector : Collector
   pub spare : ℕ
+  pub turns : ℕ
 
 -- the heap, the state, and for how many more entries each party has room, the collector last
 pub record MachineValue : Type 0 where

@@ -50,8 +50,8 @@ fn opening_seats(alloc: Global, heap: &Heap) -> Result<Vec<SeatParty>, Memory>
     Ok(seats)
 }
 
-/// The words of the heap's table at the opening.
-fn opening_words(alloc: Global, heap: &Heap) -> Result<Vec<u64>, Memory>
+/// The words of the heap's table at the opening, in the order of the table.
+pub fn opening_words(alloc: Global, heap: &Heap) -> Result<Vec<u64>, Memory>
     requires { IsHeap heap.now }
     ensures length { IfOk result (λ words. length words.items ≡ table_length heap.now) }
     ensures wide { IfOk result (λ words. All (λ word. word < 2 ^ 64) words.items) }

@@ -9,6 +9,7 @@ ghost use Rattle.core_machine.specs.seat.Registers.{register_head, IsSmall};
 ghost use Rattle.core_machine.specs.Moves.{seat_after};
 ghost use Rattle.core_machine.specs.machine.Value.{KeepsRoom};
 
+use crate::log::Entries;
 use crate::place::{Access, Place};
 use crate::seat::SeatParty;
 use crate::seat::commands::Parts;
@@ -28,7 +29,7 @@ fn new_place(register: &Register) -> Access
     }
 }
 
-impl SeatParty {
+impl<L: Entries> SeatParty<L> {
     /// The first fragment of the object that the loaded field refers to.
     pub(crate) fn loaded_head(&self) -> u16
         requires { IfSome (head_of self.now.seat.loaded) (λ head. head < 2 ^ 16) }

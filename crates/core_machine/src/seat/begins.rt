@@ -5,6 +5,7 @@ ghost use Rattle.heap_model.specs.Heap.{IsHeap};
 ghost use Rattle.core_machine.specs.seat.Fits.{Fits};
 ghost use Rattle.core_machine.specs.machine.Machine.{MayBegin, MayBeginInner, after_begin, after_inner_begin};
 
+use crate::log::Entries;
 use crate::place::{Making, Place, Polling};
 use crate::seat::SeatParty;
 use crate::seat::collecting::first_place;
@@ -35,7 +36,7 @@ fn is_served(command: &Command) -> bool
     }
 }
 
-impl SeatParty {
+impl<L: Entries> SeatParty<L> {
     /// Whether the command may be begun now.
     #[inline(always)]
     pub fn may_begin(&self, command: &Command) -> bool

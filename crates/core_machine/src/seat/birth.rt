@@ -8,6 +8,7 @@ ghost use Rattle.core_machine.specs.Moves.{due_store, bearing_move, last_birth_m
 ghost use Rattle.core_machine.specs.table.Layout.{FitsSpot};
 ghost use Rattle.core_machine.specs.machine.Value.{KeepsRoom};
 
+use crate::log::Entries;
 use crate::place::{Making, Place};
 use crate::seat::SeatParty;
 use crate::seat::commands::Parts;
@@ -18,7 +19,7 @@ use heap_model::phase_plan::{BLACK_BIRTHS, CLEARING, CYCLE_PHASES};
 use heap_model::{Command, Entry, Id, Reply};
 use heap_words::{Name, Newborn, NewbornArray};
 
-impl SeatParty {
+impl<L: Entries> SeatParty<L> {
     /// Word `part` of fragment `k` of the object that is made.
     fn newborn_word(&self, number: u8, k: usize, part: u8) -> u64
         requires fields { fields_of self.now.seat.command < 2 ^ 13 }
@@ -34,7 +35,7 @@ impl SeatParty {
         };
         let Command::Array { cells, .. } = self.command else {
             let fields = Parts::of(&self.command).fields;
-            let fragments = self.body.as_slice();
+            let fragments = self.body();
             let record = Newborn {
                 name,
                 fields,
@@ -61,7 +62,7 @@ impl SeatParty {
         let k = (self.stored / 4) as usize;
         let part = (self.stored % 4) as u8;
         MakingStep::NewbornStore {
-            fragment: self.body[k],
+            fragment: self.body()[k],
             part,
             word: self.newborn_word(number, k, part),
         }
@@ -75,7 +76,7 @@ impl SeatParty {
         ensures spare { self.new.spare ≡ self.old.spare }
     {
         self.stored += 1;
-        let done = self.stored as usize == 4 * self.body.len();
+        let done = self.stored as usize == 4 * self.body().len();
         self.place = Place::Making(if done {
             Making::Bearing
         } else {
@@ -96,7 +97,7 @@ impl SeatParty {
         requires { 0 < length self.now.seat.hand }
         ensures { Makes result ≡ (bearing_move 0 self.now.seat).step }
     {
-        let hand = self.hand.as_slice();
+        let hand = self.hand();
         let group = last_group(hand);
         let (_, born) = hand.split_at(hand.len() - last_run(hand));
         let bits = mask(born);
@@ -117,12 +118,12 @@ impl SeatParty {
         ensures seat { self.new.seat ≡ seat_after (bearing_move number self.old.seat) 0 }
         ensures spare { KeepsRoom self.old self.new }
     {
-        let group = last_group(self.hand.as_slice());
-        if all_in(self.hand.as_slice(), group) {
+        let group = last_group(self.hand());
+        if all_in(self.hand(), group) {
             self.make(number);
         } else {
-            let left = self.hand.len() - last_run(self.hand.as_slice());
-            self.hand.truncate(left);
+            let left = self.hand().len() - last_run(self.hand());
+            self.hands.bear(left);
         }
     }
 
@@ -139,7 +140,7 @@ impl SeatParty {
             seat: number,
             count: self.made,
         };
-        let head = self.body[0];
+        let head = self.body()[0];
         self.registers[Parts::of(&self.command).target as usize] = Register::Object { head, id };
         self.made += 1;
         self.reply(number, Reply::Made(id));

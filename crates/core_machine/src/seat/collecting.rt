@@ -4,6 +4,7 @@ ghost use Rattle.core_machine.specs.seat.Looks.{noted_reply};
 ghost use Rattle.core_machine.specs.Moves.{seat_after};
 ghost use Rattle.core_machine.specs.machine.Value.{KeepsRoom};
 
+use crate::log::Entries;
 use crate::place::{Collecting, Place, Polling};
 use crate::seat::SeatParty;
 use heap_model::{CollectReply, Inner, Reply};
@@ -38,7 +39,7 @@ fn noted(reply: CollectReply) -> Reply
     }
 }
 
-impl SeatParty {
+impl<L: Entries> SeatParty<L> {
     /// Looked at the phase.
     fn learn_look(&mut self, found: u64)
         ensures seat { self.new.seat ≡ seat_after (look_move self.old.seat) found }

@@ -4,12 +4,13 @@ ghost use Rattle.core_machine.specs.seat.Fits.{Fits, FitsMaking, FitsPolling};
 ghost use Rattle.core_machine.specs.seat.FitsAccess.{FitsAccess};
 ghost use Rattle.core_machine.specs.Moves.{due_step, making_move, access_move, polling_move, leaving_move, collecting_move};
 
+use crate::log::Entries;
 use crate::place::{Access, Collecting, Leaving, Making, Place, Polling};
 use crate::seat::SeatParty;
 use crate::step::{AccessStep, HandshakeStep, MakingStep, SpineStep, Step, TurningStep};
 use heap_model::Heap;
 
-impl SeatParty {
+impl<L: Entries> SeatParty<L> {
     /// The step of making that is due.
     #[inline(always)]
     fn due_making(&self, heap: &Heap, number: u8, place: Making) -> Step

@@ -1,4 +1,4 @@
-ghost use Rattle.std.specs.Prelude.{◌≡◌, ℕ, ◌+◌, ◌<◌, ◌≤◌, length};
+ghost use Rattle.std.specs.Prelude.{◌≡◌, ℕ, ◌+◌, ◌<◌, ◌≤◌, [], length};
 ghost use Rattle.heap_model.specs.Heap.{IsHeap};
 ghost use Rattle.heap_model.specs.Limits.{most_reserve};
 ghost use Rattle.core_machine.specs.declared.step.Step.TheVariants.{Making as Makes};
@@ -8,12 +8,11 @@ ghost use Rattle.core_machine.specs.seat.Making.{next_group_of, last_claimed, ga
 ghost use Rattle.core_machine.specs.Moves.{claim_move, give_back_move, refusal_looks, refusal_move, seat_after, first_part};
 ghost use Rattle.core_machine.specs.machine.Value.{KeepsRoom};
 
+use crate::log::Entries;
 use crate::place::{Making, Place};
 use crate::seat::SeatParty;
 use crate::step::MakingStep;
-use crate::table::fragments::{
-    add_clear, append, count_in, first_group, leave_out, mask_in, refill,
-};
+use crate::table::fragments::{count_in, first_group, mask_in};
 use heap_model::{Command, Entry, Heap, Reply};
 
 /// Where a refusal stands while these fragments are to be given back.
@@ -37,7 +36,7 @@ fn settled(command: &Command) -> Making
     }
 }
 
-impl SeatParty {
+impl<L: Entries> SeatParty<L> {
     /// The group that is claimed next.
     pub(crate) fn next_group(&self, heap: &Heap) -> u16
         requires groups { 0 < heap.now.groups }
@@ -50,6 +49,7 @@ impl SeatParty {
     /// The first fragments are the new object's, and the rest is the reserve, of the group that was claimed last.
     fn settle(&mut self, heap: &Heap)
         requires groups { 0 < heap.now.groups }
+        requires body { self.old.seat.body ≡ [] }
         requires small { self.old.seat.cursor + self.old.seat.tried < 65536 }
         requires enough { need self.old.seat ≤ length self.old.seat.reserve + length self.old.seat.hand }
         requires few { length self.old.seat.reserve + length self.old.seat.hand ≤ need self.old.seat + most_reserve }
@@ -58,11 +58,7 @@ impl SeatParty {
         ensures spare { self.new.spare ≡ self.old.spare }
     {
         let need = self.command.need() as usize;
-        refill(&mut self.body, self.reserve.as_slice());
-        append(&mut self.body, self.hand.as_slice());
-        refill(&mut self.reserve, &self.body.as_slice()[need..]);
-        self.body.truncate(need);
-        refill(&mut self.hand, self.body.as_slice());
+        self.hands.settle(&mut self.reserve, need);
         if self.tried > 0 {
             self.cursor = (self.cursor + self.tried - 1) % heap.groups;
         }
@@ -73,18 +69,19 @@ impl SeatParty {
     /// Enough is gathered, or the next group is claimed, or, after all groups, the call is refused.
     pub(crate) fn go_on(&mut self, heap: &Heap)
         requires groups { 0 < heap.now.groups }
+        requires body { self.old.seat.body ≡ [] }
         requires small { self.old.seat.cursor + self.old.seat.tried < 65536 }
         requires few { length self.old.seat.reserve + length self.old.seat.hand ≤ need self.old.seat + most_reserve }
         requires object { need self.old.seat ≤ 1025 }
         ensures seat { self.new.seat ≡ gather_next heap.now self.old.seat }
         ensures spare { self.new.spare ≡ self.old.spare }
     {
-        if self.reserve.len() + self.hand.len() >= self.command.need() as usize {
+        if self.reserve.len() + self.hand().len() >= self.command.need() as usize {
             self.settle(heap);
         } else if self.tried < heap.groups {
             self.place = Place::Making(Making::Gathering);
         } else {
-            self.place = Place::Making(returning(self.hand.as_slice()));
+            self.place = Place::Making(returning(self.hand()));
         }
     }
 
@@ -98,9 +95,7 @@ impl SeatParty {
         ensures spare { KeepsRoom self.old self.new }
     {
         let group = self.next_group(heap);
-        let before = self.hand.len();
-        add_clear(&mut self.hand, group, found);
-        let count = self.hand.len() - before;
+        let count = self.hands.claim(group, found);
         self.tried += 1;
         self.go_on(heap);
         if count > 0 {
@@ -116,10 +111,10 @@ impl SeatParty {
         requires { 0 < length self.now.seat.hand }
         ensures { Makes result ≡ (give_back_move 0 self.now.seat).step }
     {
-        let group = first_group(self.hand.as_slice());
+        let group = first_group(self.hand());
         MakingStep::GiveBack {
             group,
-            bits: mask_in(self.hand.as_slice(), group),
+            bits: mask_in(self.hand(), group),
         }
     }
 
@@ -131,11 +126,11 @@ impl SeatParty {
         ensures seat { self.new.seat ≡ seat_after (give_back_move number self.old.seat) 0 }
         ensures spare { KeepsRoom self.old self.new }
     {
-        let group = first_group(self.hand.as_slice());
-        let count = count_in(self.hand.as_slice(), group);
-        leave_out(&mut self.hand, group);
+        let group = first_group(self.hand());
+        let count = count_in(self.hand(), group);
+        self.hands.leave_out(group);
         self.given += count as u16;
-        self.place = Place::Making(returning(self.hand.as_slice()));
+        self.place = Place::Making(returning(self.hand()));
         self.note(Entry::GivesBack {
             seat: number,
             count: count as u32,

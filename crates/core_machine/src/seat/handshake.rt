@@ -9,6 +9,7 @@ ghost use Rattle.core_machine.specs.seat.Seat.{with_entries};
 ghost use Rattle.core_machine.specs.Moves.{seat_after};
 ghost use Rattle.core_machine.specs.machine.Value.{KeepsRoom};
 
+use crate::log::Entries;
 use crate::place::{Leaving, Place, Polling};
 use crate::seat::SeatParty;
 use crate::seat::register::Register;
@@ -52,7 +53,7 @@ fn leaving(reserve: &[u16]) -> Leaving
     }
 }
 
-impl SeatParty {
+impl<L: Entries> SeatParty<L> {
     /// How many objects are shaded before the phase is answered.
     fn root_count(&self) -> usize
         ensures { result ≡ length (roots self.now.seat) }

@@ -5,6 +5,7 @@ ghost use Rattle.core_machine.specs.seat.HandshakeMoves.{local_move};
 ghost use Rattle.core_machine.specs.Moves.{seat_after};
 ghost use Rattle.core_machine.specs.machine.Value.{KeepsRoom};
 
+use crate::log::Entries;
 use crate::seat::SeatParty;
 use crate::seat::register::Register;
 use heap_model::{Command, Reply};
@@ -16,7 +17,7 @@ fn answer(same: bool) -> Reply
     if same { Reply::Yes } else { Reply::No }
 }
 
-impl SeatParty {
+impl<L: Entries> SeatParty<L> {
     /// The reply of a command that looks at no word.
     fn local_reply(&self) -> Reply
         requires { IsCommand self.now.seat.command }

@@ -8,11 +8,12 @@ ghost use Rattle.core_machine.specs.Moves.{next_move, seat_after_due, seat_after
 ghost use Rattle.core_machine.specs.table.Operation.{address_of};
 ghost use Rattle.core_machine.specs.machine.Value.{KeepsRoom};
 
+use crate::log::Entries;
 use crate::place::{Access, Leaving, Making, Place, Polling};
 use crate::seat::SeatParty;
 use heap_model::Heap;
 
-impl SeatParty {
+impl<L: Entries> SeatParty<L> {
     /// Learns what a step of making found.
     #[inline(always)]
     fn learn_making(&mut self, heap: &Heap, number: u8, place: Making, found: u64)

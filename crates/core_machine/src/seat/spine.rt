@@ -12,6 +12,7 @@ ghost use Rattle.core_machine.specs.Moves.{withdraw_move, refusal_step, listing_
 ghost use Rattle.core_machine.specs.table.Layout.{FitsSpot};
 ghost use Rattle.core_machine.specs.machine.Value.{KeepsRoom};
 
+use crate::log::Entries;
 use crate::place::{Access, Making, Place};
 use crate::seat::SeatParty;
 use crate::seat::commands::Parts;
@@ -22,7 +23,7 @@ use heap_words::Spot;
 /// The cells of a payload fragment.
 const FRAGMENT_CELLS: u32 = 4;
 
-impl SeatParty {
+impl<L: Entries> SeatParty<L> {
     /// The spine words that the call needs.
     pub(crate) fn spine_need(&self) -> u16
         requires { spine_need self.now.seat < 65536 }
@@ -107,7 +108,7 @@ impl SeatParty {
         SpineStep::SpineStore {
             half: self.spine.half,
             offset: self.spine.offset + u32::from(self.listed),
-            fragment: self.body[self.listed as usize + 1],
+            fragment: self.body()[self.listed as usize + 1],
         }
     }
 

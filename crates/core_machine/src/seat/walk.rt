@@ -8,6 +8,7 @@ ghost use Rattle.core_machine.specs.seat.Registers.{register_in};
 ghost use Rattle.core_machine.specs.Moves.{seat_after};
 ghost use Rattle.core_machine.specs.machine.Value.{KeepsRoom};
 
+use crate::log::Entries;
 use crate::place::{Access, Place};
 use crate::seat::SeatParty;
 use crate::seat::commands::Parts;
@@ -54,7 +55,7 @@ fn meta_reply(command: &Command, found: u64) -> Option<Reply>
     }
 }
 
-impl SeatParty {
+impl<L: Entries> SeatParty<L> {
     /// The way begins at the object that the register holds; without an object the reply is told at once.
     pub(crate) fn open(&mut self, r: u8)
         requires register { r < register_count }

@@ -140,3 +140,12 @@ pub fn refill<const N: usize>(buffer: &mut ArrayVec<u16, N>, fragments: &[u16])
     buffer.clear();
     append(buffer, fragments);
 }
+
+/// Puts these fragments before those that it has.
+pub fn put_before<const N: usize>(buffer: &mut ArrayVec<u16, N>, fragments: &[u16])
+    requires { length buffer.old.items + length fragments.now ≤ N }
+    ensures { buffer.new.items ≡ fragments.now ++ buffer.old.items }
+{
+    append(buffer, fragments);
+    buffer.as_mut_slice().rotate_right(fragments.len());
+}

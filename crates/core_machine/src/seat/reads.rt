@@ -1,0 +1,116 @@
+ghost use Rattle.std.specs.Prelude.{◌≡◌, ◌+◌, ◌<◌, ◌^◌, length};
+
+use crate::log::{CountsEntries, Entries};
+use crate::place::Place;
+use crate::seat::SeatParty;
+use crate::seat::looks::Looks;
+use crate::seat::register::Register;
+use heap_model::Entry;
+
+impl SeatParty {
+    /// The seat's entries, in their order.
+    pub fn entries(&self) -> &[Entry]
+        ensures { result.now ≡ self.now.seat.mine }
+    {
+        self.mine.entries()
+    }
+
+    /// The seat's entries alone.
+    pub fn into_entries(self) -> Vec<Entry>
+        ensures { result.items ≡ self.seat.mine }
+    {
+        let SeatParty { mine, .. } = self;
+        mine.into_entries()
+    }
+}
+
+impl<L: CountsEntries> SeatParty<L> {
+    /// The number of its entries.
+    pub fn count(&self) -> usize
+        ensures count { result ≡ length self.now.seat.mine }
+        ensures within { self.now.spare + length self.now.seat.mine < 2 ^ 64 }
+    {
+        self.mine.count()
+    }
+}
+
+impl<L: Entries> SeatParty<L> {
+    /// For how many more entries there is room.
+    pub fn spare(&self) -> usize
+        ensures { result ≡ self.now.spare }
+    {
+        self.mine.spare()
+    }
+
+    /// How many objects it has made.
+    pub fn made(&self) -> u32
+        ensures { result ≡ self.now.seat.made }
+    {
+        self.made
+    }
+
+    /// The fragments that it keeps between two calls.
+    pub fn reserve(&self) -> &[u16]
+        ensures { result.now ≡ self.now.seat.reserve }
+    {
+        self.reserve.as_slice()
+    }
+
+    /// The group that its next claim goes to first.
+    pub fn cursor(&self) -> u16
+        ensures { result ≡ self.now.seat.cursor }
+    {
+        self.cursor
+    }
+
+    /// The fragments that its call in flight has claimed and not borne.
+    #[inline(always)]
+    pub fn hand(&self) -> &[u16]
+        ensures { result.now ≡ self.now.seat.hand }
+    {
+        self.hands.hand()
+    }
+
+    /// The fragments of the object that its call in flight makes.
+    #[inline(always)]
+    pub fn body(&self) -> &[u16]
+        ensures { result.now ≡ self.now.seat.body }
+    {
+        self.hands.body()
+    }
+
+    /// Its registers.
+    pub fn registers(&self) -> &[Register]
+        ensures { result.now ≡ self.now.seat.registers }
+    {
+        &self.registers
+    }
+
+    /// Where it stands in its call.
+    pub fn place(&self) -> Place
+        ensures { result ≡ self.now.seat.place }
+    {
+        self.place
+    }
+
+    /// What it has found out by the inner calls of its collects.
+    pub fn looks(&self) -> Looks
+        ensures { result ≡ self.now.seat.looks }
+    {
+        self.looks
+    }
+
+    /// How often it found another seat behind the phase, up to the largest number of 64 bits.
+    pub fn waits(&self) -> u64
+        ensures { result ≡ self.now.seat.looks.waits }
+    {
+        self.looks.waits
+    }
+
+    /// Whether it has left.
+    pub fn left(&self) -> bool
+        ensures { result ≡ self.now.seat.left }
+    {
+        self.left
+    }
+}
