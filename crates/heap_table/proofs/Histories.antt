@@ -1,0 +1,150 @@
+-- Once all is read, one legal history has exactly the logs.
+use Rattle.std.proofs.Common.{zero, suc, ◌≡◌, ℕ, ◌+◌, ◌<◌, List, [], ◌∷◌, ◌++◌, length, map, filter, Option, Some, None, refl, sym, ap, subst, ◌∙◌, arith}
+use Rattle.std.proofs.lemmas.List.{length-map}
+use Rattle.std.specs.List.{range_with_len}
+use Rattle.std.specs.Option.{option_map_or}
+use Rattle.std.specs.Prelude.{option_map}
+use mathlib.Core.Option.{some, some-injective}
+use lib.ListN.{get_elem?}
+use Rattle.atomic_table.specs.Seated.{TableId}
+use Rattle.atomic_table.specs.Table.{Me, Allows}
+use Rattle.heap_model.specs.declared.entry.Entry.{Entry}
+use Rattle.heap_model.specs.declared.heap.Heap.{Heap}
+use Rattle.heap_model.specs.account.Cycles.{graph_of}
+use Rattle.heap_model.specs.account.Effects.{is_of}
+use Rattle.core_machine.specs.collector.Collector.{Collector}
+use Rattle.core_machine.specs.machine.Machine.{seat_at}
+use Rattle.core_machine.specs.machine.Value.{SeatWithRoom}
+use Rattle.core_machine.specs.seat.Seat.{Seat}
+use Rattle.core_machine.specs.table.Layout.{table_length}
+use Rattle.core_rule.proofs.entries.AtRest.{seat_fits}
+use Rattle.core_rule.proofs.entries.SeatLists.{idle_list}
+use Rattle.heap_table.specs.Closed.{IsWhole, EndsWhole, logs_in, logs_known, HasOneHistory}
+use Rattle.heap_table.specs.CollectorHeld.{KeepsToken, seats_in}
+use Rattle.heap_table.specs.Folded.{AllFolded}
+use Rattle.heap_table.specs.Handing.{with_closed}
+use Rattle.heap_table.specs.Holds.{Holds}
+use Rattle.heap_table.specs.Known.{CollectorKnown}
+use Rattle.heap_table.specs.Told.{Tells}
+use Rattle.heap_table.specs.Views.{collector_view, known_by}
+use Rattle.heap_table.specs.declared.view.View.{View}
+use Rattle.heap_table.proofs.ClosingLoads.{reading_allowed}
+
+-- a list that has f of each number at its place is the row of these
+row_of : {A B : Type 0} (g : A → B) (f : ℕ → B) (l : List A) (a n : ℕ) → length l ≡ n → ((i : ℕ) → i < n → (x : A) × (get_elem? l i ≡ some x) × (g x ≡ f (a + i))) → map g l ≡ map f (range_with_len a n)
+row_of g f [] a zero long each = refl
+row_of g f [] a (suc n) long each = absurd (omega (arith, long))
+row_of g f (x ∷ l) a zero long each = absurd (omega (arith, long))
+row_of {A} {B} g f (x ∷ l) a (suc n) long each =
+    let first = each 0 (omega arith) in
+    let head : g x ≡ f a = ap g (some-injective _ _ first.1) ∙ first.2 ∙ ap f (omega arith) in
+    let rest = row_of g f l (a + 1) n (omega (arith, long)) (λ i below. let it = each (suc i) (omega (arith, below)) in (it.0, it.1, it.2 ∙ ap f (omega arith))) in
+    ap (λ (b : B). b ∷ map g l) head ∙ ap (λ (m : List B). f a ∷ m) rest
+
+-- what is whole has one history
+pub one_history : (heap : Heap) (known : CollectorKnown) → length known.seats ≡ heap.seats → IsWhole heap known
+    → HasOneHistory (record { heap = heap; words = known.closed; logs = logs_known known; folded = known.folded })
+one_history heap known places whole =
+    let rule = whole.stands.rule in
+    record {
+      history = whole.book.history;
+      legal = rule.heap_stands.legal;
+      logs_are =
+          ap (λ (l : List (List Entry)). l ++ known.collector.log ∷ [])
+          (row_of (λ (place : Option Seat). option_map_or (λ (seat : Seat). seat.mine) place []) (λ (number : ℕ). filter (is_of number) whole.book.history) known.seats 0 heap.seats places
+          (λ number within. (Some (seat_at whole.state number), whole.seats_are number within, own number within)))
+          ∙ ap (λ (l : List Entry). map (λ (number : ℕ). filter (is_of number) whole.book.history) (range_with_len 0 heap.seats) ++ l ∷ [])
+          (ap (λ (c : Collector). c.log) (sym whole.collector_is) ∙ rule.collector_stands.log);
+      state = whole.state;
+      book = whole.book;
+      stands = whole.stands;
+      its_history = refl;
+      words_are = whole.words_are;
+      seats_before = whole.late;
+    }
+  where
+    own : (number : ℕ) → number < heap.seats → (seat_at whole.state number).mine ≡ filter (is_of (0 + number)) whole.book.history
+    own number within =
+        let rule = whole.stands.rule in
+        let idle = ((seat_fits rule number within).gone (whole.gone number within)).idle in
+        idle_list (graph_of heap whole.book.history) whole.book.history whole.book.made whole.book.owner whole.book.fragments number (seat_at whole.state number) idle (rule.seats_stand number within).told.list
+        ∙ ap (λ (n : ℕ). filter (is_of n) whole.book.history) (omega arith)
+
+-- the logs in the places are those that are known
+pub logs_placed : (places : List (Option SeatWithRoom)) → logs_in places ≡ map (λ place. option_map_or (λ (seat : Seat). seat.mine) place []) (seats_in places)
+logs_placed [] = refl
+logs_placed (None ∷ places) = ap (λ (l : List (List Entry)). [] ∷ l) (logs_placed places)
+logs_placed (Some party ∷ places) = ap (λ (l : List (List Entry)). party.seat.mine ∷ l) (logs_placed places)
+
+-- what is told of the next word that closing reads
+abbrev pub ReadTells : Heap → Me (Unit {0}) View → ℕ → Me (Unit {0}) View → Type 0
+ReadTells heap me = Tells (λ n. collector_view (with_closed (known_by me.0) n)) (λ n. EndsWhole heap (with_closed (known_by me.0) n)) me
+
+module _ (shared : TableId) (key : Heap) (mine : TableId) (me : Me (Unit {0}) View) (heap : Heap) (keeps : KeepsToken shared key mine me heap) where
+  -- reading it is allowed
+  pub read_allowed : (slots id word : ℕ) (key' : Heap) → slots ≡ shared.slots → key' ≡ key → AllFolded heap (known_by me.0).seats → word ≡ length (known_by me.0).closed → word < table_length heap
+      → Allows (Holds key') slots id me word (λ n. n) (ReadTells heap me)
+  read_allowed slots id word key' slots_are key_is all next within =
+      let none_ : slots ≡ 0 = slots_are ∙ ap (λ (z : TableId). z.slots) (sym keeps.table) ∙ keeps.slots in
+      subst (λ (k : Heap). Allows (Holds k) slots id me word (λ n. n) (ReadTells heap me)) (sym (key_is ∙ keeps.key_is))
+      (subst (λ (k : ℕ). Allows (Holds heap) k id me word (λ n. n) (ReadTells heap me)) (sym none_)
+      (subst (λ (k : ℕ). Allows (Holds heap) 0 id me k (λ n. n) (ReadTells heap me)) (sym next)
+      (subst (λ (m : Me (Unit {0}) View). Allows (Holds heap) 0 id m (length (known_by me.0).closed) (λ n. n) (Tells (λ n. collector_view (with_closed (known_by me.0) n)) (λ n. EndsWhole heap (with_closed (known_by me.0) n)) m)) (sym keeps.knows)
+      (reading_allowed heap (known_by me.0) all (rw (← next) within) id))))
+
+  -- and leaves the collector's token
+  pub keeps_read : (mine' : TableId) (me' : Me (Unit {0}) View) (found : ℕ) → mine' ≡ mine → ReadTells heap me found me' → KeepsToken shared key mine' me' heap
+  keeps_read mine' me' found same tells = record {
+    table = same ∙ keeps.table;
+    size = ap (λ (z : TableId). z.words) same ∙ keeps.size;
+    slots = ap (λ (z : TableId). z.slots) same ∙ keeps.slots;
+    key_is = keeps.key_is;
+    limits = keeps.limits;
+    knows = tells.0 ∙ ap (λ (m : Me (Unit {0}) View). (collector_view (with_closed (known_by me.0) found), m.1)) keeps.knows
+        ∙ ap (λ (m : Me (Unit {0}) View). (collector_view (known_by m.0), [])) (sym tells.0);
+  }
+
+-- while words are read: those read so far are the closed ones
+pub record IsReading (shared : TableId) (key : Heap) (mine : TableId) (me : Me (Unit {0}) View) (heap : Heap) (start : CollectorKnown) (words : List ℕ) : Type 0 where
+  pub token : KeepsToken shared key mine me heap
+  pub known_is : known_by me.0 ≡ record start { closed = words }
+  pub ends : EndsWhole heap (known_by me.0)
+
+module _ (shared : TableId) (key heap : Heap) (start : CollectorKnown) where
+  -- nothing is read yet, and there are words
+  pub reading_begins : (mine : TableId) (me : Me (Unit {0}) View) (words : List ℕ) → KeepsToken shared key mine me heap → start ≡ known_by me.0 → start.closed ≡ [] → words ≡ [] → IsReading shared key mine me heap start words
+  reading_begins mine me words keeps same unread none_ = record {
+    token = keeps;
+    known_is = sym same ∙ ap (λ (l : List ℕ). record start { closed = l }) (unread ∙ sym none_);
+    ends = λ whole. absurd (omega (arith, whole, ap (λ (k : CollectorKnown). length k.closed) (sym same), ap length unread));
+  }
+
+  -- one more word is read
+  pub reading_more : (mine mine' : TableId) (me me' : Me (Unit {0}) View) (words words' : List ℕ) (word : ℕ) → IsReading shared key mine me heap start words → KeepsToken shared key mine' me' heap
+      → known_by me'.0 ≡ with_closed (known_by me.0) word → EndsWhole heap (known_by me'.0) → words' ≡ words ++ word ∷ [] → IsReading shared key mine' me' heap start words'
+  reading_more mine mine' me me' words words' word is keeps known_is ends more = record {
+    token = keeps;
+    known_is = known_is ∙ ap (λ (k : CollectorKnown). with_closed k word) is.known_is ∙ ap (λ (l : List ℕ). record start { closed = l }) (sym more);
+    ends = ends;
+  }
+
+-- while logs are moved: those moved so far stand behind those before, and the others are still in their places
+pub record IsMoving (before : List (List Entry)) (places : List (Option SeatWithRoom)) (logs : List (List Entry)) (rest : List (Option SeatWithRoom)) : Type 0 where
+  pub together : logs ++ logs_in rest ≡ before ++ logs_in places
+
+-- so all logs stand behind one another
+pub logs_closed : (places : List (Option SeatWithRoom)) (known : CollectorKnown) (collector : Collector) (before moved all : List (List Entry)) (log : List Entry) → seats_in places ≡ known.seats → known.collector ≡ collector
+    → log ≡ collector.log → before ≡ [] → moved ≡ before ++ logs_in places → all ≡ moved ++ log ∷ [] → all ≡ logs_known known
+logs_closed places known collector before moved all log seats its its_log none_ moved_are all_are =
+    all_are
+    ∙ ap (λ (l : List (List Entry)). l ++ log ∷ []) (moved_are ∙ ap (λ (l : List (List Entry)). l ++ logs_in places) none_ ∙ logs_placed places ∙ ap (map (λ place. option_map_or (λ (seat : Seat). seat.mine) place [])) seats)
+    ∙ ap (λ (l : List Entry). map (λ place. option_map_or (λ (seat : Seat). seat.mine) place []) known.seats ++ l ∷ []) (its_log ∙ ap (λ (c : Collector). c.log) (sym its))
+
+-- and one history has them
+pub closes : (heap : Heap) (known read : CollectorKnown) (places : List (Option SeatWithRoom)) (words : List ℕ) (logs : List (List Entry)) (folded : ℕ) → read ≡ record known { closed = words } → seats_in places ≡ known.seats → length places ≡ heap.seats
+    → EndsWhole heap read → length words ≡ table_length heap → logs ≡ logs_known known → known.folded ≡ folded → HasOneHistory (record { heap = heap; words = words; logs = logs; folded = folded })
+closes heap known read places words logs folded read_is seats places_are ends long logs_are folded_is =
+    let whole : IsWhole heap (record known { closed = words }) = subst (IsWhole heap) read_is (ends (ap (λ (k : CollectorKnown). length k.closed) read_is ∙ long)) in
+    let one = one_history heap (record known { closed = words }) (ap length (sym seats) ∙ length-map places (λ place. option_map (λ (party : SeatWithRoom). party.seat) place) ∙ places_are) whole in
+    subst (λ (n : ℕ). HasOneHistory (record { heap = heap; words = words; logs = logs; folded = n })) folded_is
+    (subst (λ (l : List (List Entry)). HasOneHistory (record { heap = heap; words = words; logs = l; folded = known.folded })) (sym logs_are) one)
