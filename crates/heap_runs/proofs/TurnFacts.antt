@@ -12,6 +12,7 @@ use Rattle.heap_model.specs.account.Noting.{is_collectors}
 use Rattle.heap_model.specs.account.Phases.{IsBehind, TurnShows}
 use Rattle.heap_model.specs.calls.CollectorCalls.{ComesTo, StepsTo}
 use Rattle.heap_runs.specs.Play.{tells_turn, AreTurns}
+use Rattle.slack_pace.specs.Slack as slack
 use Rattle.heap_runs.specs.PlayHeap.{PlayState, TakesTurn, collector_state_of}
 use Rattle.heap_runs.specs.Turning.{AddsTurns, IsStep, TakesTurns, HasTurned, HasComeTo}
 use Rattle.core_rule.proofs.parties.Collectors.{all_collectors}
@@ -85,6 +86,15 @@ turns_more old now new turn adds takes = record {
 pub turns_add : (Is : Turn → Type 0) (n : ℕ) (old new : PlayState) → TakesTurns Is n old new → AddsTurns old new
 turns_add Is zero old new same = turns_none old new (ap (λ s. s.heap) same) (ap (λ s. s.entries) same)
 turns_add Is (suc n) old new taken = turns_more old taken.0 new taken.1 (turns_add Is n old taken.0 taken.2) taken.3
+
+-- what turns add that a pace asked for
+onward_adds : (n : ℕ) (old new : PlayState) → slack.MakesOnward TakesTurn n old new → AddsTurns old new
+onward_adds zero old new same = turns_none old new (ap (λ s. s.heap) same) (ap (λ s. s.entries) same)
+onward_adds (suc n) old new makes = turns_more old makes.0 new makes.1 (onward_adds n old makes.0 makes.2) makes.3
+
+pub each_adds : (n : ℕ) (old new : PlayState) → slack.MakesEach TakesTurn n old new → AddsTurns old new
+each_adds zero old new same = turns_none old new (ap (λ s. s.heap) same) (ap (λ s. s.entries) same)
+each_adds (suc n) old new makes = turns_more old makes.0 new makes.1 (onward_adds n old makes.0 makes.2) makes.3
 
 -- so many turns added as many entries at most
 pub turns_few : (Is : Turn → Type 0) (n : ℕ) (old new : PlayState) → TakesTurns Is n old new → length new.entries ≤ length old.entries + n

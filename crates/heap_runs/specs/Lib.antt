@@ -3,6 +3,5 @@ pub mod Turning
 pub mod Growing
 pub mod MachineHeap
 pub mod Play
-pub mod PlayCollector
 pub mod Playing
 pub mod Collecting

@@ -8,7 +8,7 @@ ghost use Rattle.heap_runs.specs.MachineHeap.{play_state_of, IsFresh, CallsMachi
 use crate::play_heap::PlayHeap;
 use core_machine::Machine;
 use core_rule::law_every_run;
-use heap_model::{Command, Entry, Heap, Memory, Reply, Turn};
+use heap_model::{CollectorCalls, Command, Entry, Heap, Memory, Reply, Turn};
 use locked_heap::Recorder;
 use std::alloc::Global;
 use std::marker::Model;

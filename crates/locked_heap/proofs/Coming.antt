@@ -5,7 +5,7 @@ use Rattle.std.proofs.lemmas.Bool.Decides.{eqb_tells}
 use Rattle.std.proofs.lemmas.List.{append-nil, take_more, get_or-set_same, get_or-set_other, length-set}
 use Rattle.std.proofs.lemmas.Option.{slice_get_within, get_or_from_slice_get, slice_get_read}
 use Rattle.heap_model.specs.declared.command.Command.{Command}
-use Rattle.heap_model.specs.declared.command.Command.TheVariants.{Leave, Collect}
+use Rattle.heap_model.specs.declared.command.Command.TheVariants.{Leave}
 use Rattle.heap_model.specs.declared.entry.Entry.{Entry}
 use Rattle.core_machine.specs.machine.Machine.{State, seat_at}
 use Rattle.heap_model.specs.PhasePlan.{cycle_phases}

@@ -9,7 +9,7 @@ use Rattle.heap_model.specs.declared.entry.Entry.{Entry}
 use Rattle.heap_model.specs.declared.entry.Entry.TheVariants.{Takes}
 use Rattle.heap_model.specs.declared.heap.Heap.{Heap}
 use Rattle.heap_model.specs.declared.reply.Reply.{Reply}
-use Rattle.core_machine.specs.Moves.{move_at, next_move}
+use Rattle.core_machine.specs.Moves.{move_at}
 use Rattle.core_machine.specs.collector.Collector.{Collector, turn_at}
 use Rattle.core_machine.specs.collector.CopyingTurns.{copying_adds}
 use Rattle.core_machine.specs.declared.collector.stage.Copying.{Copying}

@@ -10,6 +10,8 @@ pub mod Coming
 pub mod LastCycle
 pub mod Opened
 pub mod Parting
+pub mod TurnsStand
+pub mod Owing
 pub mod Slacking
 pub mod Calling
 pub mod InnerCalls

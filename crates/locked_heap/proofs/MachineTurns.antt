@@ -16,7 +16,7 @@ use Rattle.core_machine.specs.machine.Value.{MachineValue}
 use Rattle.core_rule.specs.Laws.{EveryRunKeeps, EachEventKeeps, EachTurnComesTo, IsToldBy}
 use Rattle.core_rule.proofs.parties.Collectors.{all_collectors}
 use Rattle.core_rule.proofs.parties.TurnLogs.{TurnFacts, turn_facts}
-use Rattle.locked_heap.specs.Locked.{IsRunFrom, TurnsOn}
+use Rattle.locked_heap.specs.Locked.{TurnsOn}
 use Rattle.locked_heap.specs.Recorded.{Recorded, EventsLeadTo, AnyEvents, StandsStill, MakesTurn, collector_of}
 use Rattle.locked_heap.proofs.Calls.{AddsTold, room_kept}
 use Rattle.locked_heap.proofs.GivenRuns.{run_turn, run_still}

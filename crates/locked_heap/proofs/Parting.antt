@@ -1,6 +1,6 @@
 -- What stays of what is known under the lock, and that nothing is told behind the last leave.
 use Rattle.std.specs.Prelude.{slice_set}
-use Rattle.std.proofs.Common.{◌≡◌, ◌≢◌, ℕ, ◌+◌, ◌<◌, ◌≤◌, true, false, List, [], ◌∷◌, ◌++◌, length, refl, sym, ap, subst, ◌∙◌, append_assoc, arith}
+use Rattle.std.proofs.Common.{◌≡◌, ℕ, ◌+◌, ◌<◌, ◌≤◌, true, false, List, [], ◌∷◌, ◌++◌, length, refl, sym, ap, ◌∙◌, append_assoc, arith}
 use Rattle.std.proofs.lemmas.List.{get_or-set_same, get_or-set_other}
 use Rattle.heap_model.specs.declared.command.Command.TheVariants.{Leave}
 use Rattle.heap_model.specs.declared.entry.Entry.{Entry}
@@ -8,10 +8,9 @@ use Rattle.heap_model.specs.declared.entry.Entry.TheVariants.{Said}
 use Rattle.heap_model.specs.declared.reply.Reply.{Reply}
 use Rattle.locked_heap.specs.declared.progress.Progress.{Progress}
 use Rattle.locked_heap.specs.Given.{Given}
-use Rattle.locked_heap.specs.Locked.{LockedValue, AllGone, IsParted, SomeAreThere, StandsLocked, ComesOneFurther, beside_of}
+use Rattle.locked_heap.specs.Locked.{LockedValue, IsParted, SomeAreThere, StandsLocked, ComesOneFurther}
 use Rattle.locked_heap.specs.Progress.{at_begin, progress_at}
 use Rattle.locked_heap.specs.Recorded.{Recorded, StandsStill, MakesCall}
-use Rattle.locked_heap.specs.Told.{EndsWithLeave}
 use Rattle.locked_heap.proofs.GivenRuns.{run_still}
 
 -- where a seat is there not all have left

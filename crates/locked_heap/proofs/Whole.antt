@@ -1,5 +1,5 @@
 -- A run all of whose seats have left, and whose last cycle has ended.
-use Rattle.std.proofs.Common.{◌≡◌, ℕ, ◌+◌, ◌-◌, ◌^◌, ◌<◌, ◌≤◌, min, true, false, List, [], ◌∷◌, ◌++◌, map, take, sym, ap, subst, ◌∙◌, append_assoc, arith}
+use Rattle.std.proofs.Common.{◌≡◌, ℕ, ◌-◌, ◌^◌, ◌<◌, ◌≤◌, min, true, false, List, [], ◌∷◌, ◌++◌, map, take, sym, ap, subst, ◌∙◌, append_assoc, arith}
 use Rattle.std.specs.Prelude.{slice_index_or}
 use Rattle.std.specs.List.{range_with_len}
 use Rattle.std.proofs.lemmas.List.{take_all}
@@ -20,7 +20,6 @@ use Rattle.core_rule.specs.SweepLaws.{EachLastCycleEmpties}
 use Rattle.core_rule.proofs.runs.CountedFinds.{finds_by_law}
 use Rattle.core_rule.proofs.parties.Standing.{none_short, words_used as words_told}
 use Rattle.core_rule.proofs.runs.CountedFinds.{finds_by_law}
-use Rattle.locked_heap.specs.declared.progress.Progress.{Progress}
 use Rattle.locked_heap.specs.declared.ran.LockedRan.{LockedRan}
 use Rattle.locked_heap.specs.Given.{Given, script_of}
 use Rattle.locked_heap.specs.Locked.{IsRunFrom, LockedValue, AllHaveCome, AllGone, IsParted, EndsWhole}

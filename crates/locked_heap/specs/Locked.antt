@@ -16,11 +16,10 @@ use Rattle.heap_model.specs.PhasePlan.{cycle_phases}
 use Rattle.heap_model.specs.account.Noting.{is_collectors}
 use Rattle.heap_model.specs.account.PhaseCounts.{phase}
 use Rattle.heap_model.specs.account.Space.{total}
-use Rattle.heap_model.specs.calls.CollectorCalls.{CollectorState}
 use Rattle.core_machine.specs.machine.Machine.{State, seat_at, Event, BeginsInner, Can}
 use Rattle.core_machine.specs.declared.seat.looks.FoundBehind.{FoundBehind}
 use Rattle.core_machine.specs.seat.Looks.{noted_reply}
-use Rattle.slack_pace.specs.Slack.{MakesTurns, last_made, HasWaited}
+use Rattle.slack_pace.specs.Slack.{MakesEach, last_made, HasWaited}
 use Rattle.locked_heap.specs.declared.progress.Progress.{Progress}
 use Rattle.locked_heap.specs.Given.{Given, IsGiven, script_of}
 use Rattle.locked_heap.specs.Progress.{progress_at, HasCome}
@@ -44,15 +43,6 @@ pub record LockedValue : Type 0 where
   pub seats : List Progress
   pub owed : ℕ
   pub over : Bool
-
--- what turns leave as it is
-pub record Beside : Type 0 where
-  pub seats : List Progress
-  pub owed : ℕ
-  pub over : Bool
-
-abbrev pub beside_of : LockedValue → Beside
-beside_of locked = record { seats = locked.seats; owed = locked.owed; over = locked.over }
 
 -- each seat has come as far as is kept of it
 pub record AllHaveCome (given : Given) (told : List Entry) (state : State) (seats : List Progress) : Type 0 where
@@ -110,6 +100,13 @@ abbrev pub OwesMore : LockedValue → LockedValue → Type 0
 OwesMore old new =
     new.owed ≡ min (old.owed + total (λ e. e.taken) (drop (length old.recorded.history) new.recorded.history)) (2 ^ 64 - 1)
 
+-- the entries that were added claim nothing, and as much is owed as before
+pub record OwesNoMore (old new : LockedValue) : Type 0 where
+  pub added : List Entry
+  pub grown : new.recorded.history ≡ old.recorded.history ++ added
+  pub none_claimed : total (λ e. e.taken) added ≡ 0
+  pub owed_stays : new.owed ≡ old.owed
+
 -- the inner call tells no reply
 abbrev pub IsQuiet : Inner → Type 0
 IsQuiet (Note reply) = ⊥
@@ -159,13 +156,13 @@ pub record CollectsOn (given : Given) (old new : LockedValue) (number target : �
   pub ended : HasSeenEnd found number target → TellsAnswer found new number (Cycle target)
   pub waits : ¬ HasSeenEnd found number target → AnswersWait given found new number
 
--- not more turns were made than these, one after another, and fewer only where the last waits; nothing is owed then
+-- once there was room, not more turns were made than these, one after another, and fewer only where the last waits; nothing is owed then
 pub record MakesSlack (asked : ℕ) (old new : LockedValue) : Type 0 where
-  pub ready : CollectorState
-  pub roomy : ready ≡ record (collector_of old.recorded) { spare = ready.spare }
+  pub ready : Recorded
+  pub still : StandsStill old.recorded ready
   pub made : ℕ
   pub most : made ≤ asked
-  pub turns : MakesTurns made ready (collector_of new.recorded)
+  pub turns : MakesEach MakesTurn made ready new.recorded
   pub fewer : made < asked → HasWaited (last_made made (collector_of new.recorded))
   pub seats_stay : new.seats ≡ old.seats
   pub over_stays : new.over ≡ old.over

@@ -1,7 +1,7 @@
-ghost use Rattle.std.specs.Prelude.{◌≡◌, ◌≢◌, ◌+◌, ◌<◌, false, length, IfOk, OnOk, OnErr};
+ghost use Rattle.std.specs.Prelude.{◌≡◌, ◌≢◌, ◌+◌, ◌^◌, ◌<◌, false, length, IfOk, OnOk, OnErr};
 ghost use Rattle.heap_model.specs.declared.command.Command.TheVariants.{Collect};
 ghost use Rattle.locked_heap.specs.Given.{IsGiven, script_of};
-ghost use Rattle.locked_heap.specs.Locked.{IsRunFrom, AllHaveCome, IsParted, IsNext, SeatHasLeft, ComesOneFurther, OwesMore};
+ghost use Rattle.locked_heap.specs.Locked.{IsRunFrom, AllHaveCome, IsParted, IsNext, SeatHasLeft, ComesOneFurther, OwesMore, OwesNoMore};
 ghost use Rattle.locked_heap.specs.Progress.{progress_at};
 
 use crate::handed::Handed;
@@ -72,8 +72,9 @@ impl<N: Handed> Locked<N> {
         ensures run { IsRunFrom N.given self.now.recorded }
         ensures come { AllHaveCome N.given self.now.recorded.history self.now.recorded.machine.state self.now.seats }
         ensures parted { IsParted N.given self.now.recorded.history self.now.seats }
+        ensures owed { self.now.owed < 2 ^ 64 }
     {
-        let _ = &self.recorder;
+        let _owed = self.owed;
     }
 
     /// How far the seat has come.
@@ -91,7 +92,7 @@ impl<N: Handed> Locked<N> {
         ensures further { ComesOneFurther self.old self.new seat }
         ensures onward { OnOk result ((progress_at self.new.seats seat).place ≡ (progress_at self.old.seats seat).place + 1) }
         ensures owes { OnOk result (OwesMore self.old self.new) }
-        ensures still { OnErr result (self.new.owed ≡ self.old.owed) }
+        ensures still { OnErr result (OwesNoMore self.old self.new) }
     {
         law_every_run();
         let called = self.recorder.call(seat, command)?;
@@ -111,7 +112,7 @@ impl<N: Handed> Locked<N> {
         requires through { (progress_at self.old.seats seat).place ≡ length (script_of N.given seat) }
         ensures further { ComesOneFurther self.old self.new seat }
         ensures left { OnOk result (SeatHasLeft self.new.seats seat) }
-        ensures owed { self.new.owed ≡ self.old.owed }
+        ensures owed { OwesNoMore self.old self.new }
     {
         law_every_run();
         self.recorder.call(seat, &Command::Leave)?;

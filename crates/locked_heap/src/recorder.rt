@@ -1,8 +1,7 @@
-ghost use Rattle.std.specs.Prelude.{◌≡◌, ◌≤◌, ◌<◌, ◌↔◌, IsTrue, [], None, length, drop, IfOk, OnOk, OnErr};
-ghost use Rattle.heap_model.specs.account.PhaseCounts.{phase};
+ghost use Rattle.std.specs.Prelude.{◌≡◌, ◌<◌, ◌↔◌, IsTrue, [], None, length, drop, IfOk, OnOk, OnErr};
 ghost use Rattle.core_machine.specs.machine.Machine.{Begins, BeginsInner, Can, seat_at};
 ghost use Rattle.core_machine.specs.machine.Opening.{IsOpening};
-ghost use Rattle.locked_heap.specs.Recorded.{collector_of, claimed_by, StandsStill, MakesCall, MakesInner, MakesTurn};
+ghost use Rattle.locked_heap.specs.Recorded.{claimed_by, StandsStill, MakesCall, MakesInner};
 
 use crate::note::{claimed, note_since};
 use core_machine::{Looks, Machine};
@@ -10,6 +9,8 @@ use core_rule::law_every_run;
 use heap_model::{Command, Entry, Heap, Inner, Memory, Reply, Turn, seat_laws};
 use std::alloc::Global;
 use std::marker::Model;
+
+mod turning;
 
 /// What a call came to: its reply, and how many fragments it has claimed.
 #[derive(Clone, Copy)]
@@ -123,64 +124,6 @@ impl Recorder {
             before,
         );
         Ok(())
-    }
-
-    /// Makes a turn of the collector, for which there is room. A cycle has thousands of these, and all that one does is a step and some counts.
-    #[inline(always)]
-    pub fn turn(&mut self) -> Turn
-        requires room { 2 ≤ self.old.spare }
-        ensures makes { MakesTurn self.old self.new result }
-    {
-        law_every_run();
-        let collector = self.machine.heap().seats;
-        let before = self.machine.log(collector).len();
-        let turn = self.machine.play_turn();
-        note_since(
-            &mut self.history,
-            &mut self.spare,
-            &self.machine,
-            collector,
-            before,
-        );
-        self.turns = self.turns.saturating_add(1);
-        self.last_turn = Some(turn);
-        turn
-    }
-
-    /// Makes room for at least `n` more entries of the collector.
-    pub fn room(&mut self, n: usize) -> Result<(), Memory>
-        ensures still { StandsStill self.old self.new }
-        ensures more { self.old.spare ≤ self.new.spare }
-        ensures room { OnOk result (n ≤ self.new.spare) }
-        ensures memory { OnErr result (self.new.spare ≡ self.old.spare) }
-    {
-        let collector = self.machine.heap().seats;
-        self.machine.room(collector, n)?;
-        self.history.reserve(n)?;
-        self.spare = self.spare.max(n);
-        Ok(())
-    }
-
-    /// For how many more entries of the collector there is room.
-    pub fn spare(&self) -> usize
-        ensures { result ≡ self.now.spare }
-    {
-        self.spare
-    }
-
-    pub fn phase(&self) -> u64
-        ensures phase { result ≡ phase self.now.history }
-        ensures logged { result ≤ length (collector_of self.now).log }
-    {
-        law_every_run();
-        self.machine.phase()
-    }
-
-    /// The number of turns that were made, or the last number of its type.
-    pub fn turns(&self) -> u64
-        ensures { result ≡ self.now.turns }
-    {
-        self.turns
     }
 
     /// What the seat has found out by the inner calls of its collects.

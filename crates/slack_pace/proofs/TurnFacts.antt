@@ -5,7 +5,7 @@ use Rattle.heap_model.specs.declared.entry.Entry.TheVariants.{Ends}
 use Rattle.heap_model.specs.declared.calls.collector_calls.Turn.{Turn}
 use Rattle.heap_model.specs.declared.calls.collector_calls.Turn.TheVariants as turns
 use Rattle.heap_model.specs.calls.CollectorCalls.{CollectorState, ComesTo, Turns}
-use Rattle.slack_pace.specs.Slack.{MakesOnward, MakesTurns, CountsTurns, last_made}
+use Rattle.slack_pace.specs.Slack.{MakesOnward, MakesEach, CountsTurns, last_made}
 
 one_more : (log new : List Entry) (entry : Entry) → new ≡ log ++ entry ∷ [] → length new ≤ length log + 1
 one_more log new entry is = rw is (omega (arith, length-append log (entry ∷ [])))
@@ -35,6 +35,6 @@ leaves_more n old now new last turn leaves turned = record {
 }
 
 -- turns of which none waited are turns of which none but the last did
-pub onward_makes : (n : ℕ) (old new : CollectorState) → MakesOnward n old new → MakesTurns n old new
-onward_makes zero old new same = same
-onward_makes (suc n) old new makes = (makes.0, makes.1, makes.2, makes.3)
+pub onward_makes : {Whole : Type 0} (Does : Whole → Whole → Turn → Type 0) (n : ℕ) (old new : Whole) → MakesOnward Does n old new → MakesEach Does n old new
+onward_makes Does zero old new same = same
+onward_makes Does (suc n) old new makes = (makes.0, makes.1, makes.2, makes.3)

@@ -21,15 +21,19 @@ abbrev pub GoesOnward : Turn → Type 0
 GoesOnward (Waits seat answered phase) = ⊥
 GoesOnward _ = Unit {0}
 
--- so many turns were made, one after another, and none of them waited
-abbrev pub MakesOnward : ℕ → CollectorState → CollectorState → Type 0
-MakesOnward zero old new = new ≡ old
-MakesOnward (suc n) old new = (now : CollectorState) × (turn : Turn) × MakesOnward n old now × Turns now new turn × GoesOnward turn
+-- so many turns were made, one after another, each of which did this, and none of them waited
+abbrev pub MakesOnward : {Whole : Type 0} → (Whole → Whole → Turn → Type 0) → ℕ → Whole → Whole → Type 0
+MakesOnward Does zero old new = new ≡ old
+MakesOnward {Whole} Does (suc n) old new = (now : Whole) × (turn : Turn) × MakesOnward Does n old now × Does now new turn × GoesOnward turn
 
--- so many turns were made, one after another, and none but the last of them waited
+-- so many turns were made, one after another, each of which did this, and none but the last of them waited
+abbrev pub MakesEach : {Whole : Type 0} → (Whole → Whole → Turn → Type 0) → ℕ → Whole → Whole → Type 0
+MakesEach Does zero old new = new ≡ old
+MakesEach {Whole} Does (suc n) old new = (now : Whole) × (turn : Turn) × MakesOnward Does n old now × Does now new turn
+
+-- so many turns of a collector were made, and none but the last of them waited
 abbrev pub MakesTurns : ℕ → CollectorState → CollectorState → Type 0
-MakesTurns zero old new = new ≡ old
-MakesTurns (suc n) old new = (now : CollectorState) × (turn : Turn) × MakesOnward n old now × Turns now new turn
+MakesTurns n old new = MakesEach Turns n old new
 
 -- the number of turns rose by so many, or it stands at its last value
 abbrev pub CountsTurns : ℕ → CollectorState → CollectorState → Type 0

@@ -1,5 +1,5 @@
 ghost use Rattle.std.specs.Prelude.{◌≡◌, ◌+◌, ◌<◌, ◌≤◌, length};
-ghost use Rattle.slack_pace.specs.Slack.{slack_room, MakesTurns, CountsTurns, last_made, HasWaited};
+ghost use Rattle.slack_pace.specs.Slack.{slack_room, MakesEach, MakesTurns, CountsTurns, last_made, HasWaited};
 
 use crate::pace::Pace;
 use heap_model::{CollectorCalls, Turn};
@@ -18,16 +18,15 @@ pub fn slack<C: CollectorCalls>(
     collector: &mut C,
     claimed: u64,
 ) -> SlackDone
-    requires room { slack_room ≤ (C.state collector.old).spare }
-    requires may { C.may (C.beside collector.old) }
+    requires { slack_room ≤ (C.state collector.old).spare }
     ensures asked { result.asked ≡ asks pace.old claimed }
     ensures came { came pace.old claimed (kept pace.new) }
     ensures most { result.made ≤ result.asked }
     ensures fewer { result.made < result.asked → HasWaited result.last }
+    ensures each { MakesEach C.turned result.made collector.old collector.new }
     ensures made { MakesTurns result.made (C.state collector.old) (C.state collector.new) }
     ensures counted { CountsTurns result.made (C.state collector.old) (C.state collector.new) }
     ensures last { result.last ≡ last_made result.made (C.state collector.new) }
-    ensures beside { C.beside collector.new ≡ C.beside collector.old }
     ensures entries { length (C.state collector.new).log ≤ length (C.state collector.old).log + result.made }
     ensures spare { (C.state collector.old).spare + length (C.state collector.old).log ≤ (C.state collector.new).spare + length (C.state collector.new).log }
 {

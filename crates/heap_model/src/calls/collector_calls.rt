@@ -1,5 +1,6 @@
 ghost use Rattle.std.specs.Prelude.{◌≡◌, ◌≤◌, length, OnOk, OnErr};
 ghost use Rattle.heap_model.specs.calls.CollectorCalls.{CollectorState, Turns};
+ghost use Rattle.heap_model.specs.declared.calls.collector_calls.Turn.{Turn};
 
 use crate::fault::Memory;
 
@@ -13,28 +14,20 @@ pub enum Turn {
 
 /// The collector of a heap. No call but `room` takes memory.
 pub trait CollectorCalls {
-    /// What its turns leave as it is.
-    ghost Beside: { Type 0 };
-
     /// The collector's entries and the room for more, its phase and its turns.
     ghost state: { Self → CollectorState };
 
-    /// What it keeps beside them.
-    ghost beside: { Self → Beside };
-
-    /// When its turns may be made, by what they leave as it is.
-    ghost may: { Beside → Type 0 };
+    /// What more one of its turns does.
+    ghost turned: { Self → Self → Turn → Type 0 };
 
     /// Makes one step, which is one operation on one word of the heap.
     fn turn(&mut self) -> Turn
-        requires room { 2 ≤ (state self.old).spare }
-        requires may { may (beside self.old) }
+        requires { 2 ≤ (state self.old).spare }
         ensures turns { Turns (state self.old) (state self.new) result }
-        ensures beside { beside self.new ≡ beside self.old };
+        ensures turned { turned self.old self.new result };
 
     /// Makes room for at least `n` more entries.
     fn room(&mut self, n: usize) -> Result<(), Memory>
-        ensures beside { beside self.new ≡ beside self.old }
         ensures same { state self.new ≡ record (state self.old) { spare = (state self.new).spare } }
         ensures more { (state self.old).spare ≤ (state self.new).spare }
         ensures room { OnOk result (n ≤ (state self.new).spare) }

@@ -3,7 +3,7 @@ ghost use Rattle.heap_model.specs.declared.calls.collect.CollectReply.TheVariant
 ghost use Rattle.heap_model.specs.declared.command.Command.TheVariants.{Collect};
 ghost use Rattle.core_machine.specs.machine.Machine.{BeginsInner, Can, seat_at};
 ghost use Rattle.core_machine.specs.seat.Looks.{MayNote};
-ghost use Rattle.locked_heap.specs.Locked.{IsNext, IsCollecting, ComesOneFurther, IsQuiet, IsPatient, MayAnswer, HasSeenEnd, TellsAnswer, AnswersWait, found_by_turn, CollectsOn};
+ghost use Rattle.locked_heap.specs.Locked.{IsNext, IsCollecting, ComesOneFurther, OwesNoMore, IsQuiet, IsPatient, MayAnswer, HasSeenEnd, TellsAnswer, AnswersWait, found_by_turn, CollectsOn};
 ghost use Rattle.locked_heap.specs.Progress.{progress_at};
 ghost use Rattle.locked_heap.specs.Recorded.{MakesInner};
 
@@ -58,7 +58,7 @@ impl<N: Handed> Locked<N> {
         requires quiet { IsQuiet inner }
         ensures makes { OnOk result (Can self.old.recorded.machine.heap self.old.recorded.machine.state (BeginsInner seat inner) → MakesInner self.old.recorded self.new.recorded seat inner) }
         ensures seats { self.new.seats ≡ self.old.seats }
-        ensures owed { self.new.owed ≡ self.old.owed }
+        ensures owed { OwesNoMore self.old self.new }
         ensures over { self.new.over ≡ self.old.over }
     {
         if self.recorder.may_make(seat, &inner) {
@@ -74,7 +74,7 @@ impl<N: Handed> Locked<N> {
         requires may { MayAnswer N.given self.old seat came }
         ensures answers { OnOk result (TellsAnswer self.old self.new seat came) }
         ensures further { ComesOneFurther self.old self.new seat }
-        ensures owed { self.new.owed ≡ self.old.owed }
+        ensures owed { OwesNoMore self.old self.new }
     {
         law_every_run();
         let finds = self.finds(seat);
@@ -95,7 +95,7 @@ impl<N: Handed> Locked<N> {
         requires fresh { (progress_at self.old.seats seat).target ≡ None }
         ensures begun { OnOk result (IsCollecting N.given self.new.seats seat) }
         ensures further { ComesOneFurther self.old self.new seat }
-        ensures owed { self.new.owed ≡ self.old.owed }
+        ensures owed { OwesNoMore self.old self.new }
     {
         law_every_run();
         let paid = self.finds(seat);
@@ -136,7 +136,7 @@ impl<N: Handed> Locked<N> {
         requires { IsNext N.given self.old.seats seat Collect }
         ensures answers { OnOk result (AnswersWait N.given self.old self.new seat) }
         ensures further { ComesOneFurther self.old self.new seat }
-        ensures owed { self.new.owed ≡ self.old.owed }
+        ensures owed { OwesNoMore self.old self.new }
     {
         law_every_run();
         let Some(found) = self.recorder.looks(seat).behind else {
@@ -162,7 +162,7 @@ impl<N: Handed> Locked<N> {
         ensures ended { OnOk result (HasSeenEnd self.old seat target → TellsAnswer self.old self.new seat (Cycle target)) }
         ensures waits { OnOk result (¬ HasSeenEnd self.old seat target → AnswersWait N.given self.old self.new seat) }
         ensures further { ComesOneFurther self.old self.new seat }
-        ensures owed { self.new.owed ≡ self.old.owed }
+        ensures owed { OwesNoMore self.old self.new }
     {
         self.known();
         if self.saw_end(seat, target) {
@@ -177,13 +177,13 @@ impl<N: Handed> Locked<N> {
         ensures begins { (progress_at self.old.seats seat).target ≡ None → OnOk result (IsCollecting N.given self.new.seats seat) }
         ensures goes_on { (target : ℕ) → (progress_at self.old.seats seat).target ≡ Some target → OnOk result (CollectsOn N.given self.old self.new seat target) }
         ensures further { ComesOneFurther self.old self.new seat }
-        ensures owed { self.new.owed ≡ self.old.owed }
+        ensures owed { OwesNoMore self.old self.new }
     {
         let Some(target) = self.progress(seat).target else {
             return self.begin_collect(seat);
         };
-        self.room(2)?;
-        let turn = self.turn();
+        self.recorder.room(2)?;
+        let turn = self.recorder.turn();
         self.inner(seat, found_by_turn(seat, turn))?;
         self.answer(seat, target)
     }

@@ -2,7 +2,7 @@ ghost use Rattle.std.specs.Prelude.{◌≡◌, ◌<◌, map, length, IfOk, OnOk}
 ghost use Rattle.std.specs.List.{range_with_len};
 ghost use Rattle.core_machine.specs.machine.Machine.{seat_at};
 ghost use Rattle.locked_heap.specs.Given.{script_of};
-ghost use Rattle.locked_heap.specs.Locked.{SeatHasLeft, ComesOneFurther, KeepsGone, AllGone, EndsWhole};
+ghost use Rattle.locked_heap.specs.Locked.{SeatHasLeft, ComesOneFurther, OwesMore, KeepsGone, AllGone, EndsWhole};
 ghost use Rattle.locked_heap.specs.Progress.{progress_at};
 ghost use Rattle.locked_heap.specs.Ran.{IsRun};
 
@@ -13,7 +13,7 @@ use crate::progress::Progress;
 use crate::ran::LockedRan;
 use crate::recorder::Recorder;
 use core_rule::{law_every_run, law_sweep_exact};
-use heap_model::{Command, Memory, Turn};
+use heap_model::{CollectorCalls, Command, Memory, Turn};
 use std::alloc::Global;
 use std::sync::Wait;
 
@@ -42,12 +42,13 @@ impl<N: Handed> Locked<N> {
         ensures progress { IfOk result (λ progress. progress ≡ progress_at self.new.seats seat) }
         ensures further { ComesOneFurther self.old self.new seat }
         ensures leaves { OnOk result ((progress_at self.old.seats seat).place ≡ length (script_of N.given seat) → SeatHasLeft self.new.seats seat) }
+        ensures owes { OwesMore self.old self.new }
     {
+        self.known();
         let progress = self.progress(seat);
         if progress.gone {
             return Ok(progress);
         }
-        self.known();
         match script.get(progress.place) {
             None => self.leave(seat)?,
             Some(Command::Collect) => self.collect(seat)?,

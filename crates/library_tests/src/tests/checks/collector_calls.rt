@@ -1,7 +1,7 @@
 //! The calls of a collector by their trait, on a small collector that goes through a cycle.
 
-ghost use Rattle.std.specs.Prelude.{◌≡◌, ◌-◌, ◌≤◌, [], IfSome};
-ghost use Rattle.heap_model.specs.declared.calls.collector_calls.Turn.TheVariants.{Waits};
+ghost use Rattle.std.specs.Prelude.{◌≡◌, ◌-◌, ◌%◌, ◌≤◌, [], IfSome};
+ghost use Rattle.heap_model.specs.declared.calls.collector_calls.Turn.TheVariants.{Stepped, Waits};
 ghost use Rattle.heap_model.specs.calls.CollectorCalls.{StepsTo};
 
 use super::entry_of;
@@ -77,13 +77,10 @@ fn wait_in(phase: u64) -> Turn
 }
 
 impl CollectorCalls for Steady {
-    ghost Beside = { Unit {0} };
-
     ghost state = { λ collector. collector };
 
-    ghost beside = { λ _. tt };
-
-    ghost may = { λ _. Unit {0} };
+    // Each second turn is a step.
+    ghost turned = { λ old _ turn. old.turns % 2 ≡ 0 → turn ≡ Stepped };
 
     fn turn(&mut self) -> Turn {
         let phase = self.phase;
@@ -181,8 +178,7 @@ fn turns_through_a_cycle(rt: HostRuntime) -> Result<(), Fail> {
 }
 
 fn next_turn<C: CollectorCalls>(collector: &mut C) -> Turn
-    requires room { 2 ≤ (C.state collector.old).spare }
-    requires may { C.may (C.beside collector.old) }
+    requires { 2 ≤ (C.state collector.old).spare }
     ensures { (C.state collector.new).last_turn ≡ Some result }
 {
     collector.turn()

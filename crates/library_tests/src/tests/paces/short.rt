@@ -1,6 +1,6 @@
 //! A collector that soon waits.
 
-ghost use Rattle.std.specs.Prelude.{◌≡◌, ◌+◌, ◌<◌, ◌≤◌, [], ◌∷◌, ◌++◌, vec_len, vec_capacity};
+ghost use Rattle.std.specs.Prelude.{◌≡◌, ◌+◌, ◌<◌, ◌≤◌, [], ◌∷◌, ◌++◌, length, vec_len, vec_capacity};
 
 use heap_model::{CollectorCalls, Entry, Memory, Turn};
 use std::alloc::Global;
@@ -52,13 +52,10 @@ fn note(log: &mut Vec<Entry>, entry: Entry)
 }
 
 impl CollectorCalls for Short {
-    ghost Beside = { Unit {0} };
-
     ghost state = { λ collector. collector };
 
-    ghost beside = { λ _. tt };
-
-    ghost may = { λ _. Unit {0} };
+    // Once a turn was made the first phase has begun.
+    ghost turned = { λ _ new _. length new.log ≡ 1 };
 
     fn turn(&mut self) -> Turn {
         let turn = if self.log.is_empty() {

@@ -1,4 +1,4 @@
-use Rattle.std.proofs.Common.{◌≡◌, true, length, All, IfOk, ◌∷◌, ◌++◌, [], List, arith, ap, subst, sym}
+use Rattle.std.proofs.Common.{◌≡◌, true, length, All, IfOk, ◌∷◌, ◌++◌, [], arith, ap, subst, sym}
 use Rattle.std.specs.declared.result.Result.{Result}
 use Rattle.std.proofs.lemmas.List.{length-append}
 use Rattle.std.proofs.lemmas.List.Elements.{All-append, All-cons, All-head, All-nil, All-tail}

@@ -1,7 +1,6 @@
 use Rattle.std.proofs.Common.{refl, sym, ap, subst, ◌∙◌, arith}
 use Rattle.heap_model.specs.declared.command.Command.TheVariants.{Collect}
 use Rattle.heap_model.specs.declared.calls.collect.Inner.TheVariants.{Look}
-use Rattle.heap_model.specs.account.PhaseCounts.{phase}
 use Rattle.core_machine.specs.machine.Machine.{seat_at}
 use Rattle.locked_heap.specs.declared.progress.Progress.{Progress}
 use Rattle.locked_heap.specs.Locked.{LockedValue, IsNext}
@@ -10,7 +9,8 @@ use Rattle.locked_heap.proofs.Calling.{can_look}
 use Rattle.locked_heap.proofs.Coming.{read_is, none_looked}
 use Rattle.locked_heap.proofs.InnerCalls.{begun_on}
 use Rattle.locked_heap.proofs.GivenRuns.{run_inner, run_stands}
-use Rattle.locked_heap.proofs.Parting.{not_parted_set, stands_still, none_further}
+use Rattle.locked_heap.proofs.Parting.{not_parted_set, stands_still}
+use Rattle.locked_heap.proofs.Owing.{owes_still, owes_inner}
 use Rattle.locked_heap.proofs.locked.Locked.begin_collect.Goals as goal
 
 pub inner-requires : goal.inner-requires
@@ -43,3 +43,9 @@ invariant_of-self-2 g c =
       parted = not_parted_set given c.inner.new.self.history seats number _ c.self.invariant.come.seated next.within (ap (λ (p : Progress). p.gone) (sym read) ∙ next.there);
       patient = c.self.invariant.patient;
     }
+
+pub returns-in_err-inner-clause-owed : goal.returns-in_err-inner-clause-owed
+returns-in_err-inner-clause-owed g c = owes_still _ _ _ c.self.view_is c.in_err-inner.ensures.still.history_stays refl
+
+pub returns-clause-owed : goal.returns-clause-owed
+returns-clause-owed g c = owes_inner _ _ _ c.args.seat _ c.self.view_is c.in_ok-inner.ensures.makes refl

@@ -1,4 +1,4 @@
-use Rattle.std.proofs.Common.{◌+◌, sym, ap, subst, ◌∙◌, arith}
+use Rattle.std.proofs.Common.{◌+◌, sym, ap, subst, ◌∙◌, arith, refl}
 use Rattle.locked_heap.specs.declared.progress.Progress.{Progress}
 use Rattle.std.proofs.lemmas.Option.{slice_get_within}
 use Rattle.locked_heap.specs.Given.{script_of}
@@ -7,7 +7,8 @@ use Rattle.locked_heap.specs.Progress.{progress_at}
 use Rattle.locked_heap.proofs.Calling.{script_right, can_call, called_on}
 use Rattle.locked_heap.proofs.Coming.{read_is}
 use Rattle.locked_heap.proofs.GivenRuns.{run_call}
-use Rattle.locked_heap.proofs.Parting.{not_parted_set, stands_still, none_further}
+use Rattle.locked_heap.proofs.Parting.{not_parted_set, stands_still}
+use Rattle.locked_heap.proofs.Owing.{owes_still, on_err}
 use Rattle.locked_heap.proofs.locked.Locked.call.Goals as goal
 
 pub call-requires : goal.call-requires
@@ -44,3 +45,7 @@ overflow_add-progress g c =
     let within = slice_get_within (script_of given c.args.seat) (progress_at inside.seats.items c.args.seat).place c.args.command.now next.next in
     let script = script_right c.law_every_run.ensures.run given inside.recorder inside.seats.items c.args.seat c.self.invariant.run c.self.invariant.come next.within in
     omega (arith, ap (λ (p : Progress). p.place) read, within, script.few)
+
+pub returns-in_err-called-clause-still : goal.returns-in_err-called-clause-still
+returns-in_err-called-clause-still g c =
+    on_err c.from_residual.result _ (owes_still _ _ _ c.self.view_is c.in_err-called.ensures.still.history_stays refl)

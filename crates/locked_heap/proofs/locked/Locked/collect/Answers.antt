@@ -1,11 +1,14 @@
-use Rattle.std.proofs.Common.{◌≡◌, ℕ, Some, Option, sym, ap, subst, ◌∙◌}
+use Rattle.std.proofs.Common.{◌≡◌, ℕ, Some, refl, sym, ap, subst, ◌∙◌}
 use Rattle.std.specs.Prelude.{Result, Ok, Err, OnOk}
 use Rattle.heap_model.specs.declared.calls.collect.Inner.{Inner}
+use Rattle.heap_model.specs.declared.command.Command.TheVariants.{Collect}
 use Rattle.core_machine.specs.machine.Machine.{BeginsInner, Can}
 use Rattle.locked_heap.specs.declared.progress.Progress.{Progress}
-use Rattle.locked_heap.specs.Locked.{CollectsOn}
-use Rattle.locked_heap.specs.Progress.{progress_at}
-use Rattle.locked_heap.specs.Recorded.{MakesInner}
+use Rattle.locked_heap.specs.Locked.{LockedValue, IsNext, CollectsOn}
+use Rattle.locked_heap.specs.Recorded.{StandsStill, MakesInner}
+use Rattle.locked_heap.proofs.Owing.{owes_turn, owes_then}
+use Rattle.locked_heap.proofs.Parting.{some_there}
+use Rattle.locked_heap.proofs.TurnsStand.{turn_on, turns_stand}
 use Rattle.locked_heap.proofs.locked.Locked.collect.Goals as goal
 
 -- of two facts that an answer tells follows a third
@@ -21,16 +24,38 @@ returns-clause-goes_on g c target is =
     let given = g.N.Handed.given in
     let locked = c.args.self.now in
     let number = c.args.seat in
+    let turned : LockedValue = record { recorded = c.turn-turn.new.self; seats = c.self.inside.seats.items; owed = c.self.inside.owed; over = c.self.inside.over } in
     let same : c.in-Some.target ≡ target = same_some c.in-Some.target target (sym c.in-Some.is ∙ ap (λ (p : Progress). p.target) c.progress.ensures ∙ is) in
     subst (λ (t : ℕ). OnOk c.answer.result (CollectsOn given locked c.answer.new.self number t)) same
     (both_ok c.answer.result _ _ (CollectsOn given locked c.answer.new.self number c.in-Some.target) (λ ended waits. record {
-      ready = c.room.new.self.recorded;
-      still = c.room.ensures.still;
-      turned = c.turn-turn.new.self;
+      ready = c.room.new.self;
+      still = subst (λ (v : LockedValue). StandsStill v.recorded c.room.new.self) c.self.view_is c.room.ensures.still;
+      turned = turned;
       turn = c.turn-turn.result;
-      turns = c.turn-turn.ensures.makes;
+      turns = c.turn-turn.ensures.turned;
       found = c.inner.new.self;
-      finds = subst (λ (i : Inner). Can c.turn-turn.new.self.recorded.machine.heap c.turn-turn.new.self.recorded.machine.state (BeginsInner number i) → MakesInner c.turn-turn.new.self.recorded c.inner.new.self.recorded number i) c.found_by_turn.ensures c.in_ok-inner.ensures.makes;
+      finds = subst (λ (i : Inner). Can turned.recorded.machine.heap turned.recorded.machine.state (BeginsInner number i) → MakesInner turned.recorded c.inner.new.self.recorded number i) c.found_by_turn.ensures c.in_ok-inner.ensures.makes;
       ended = ended;
       waits = waits;
     }) c.answer.ensures.ended c.answer.ensures.waits)
+
+pub invariant_of-self-2 : goal.invariant_of-self-2
+invariant_of-self-2 g c =
+    let given = g.N.Handed.given in
+    let inside = c.self.inside in
+    let next : IsNext given inside.seats.items c.args.seat Collect = subst (λ (v : LockedValue). IsNext given v.seats c.args.seat Collect) (sym c.self.view_is) c.requires in
+    turns_stand given _ c.turn-turn.new.self inside.owed inside.patience c.self.invariant (turn_on inside.recorder c.room.new.self c.turn-turn.new.self c.turn-turn.result c.room.ensures.still c.turn-turn.ensures.turned)
+    (some_there given inside.seats.items c.args.seat next.within next.there)
+
+pub returns-in_err-inner-clause-owed : goal.returns-in_err-inner-clause-owed
+returns-in_err-inner-clause-owed g c =
+    let inside = c.self.inside in
+    let turned : LockedValue = record { recorded = c.turn-turn.new.self; seats = inside.seats.items; owed = inside.owed; over = inside.over } in
+    owes_then c.args.self.now turned c.inner.new.self (owes_turn _ c.args.self.now turned c.room.new.self c.turn-turn.result c.self.view_is c.room.ensures.still c.turn-turn.ensures.turned refl) c.inner.ensures.owed
+
+pub returns-clause-owed : goal.returns-clause-owed
+returns-clause-owed g c =
+    let inside = c.self.inside in
+    let turned : LockedValue = record { recorded = c.turn-turn.new.self; seats = inside.seats.items; owed = inside.owed; over = inside.over } in
+    owes_then c.args.self.now turned c.answer.new.self (owes_turn _ c.args.self.now turned c.room.new.self c.turn-turn.result c.self.view_is c.room.ensures.still c.turn-turn.ensures.turned refl)
+    (owes_then turned c.inner.new.self c.answer.new.self c.inner.ensures.owed c.answer.ensures.owed)

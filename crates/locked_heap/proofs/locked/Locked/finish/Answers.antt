@@ -1,4 +1,4 @@
-use Rattle.std.proofs.Common.{refl, ap, subst, ◌∙◌}
+use Rattle.std.proofs.Common.{refl, ap, subst}
 use Rattle.locked_heap.specs.Locked.{LockedValue, EndsWhole}
 use Rattle.locked_heap.specs.Recorded.{Recorded}
 use Rattle.locked_heap.proofs.Whole.{whole_run}

@@ -1,8 +1,9 @@
-use Rattle.std.proofs.Common.{sym, subst}
+use Rattle.std.proofs.Common.{sym, subst, refl}
 use Rattle.locked_heap.specs.Locked.{LockedValue, IsCollecting}
 use Rattle.locked_heap.proofs.InnerCalls.{quiet_on}
 use Rattle.locked_heap.proofs.GivenRuns.{run_inner}
 use Rattle.locked_heap.proofs.Parting.{not_parted_there}
+use Rattle.locked_heap.proofs.Owing.{owes_still, owes_inner}
 use Rattle.locked_heap.proofs.locked.Locked.inner.Goals as goal
 
 pub invariant_of-self : goal.invariant_of-self
@@ -18,3 +19,9 @@ invariant_of-self g c =
       parted = not_parted_there given c.inner.new.self.history seats c.args.seat collects.next.within collects.next.there;
       patient = c.self.invariant.patient;
     }
+
+pub returns-in_err-inner-clause-owed : goal.returns-in_err-inner-clause-owed
+returns-in_err-inner-clause-owed g c = owes_still _ _ _ c.self.view_is c.in_err-inner.ensures.still.history_stays refl
+
+pub returns-in_ok-inner-clause-owed : goal.returns-in_ok-inner-clause-owed
+returns-in_ok-inner-clause-owed g c = owes_inner _ _ _ c.args.seat c.args.inner c.self.view_is c.in_ok-inner.ensures.makes refl

@@ -1,4 +1,4 @@
-use Rattle.std.proofs.Common.{◌≡◌, true, false, length, sym, ap, subst, arith}
+use Rattle.std.proofs.Common.{◌≡◌, true, false, length, sym, ap, subst, arith, refl}
 use Rattle.locked_heap.specs.declared.progress.Progress.{Progress}
 use Rattle.locked_heap.specs.Given.{script_of}
 use Rattle.locked_heap.specs.Locked.{LockedValue}
@@ -6,7 +6,8 @@ use Rattle.locked_heap.specs.Progress.{progress_at}
 use Rattle.locked_heap.proofs.Calling.{left_on}
 use Rattle.locked_heap.proofs.Coming.{read_is}
 use Rattle.locked_heap.proofs.GivenRuns.{run_call}
-use Rattle.locked_heap.proofs.Parting.{parted_by, stands_still, none_further}
+use Rattle.locked_heap.proofs.Parting.{parted_by, stands_still}
+use Rattle.locked_heap.proofs.Owing.{owes_still, owes_leave}
 use Rattle.locked_heap.proofs.locked.Locked.leave.Goals as goal
 
 pub invariant_of-self : goal.invariant_of-self
@@ -27,3 +28,9 @@ invariant_of-self-2 g c =
       parted = parted_by g.N.Handed.given inside.recorder c.call.new.self _ c.args.seat _ makes;
       patient = c.self.invariant.patient;
     }
+
+pub returns-in_err-call-clause-owed : goal.returns-in_err-call-clause-owed
+returns-in_err-call-clause-owed g c = owes_still _ _ _ c.self.view_is c.in_err-call.ensures.still.history_stays refl
+
+pub returns-clause-owed : goal.returns-clause-owed
+returns-clause-owed g c = owes_leave _ _ _ c.args.seat _ c.self.view_is c.in_ok-call.ensures.makes refl

@@ -9,6 +9,7 @@ use Rattle.locked_heap.proofs.Coming.{read_is}
 use Rattle.locked_heap.proofs.InnerCalls.{noted_on}
 use Rattle.locked_heap.proofs.GivenRuns.{run_inner}
 use Rattle.locked_heap.proofs.Parting.{not_parted_set, stands_still, none_further}
+use Rattle.locked_heap.proofs.Owing.{owes_still, owes_inner}
 use Rattle.locked_heap.proofs.locked.Locked.note.Goals as goal
 
 pub inner-requires : goal.inner-requires
@@ -39,3 +40,9 @@ invariant_of-self-2 g c =
 
 pub returns-in_err-inner-clause-further : goal.returns-in_err-inner-clause-further
 returns-in_err-inner-clause-further g c = none_further _ _ c.args.seat (ap (λ (v : LockedValue). v.seats) c.self.view_is) (ap (λ (v : LockedValue). v.over) c.self.view_is)
+
+pub returns-in_err-inner-clause-owed : goal.returns-in_err-inner-clause-owed
+returns-in_err-inner-clause-owed g c = owes_still _ _ _ c.self.view_is c.in_err-inner.ensures.still.history_stays refl
+
+pub returns-clause-owed : goal.returns-clause-owed
+returns-clause-owed g c = owes_inner _ _ _ c.args.seat _ c.self.view_is c.in_ok-inner.ensures.makes refl

@@ -8,8 +8,8 @@ use Rattle.locked_heap.specs.Recorded.{Recorded, AnyEvents, MakesTurn}
 use Rattle.locked_heap.proofs.Calls.{since, noted_since}
 use Rattle.locked_heap.proofs.Leading.{led_turn}
 use Rattle.locked_heap.proofs.MachineTurns.{noted_turn, makes_turn}
-use Rattle.locked_heap.proofs.recorder.Recorder.turn.Goals as goal
-use Rattle.locked_heap.proofs.recorder.Recorder.turn.Goals.{After-play_turn-turn, After-saturating_add-self-inside}
+use Rattle.locked_heap.proofs.recorder.turning.RecorderCollectorCalls.turn.Goals as goal
+use Rattle.locked_heap.proofs.recorder.turning.RecorderCollectorCalls.turn.Goals.{After-play_turn-turn, After-saturating_add-self-inside}
 
 -- the machine's turn
 facts : (c : After-play_turn-turn) → TurnFacts c.self.inside.machine c.play_turn-turn.new.self c.heap-collector.result.seats
@@ -43,7 +43,7 @@ note_since-requires-clause-longer c = rw c.log-before.ensures (facts (goal.at.no
 pub note_since-requires-clause-room : goal.note_since-requires-clause-room
 note_since-requires-clause-room c =
     let made = facts (goal.at.note_since-requires-clause-room c).After-play_turn-turn in
-    rw (c.log-before.ensures, made.told) (omega (arith, made.few, c.self.invariant.1.listed_room, ap (λ (v : Recorded). v.spare) c.self.view_is, c.requires.room))
+    rw (c.log-before.ensures, made.told) (omega (arith, made.few, c.self.invariant.1.listed_room, ap (λ (v : Recorded). v.spare) c.self.view_is, c.requires))
 
 pub invariant_of-self : goal.invariant_of-self
 invariant_of-self c =
@@ -63,6 +63,6 @@ invariant_of-self c =
 pub returns : goal.returns
 returns c =
     let here = goal.at.returns c in
-    record {
-      makes = subst (λ (v : Recorded). MakesTurn v (after here.After-saturating_add-self-inside) c.play_turn-turn.result) c.self.view_is (makes here.After-saturating_add-self-inside (facts here.After-play_turn-turn));
-    }
+    let made : MakesTurn c.args.self.now (after here.After-saturating_add-self-inside) c.play_turn-turn.result
+    = subst (λ (v : Recorded). MakesTurn v (after here.After-saturating_add-self-inside) c.play_turn-turn.result) c.self.view_is (makes here.After-saturating_add-self-inside (facts here.After-play_turn-turn)) in
+    record { turns = made.turned; turned = made }
