@@ -15,6 +15,7 @@ use Rattle.core_machine.specs.machine.Calls.{call_events}
 use Rattle.core_machine.specs.machine.Value.{IsMachine}
 use Rattle.core_machine.proofs.table_lemmas.Addresses.{at-lt}
 use Rattle.core_machine.specs.calls.Kept.{tells_nothing}
+use Rattle.core_machine.proofs.call_lemmas.Awaits.{Adds}
 use Rattle.core_machine.proofs.call_lemmas.Stages.{Stage, AloneAfter}
 use Rattle.core_machine.proofs.call_lemmas.PlayingOn.{alone_moved}
 use Rattle.core_machine.proofs.call_lemmas.PlayingBegins.{alone_begun}
@@ -64,13 +65,29 @@ playing_begun heap old number command machine can =
       resting = over_idle heap seat (machine.fit number can.0) can.1.idle;
     }
 
+-- the seat's own list, with what is awaited, goes on as the history does
+pub mine_by : (heap : Heap) (old : Seat) (now : State) (number : ℕ) (told : List Entry) (move : Move) → number < length now.seats → Adds heap now number (seat_at now number) move
+    → (seat_at now number).mine ++ entries_awaited heap now.words number (seat_at now number) ≡ old.mine ++ told
+    → let next = seat_at (state_after_move heap now number move) number in
+    next.mine ++ entries_awaited heap (state_after_move heap now number move).words number next ≡ old.mine ++ (told ++ move.shows now.words (found_by heap now move.step))
+mine_by heap old now number told move within adds mine =
+    let found = found_by heap now move.step in
+    let next = seat_after move found in
+    let words = (state_after_move heap now number move).words in
+    let awaited = entries_awaited heap words number next in
+    let shows = move.shows now.words found in
+    subst (λ (s : Seat). s.mine ++ entries_awaited heap words number s ≡ old.mine ++ (told ++ shows)) (sym (seat_at-set now.seats number next within))
+    (ap (λ (l : List Entry). (l ++ move.adds found) ++ awaited) adds.kept ∙ append_assoc (seat_at now number).mine (move.adds found) awaited
+    ∙ ap (λ (l : List Entry). (seat_at now number).mine ++ l) adds.told ∙ sym (append_assoc (seat_at now number).mine (entries_awaited heap now.words number (seat_at now number)) shows)
+    ∙ ap (λ (l : List Entry). l ++ shows) mine ∙ append_assoc old.mine told shows)
+
 -- what the seat's own list gets by a due move that found this word
-abbrev more_listed : Option Move → ℕ → List Entry
+abbrev pub more_listed : Option Move → ℕ → List Entry
 more_listed None found = []
 more_listed (Some move) found = move.adds found
 
 -- the word that a due move finds; 0 where none is due
-abbrev found_due : Heap → State → Option Move → ℕ
+abbrev pub found_due : Heap → State → Option Move → ℕ
 found_due heap now None = 0
 found_due heap now (Some move) = found_by heap now move.step
 
@@ -85,15 +102,8 @@ more_by heap old now number command told listed None is machine within mine stag
 more_by heap old now number command told listed (Some m) is machine within mine stage alone stands some =
     let found = found_by heap now m.step in
     let here : seat_at (state_after_move heap now number m) number ≡ seat_after m found = seat_at-set now.seats number (seat_after m found) within in
-    let adds = stands.adds now in
-    let shows_ = m.shows now.words found in
-    let next = seat_after m found in
-    let then_ = entries_awaited heap (state_after_move heap now number m).words number next in
-    let mine_ : next.mine ++ then_ ≡ (seat_at old number).mine ++ (told ++ shows_) =
-    ap (λ (l : List Entry). (l ++ m.adds found) ++ then_) adds.kept ∙ append_assoc (seat_at now number).mine (m.adds found) then_
-    ∙ ap (λ (l : List Entry). (seat_at now number).mine ++ l) adds.told ∙ sym (append_assoc (seat_at now number).mine (entries_awaited heap now.words number (seat_at now number)) shows_)
-    ∙ ap (λ (l : List Entry). l ++ shows_) mine ∙ append_assoc (seat_at old number).mine told shows_ in (
-      subst (λ (s : Seat). s.mine ++ entries_awaited heap (state_after_move heap now number m).words number s ≡ (seat_at old number).mine ++ (told ++ shows_)) (sym here) mine_,
+    let shows_ = m.shows now.words found in (
+      mine_by heap (seat_at old number) now number told m within (stands.adds now) mine,
       subst (Stage heap old (state_after_move heap now number m) number command (told ++ shows_) (listed ++ m.adds found)) (sym here) (record {
         own = own_leads tells_nothing heap number command (seat_at old number) (seat_at now number) listed m found machine.limits (omega (arith, within, machine.seated, machine.limits.seats_fit)) (machine.fit number within) is tt stage.own;
         alone = alone;

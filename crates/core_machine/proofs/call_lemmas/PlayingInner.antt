@@ -1,7 +1,7 @@
 -- An inner call of a collect that is made by itself, from its begin to its end.
-use Rattle.std.proofs.Common.{◌≡◌, ℕ, ◌+◌, ◌<◌, ◌≤◌, List, [], ◌∷◌, ◌++◌, length, Option, Some, None, refl, sym, ap, subst, ◌∙◌, arith}
+use Rattle.std.proofs.Common.{◌≡◌, ℕ, ◌+◌, ◌<◌, ◌≤◌, List, [], ◌∷◌, ◌++◌, length, Option, Some, None, refl, sym, ap, subst, ◌∙◌, append-nil, arith}
 use Rattle.std.specs.Prelude.{IsSome, IfSome}
-use Rattle.std.proofs.lemmas.List.{length-set}
+use Rattle.std.proofs.lemmas.List.{length-set, append_cancel_left}
 use Rattle.std.proofs.lemmas.Grind.{replicate_next}
 use Rattle.heap_model.specs.declared.calls.collect.Inner.{Inner}
 use Rattle.heap_model.specs.declared.entry.Entry.{Entry}
@@ -14,9 +14,15 @@ use Rattle.core_machine.specs.Moves.{Move, next_move, due_step, seat_after}
 use Rattle.core_machine.specs.seat.Seat.{Seat, call_over}
 use Rattle.core_machine.proofs.call_lemmas.CallEnd.{StepsOn, steps_on, idle_from}
 use Rattle.core_machine.proofs.call_lemmas.CallRoom.{log_of_seat}
-use Rattle.core_machine.proofs.call_lemmas.InnerCalls.{IsDone, InnerStage, InnerLeads, stage_first, inner_leads}
+use Rattle.core_machine.specs.calls.InnerStage.{IsInnerOver, InnerStageAt, OwnInnerStage}
+use Rattle.core_machine.specs.calls.Kept.{kept_of}
+use Rattle.core_machine.specs.seat.Awaiting.{entries_awaited, entries_awaited_at}
+use Rattle.core_machine.proofs.call_lemmas.Calling.{mine_by, more_listed, found_due}
+use Rattle.core_machine.proofs.call_lemmas.InnerCalls.{IsOfStart, InnerAlone, InnerLeads, inner_alone, first_alone, inner_comes}
+use Rattle.core_machine.proofs.moves.Standing.{MoveStands}
+use Rattle.core_machine.proofs.own_stages.Inner.{inner_leads, inner_begins}
 use Rattle.core_machine.specs.calls.Owes.{owes}
-use Rattle.core_machine.proofs.machine_lemmas.Runs.{runs_on, seat_at-set, machine_after}
+use Rattle.core_machine.proofs.machine_lemmas.Runs.{runs_on, seat_at-set, machine_after, moves_stand}
 use Rattle.core_machine.proofs.moves.Collect.{inner_stands}
 use Rattle.core_machine.proofs.seat_lemmas.Aside.{over_idle}
 
@@ -29,8 +35,11 @@ pub record PlayingInner (heap : Heap) (old now : State) (number : ℕ) (inner : 
   pub within : number < length now.seats
   pub told : List Entry
   pub shows : history heap old (inner_events number inner steps) ≡ told
+  pub mine : (seat_at now number).mine ++ entries_awaited heap now.words number (seat_at now number) ≡ (seat_at old number).mine ++ told
+  pub listed : List Entry
+  pub own : OwnInnerStage (IsOfStart heap old.words) number inner (seat_at old number) (seat_at now number) listed
+  pub alone : InnerAlone old.words now.words (seat_at now number).place
   pub resting : call_over (seat_at old number) ≡ seat_at old number
-  pub stage : InnerStage heap old.words number (seat_at old number) inner now.words told (seat_at now number) (seat_at now number).place
 
 inner_events-more : (number : ℕ) (inner : Inner) (n : ℕ) → inner_events number inner (n + 1) ≡ inner_events number inner n ++ Steps number ∷ []
 inner_events-more number inner n = ap (λ (l : List Event). BeginsInner number inner ∷ l) (replicate_next n (Steps number))
@@ -41,6 +50,7 @@ inner_begun heap old number inner machine can =
     let seat = seat_at old number in
     let begun_ = after_inner_begin seat inner in
     let here : seat_at (state_after heap old (BeginsInner number inner)) number ≡ begun_ = seat_at-set old.seats number begun_ can.0 in
+    let stands = inner_stands heap number seat inner (machine.fit number can.0) can.1 in
     record {
       steps = 0;
       can = (can, tt);
@@ -49,20 +59,34 @@ inner_begun heap old number inner machine can =
       within = omega (arith, can.0, length-set old.seats number begun_);
       told = [];
       shows = refl;
+      mine = subst (λ (s : Seat). s.mine ++ entries_awaited heap old.words number s ≡ seat.mine ++ []) (sym here) (rw (stands.kept, stands.awaits old.words) refl);
+      listed = [];
+      own = subst (λ (s : Seat). OwnInnerStage (IsOfStart heap old.words) number inner seat s []) (sym here) (inner_begins (IsOfStart heap old.words) number seat inner);
+      alone = subst (λ (s : Seat). InnerAlone old.words old.words s.place) (sym here) (first_alone heap old.words number inner);
       resting = over_idle heap seat (machine.fit number can.0) can.1.idle;
-      stage = subst (λ (s : Seat). InnerStage heap old.words number seat inner old.words [] s s.place) (sym here) (stage_first heap old.words number seat inner);
     }
 
--- what a due move leaves
-inner_by : (heap : Heap) (old now : State) (number : ℕ) (inner : Inner) (told : List Entry) (move : Option Move) → number < length now.seats → IsSome move
-    → IfSome move (InnerLeads heap old.words number (seat_at old number) inner now.words told (seat_at now number))
-    → InnerStage heap old.words number (seat_at old number) inner (state_after_due heap now number move).words (told ++ entries_shown heap now move)
-    (seat_at (state_after_due heap now number move) number) (seat_at (state_after_due heap now number move) number).place
-inner_by heap old now number inner told None within some leads = cc
-inner_by heap old now number inner told (Some m) within some leads =
+-- what a due move leaves: the entries and the stages
+record InnerBy (heap : Heap) (old now next : State) (number : ℕ) (inner : Inner) (told listed : List Entry) : Type 0 where
+  mine : (seat_at next number).mine ++ entries_awaited heap next.words number (seat_at next number) ≡ (seat_at old number).mine ++ told
+  own : OwnInnerStage (IsOfStart heap old.words) number inner (seat_at old number) (seat_at next number) listed
+  alone : InnerAlone old.words next.words (seat_at next number).place
+
+inner_by : (heap : Heap) (old now : State) (number : ℕ) (inner : Inner) (playing : PlayingInner heap old now number inner) (move : Option Move) → next_move heap number (seat_at now number) ≡ move → IsSome move
+    → IfSome move (MoveStands heap number (seat_at now number) (seat_at now number).place) → IfSome move (InnerLeads heap old.words number now.words (seat_at now number))
+    → InnerBy heap old now (state_after_due heap now number move) number inner (playing.told ++ entries_shown heap now move) (playing.listed ++ more_listed move (found_due heap now move))
+inner_by heap old now number inner playing None is some stands leads = cc
+inner_by heap old now number inner playing (Some m) is some stands leads =
     let found = found_by heap now m.step in
-    subst (λ (s : Seat). InnerStage heap old.words number (seat_at old number) inner (state_after_move heap now number m).words (told ++ m.shows now.words found) s s.place)
-    (sym (seat_at-set now.seats number (seat_after m found) within)) leads
+    let machine = playing.machine in
+    let here : seat_at (state_after_move heap now number m) number ≡ seat_after m found = seat_at-set now.seats number (seat_after m found) playing.within in
+    record {
+      mine = mine_by heap (seat_at old number) now number playing.told m playing.within (stands.adds now) playing.mine;
+      own = subst (λ (s : Seat). OwnInnerStage (IsOfStart heap old.words) number inner (seat_at old number) s (playing.listed ++ m.adds found)) (sym here)
+          (inner_leads (IsOfStart heap old.words) heap number inner (seat_at old number) (seat_at now number) playing.listed m found machine.limits
+          (omega (arith, playing.within, machine.seated, machine.limits.seats_fit)) (machine.fit number playing.within) is leads.0 playing.own);
+      alone = subst (λ (s : Seat). InnerAlone old.words (state_after_move heap now number m).words s.place) (sym here) leads.1;
+    }
 
 pub inner_more : (heap : Heap) (old now : State) (number : ℕ) (inner : Inner) → PlayingInner heap old now number inner → IsSome (next_move heap number (seat_at now number))
     → PlayingInner heap old (state_after heap now (Steps number)) number inner
@@ -71,6 +95,8 @@ inner_more heap old now number inner playing some =
     let runs = runs_on heap old now events _ (Steps number) playing.told (inner_events-more number inner playing.steps) (record { can = playing.can; ends = playing.ends; shows = playing.shows }) some in
     let machine = machine_after heap now (Steps number) playing.machine some in
     let seat = seat_at now number in
+    let left = inner_by heap old now number inner playing (next_move heap number seat) refl some (moves_stand heap now number playing.machine playing.within)
+    (inner_alone heap old.words number now.words inner (kept_of (seat_at old number)) seat playing.listed seat.place playing.own.stage playing.alone) in
     record {
       steps = playing.steps + 1;
       can = runs.can;
@@ -79,18 +105,26 @@ inner_more heap old now number inner playing some =
       within = omega (arith, playing.within, machine.seated, playing.machine.seated);
       told = playing.told ++ entries heap now (Steps number);
       shows = runs.shows;
+      mine = left.mine;
+      listed = playing.listed ++ more_listed (next_move heap number seat) (found_due heap now (next_move heap number seat));
+      own = left.own;
+      alone = left.alone;
       resting = playing.resting;
-      stage = inner_by heap old now number inner playing.told (next_move heap number seat) playing.within some
-          (inner_leads heap old.words number (seat_at old number) playing.resting inner now.words playing.told seat seat.place (playing.machine.fit number playing.within).answer_at_place playing.stage);
     }
 
 -- a call without a step due is over
 pub inner_over : (heap : Heap) (old now : State) (number : ℕ) (inner : Inner) → PlayingInner heap old now number inner → due_step heap number (seat_at now number) ≡ None
     → PlaysInner heap old now number inner
 inner_over heap old now number inner playing none =
-    let done : IsDone heap old.words number (seat_at old number) inner playing.told (seat_at now number) =
-    subst (InnerStage heap old.words number (seat_at old number) inner now.words playing.told (seat_at now number)) (idle_from heap number (seat_at now number) none) playing.stage in
-    record { steps = playing.steps; can = playing.can; ends = playing.ends; shown = playing.shows ∙ done.told_is; seat = done.seat_is }
+    let seat = seat_at now number in
+    let idle = idle_from heap number seat none in
+    let awaited : entries_awaited heap now.words number seat ≡ [] = ap (entries_awaited_at heap now.words number seat) idle in
+    let told : playing.listed ≡ playing.told = append_cancel_left (seat_at old number).mine playing.listed playing.told
+    (sym playing.own.mine ∙ sym (append-nil seat.mine) ∙ ap (λ (l : List Entry). seat.mine ++ l) (sym awaited) ∙ playing.mine) in
+    let over : IsInnerOver (IsOfStart heap old.words) number (kept_of (seat_at old number)) (kept_of seat) playing.listed inner =
+    subst (InnerStageAt (IsOfStart heap old.words) number inner (kept_of (seat_at old number)) seat playing.listed) idle playing.own.stage in
+    let comes = inner_comes heap old.words number (seat_at old number) seat playing.listed playing.resting (over_idle heap seat (playing.machine.fit number playing.within) idle) playing.own.same playing.own.mine inner over in
+    record { steps = playing.steps; can = playing.can; ends = playing.ends; shown = playing.shows ∙ sym told ∙ comes.1; seat = comes.0 }
 
 -- a begin spends no room
 pub inner_spends : (old new : MachineValue) (number : ℕ) (inner : Inner) → Can old.heap old.state (BeginsInner number inner)
