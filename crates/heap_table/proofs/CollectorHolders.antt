@@ -189,3 +189,7 @@ quietly_turned old new step found due quiet turned = record {
   counted = turned.counted;
   room_stays = turned.room_stays;
 }
+
+-- the table has words
+pub some_words : (heap : Heap) (words : ℕ) → words ≡ table_length heap → 0 < words
+some_words heap words is = omega (arith, is)

@@ -26,7 +26,7 @@ use Rattle.heap_table.specs.Known.{CollectorKnown}
 use Rattle.heap_table.specs.Told.{Tells}
 use Rattle.heap_table.specs.Views.{collector_view, known_by}
 use Rattle.heap_table.specs.declared.view.View.{View}
-use Rattle.heap_table.proofs.Closing.{reading_allowed}
+use Rattle.heap_table.proofs.ClosingLoads.{reading_allowed}
 
 -- a list that has f of each number at its place is the row of these
 row_of : {A B : Type 0} (g : A → B) (f : ℕ → B) (l : List A) (a n : ℕ) → length l ≡ n → ((i : ℕ) → i < n → (x : A) × (get_elem? l i ≡ some x) × (g x ≡ f (a + i))) → map g l ≡ map f (range_with_len a n)
