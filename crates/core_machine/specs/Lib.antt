@@ -1,3 +1,4 @@
+pub mod calls
 pub mod collector
 pub mod machine
 pub mod seat

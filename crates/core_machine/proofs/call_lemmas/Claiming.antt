@@ -17,6 +17,7 @@ use Rattle.heap_model.specs.declared.reply.Reply.TheVariants as replies
 use Rattle.heap_model.specs.calls.SeatCalls.{takes_of, gives_of, IsGroupCount, ClaimsBefore, ComesBefore}
 use Rattle.heap_model.specs.account.Space.{need_of}
 use Rattle.heap_model.proofs.account_lemmas.Snoc.{same_last}
+use Rattle.core_machine.specs.calls.Claims.{AreGroupsOf, HasTaken, GivesBackAll}
 use Rattle.core_machine.specs.seat.Commands.{MakesObject, IsArrayCall}
 use Rattle.core_machine.specs.table.Fragments.{in_group, out_of_group, part_in, part_out, clear_in}
 use Rattle.core_machine.specs.seat.Making.{first_group_of}
@@ -24,11 +25,6 @@ use Rattle.core_machine.specs.seat.MakingMoves.{takes_some}
 use Rattle.core_machine.proofs.table_lemmas.Clear.{length-clear_among}
 use Rattle.core_machine.proofs.table_lemmas.Owned.{clear_in-group}
 use Rattle.core_machine.proofs.call_lemmas.Restoring.{part_all, part_none, part_in-out}
-
--- so many of the hand's fragments are of its first fragment's group, and so on with the others
-abbrev pub AreGroupsOf : List ℕ → List ℕ → Type 0
-AreGroupsOf [] hand = hand ≡ []
-AreGroupsOf (count ∷ counts) hand = IsGroupCount count × (length (part_in (first_group_of hand) hand) ≡ count) × AreGroupsOf counts (part_out (first_group_of hand) hand)
 
 all_groups : (counts hand : List ℕ) → AreGroupsOf counts hand → All IsGroupCount counts
 all_groups [] hand is = All-nil IsGroupCount
@@ -73,14 +69,6 @@ groups_more (count ∷ counts) (f ∷ more) got g is apart of_group some =
     let ins : part_in group (hand ++ got) ≡ part_in group hand = filter-append (in_group group) hand got ∙ ap (λ (l : List ℕ). part_in group hand ++ l) (part_none g group got other of_group) ∙ append-nil (part_in group hand) in
     let outs : part_out group (hand ++ got) ≡ part_out group hand ++ got = filter-append (out_of_group group) hand got ∙ ap (λ (l : List ℕ). part_out group hand ++ l) (out_all g group got other of_group) in
     (is.0, ap (length {A = ℕ}) ins ∙ is.1, rw outs (groups_more counts (part_out group hand) got g is.2 (part_in-out group g hand other ∙ apart) of_group some))
-
--- what was claimed so far: before the last claim it was too little
-pub record HasTaken (number unborn need : ℕ) (hand : List ℕ) (told : List Entry) : Type 0 where
-  pub counts : List ℕ
-  pub groups : AreGroupsOf counts hand
-  pub shown : told ≡ takes_of number counts
-  pub needed : (earlier : List ℕ) (last : ℕ) → counts ≡ earlier ++ last ∷ [] → unborn + sum earlier < need
-  pub little_left : unborn + length hand ≤ need + 15
 
 -- nothing was claimed yet
 pub taken_none : (number unborn need : ℕ) → unborn ≤ 15 → HasTaken number unborn need [] []
@@ -134,15 +122,6 @@ taken_enough number unborn need hand told id taken enough =
       },
       taken.shown,
     )
-
--- what was claimed is given back: with what is left every claim is
-pub record GivesBackAll (number given : ℕ) (hand : List ℕ) (told : List Entry) : Type 0 where
-  pub counts : List ℕ
-  pub of_groups : All IsGroupCount counts
-  pub all : sum counts ≡ length hand + given
-  pub left : List ℕ
-  pub groups : AreGroupsOf left hand
-  pub shown : told ++ gives_of number left ≡ takes_of number counts ++ gives_of number counts
 
 -- nothing was given back yet
 pub gives_none : (number unborn need : ℕ) (hand : List ℕ) (told : List Entry) → HasTaken number unborn need hand told → GivesBackAll number 0 hand told

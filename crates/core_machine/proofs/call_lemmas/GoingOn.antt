@@ -20,7 +20,8 @@ use Rattle.core_machine.specs.seat.Making.{gather_next, after_gather, next_objec
 use Rattle.core_machine.specs.machine.Machine.{State, seat_at}
 use Rattle.core_machine.specs.seat.Fits.{IsAtRest, FitsPlace, Fits}
 use Rattle.core_machine.specs.machine.Calls.{free_count, KeepsOwn}
-use Rattle.core_machine.proofs.call_lemmas.Claiming.{GivesBackAll, taken_none, taken_enough, gives_none}
+use Rattle.core_machine.specs.calls.Claims.{GivesBackAll}
+use Rattle.core_machine.proofs.call_lemmas.Claiming.{taken_none, taken_enough, gives_none}
 use Rattle.core_machine.proofs.table_lemmas.Free.{sum_zero}
 use Rattle.core_machine.proofs.seat_lemmas.Fitting.{goes_on_cases, returning_cases, settled_cases}
 use Rattle.core_machine.proofs.call_lemmas.Asking.{AsksWords, asks_none}

@@ -27,7 +27,8 @@ use Rattle.core_machine.specs.machine.Machine.{State, seat_at, found_by, state_a
 use Rattle.core_machine.specs.seat.Fits.{SeatIsGathering, SeatIsRefusing, HasBody, FitsMaking}
 use Rattle.core_machine.specs.machine.Calls.{free_count, within_reach, KeepsOwn, IsRefused}
 use Rattle.core_machine.specs.machine.Value.{IsMachine}
-use Rattle.core_machine.proofs.call_lemmas.Claiming.{GivesBackAll, taken_more, gives_more, gives_over, comes_of_object}
+use Rattle.core_machine.specs.calls.Claims.{GivesBackAll}
+use Rattle.core_machine.proofs.call_lemmas.Claiming.{taken_more, gives_more, gives_over, comes_of_object}
 use Rattle.core_machine.proofs.table_lemmas.Addresses.{at-put_other, at-put_same}
 use Rattle.core_machine.proofs.table_lemmas.Bits.{bool_tells}
 use Rattle.core_machine.proofs.table_lemmas.Free.{free-claimed, clear_in-claimed}

@@ -29,7 +29,7 @@ use Rattle.core_machine.specs.declared.place.Polling.{Polling}
 use Rattle.core_machine.specs.declared.place.Polling.TheVariants.{Asking, Shading, Answering}
 use Rattle.core_machine.specs.seat.Commands.{IsRecordCall, IsArrayCall}
 use Rattle.core_machine.specs.machine.Calls.{IsPhaseNear, free_count, within_reach, KeepsOwn, AnswersNew, LacksSpineWords, AnswersArray, IsPlaceRefusal, LeavesAll}
-use Rattle.core_machine.proofs.call_lemmas.Claiming.{HasTaken, GivesBackAll}
+use Rattle.core_machine.specs.calls.Claims.{HasTaken, GivesBackAll}
 use Rattle.core_machine.proofs.call_lemmas.Asking.{AsksWords, HasClaimed}
 
 -- while the spine words are taken back that are too many

@@ -1,0 +1,101 @@
+-- What each step of a call leads to by the seat's own view, whatever word it has found, and that a call begins so.
+pub mod Answer
+pub mod Begin
+pub mod Birth
+pub mod Claiming
+pub mod Field
+pub mod Gather
+pub mod Inner
+pub mod Leading
+pub mod Turns
+pub mod Way
+use Rattle.std.proofs.Common.{◌≡◌, ℕ, ◌<◌, List, [], ◌∷◌, ◌++◌, Option, Some, None, refl, sym, ap, subst, ◌∙◌, append_assoc}
+use Rattle.std.specs.Prelude.{IfSome}
+use Rattle.heap_model.specs.Heap.{IsHeap}
+use Rattle.heap_model.specs.declared.command.Command.{Command}
+use Rattle.heap_model.specs.declared.entry.Entry.{Entry}
+use Rattle.heap_model.specs.declared.heap.Heap.{Heap}
+use Rattle.core_machine.specs.Moves.{Move, next_move, seat_after}
+use Rattle.core_machine.specs.calls.Kept.{Kept, kept_of}
+use Rattle.core_machine.specs.calls.OwnStage.{StageAt, OwnStage}
+use Rattle.core_machine.specs.declared.place.Access.{Access}
+use Rattle.core_machine.specs.declared.place.Access.TheVariants.{LoadingMeta, Walking, Locating, Indexing, Getting, Naming, LoadingOld, ShadingOld, ShadingNew, Swapping}
+use Rattle.core_machine.specs.declared.place.Leaving.{Leaving}
+use Rattle.core_machine.specs.declared.place.Leaving.TheVariants.{Emptying, Parting}
+use Rattle.core_machine.specs.declared.place.Making.{Making}
+use Rattle.core_machine.specs.declared.place.Making.TheVariants.{Granting, Withdrawing, Gathering, Returning, Refusing, Placing, Listing, Storing, Bearing}
+use Rattle.core_machine.specs.declared.place.Place.{Place}
+use Rattle.core_machine.specs.declared.place.Place.TheVariants as places
+use Rattle.core_machine.specs.declared.place.Polling.{Polling}
+use Rattle.core_machine.specs.declared.place.Polling.TheVariants.{Asking, Shading, Answering}
+use Rattle.core_machine.specs.declared.step.Step.{Step}
+use Rattle.core_machine.specs.machine.Machine.{MayBegin, after_begin}
+use Rattle.core_machine.specs.seat.Fits.{Fits}
+use Rattle.core_machine.specs.seat.Seat.{Seat}
+use Rattle.core_machine.proofs.own_stages.Leading.{Leads, LeadsOn, PlaceLeads}
+
+module _ (tells : Step → ℕ → Type 0) where
+  -- each move of the making of an object
+  making_leads : (place : Making) → PlaceLeads tells (places.Making place)
+  making_leads Granting = Gather.grant_leads tells
+  making_leads Withdrawing = Gather.withdraw_leads tells
+  making_leads Gathering = Gather.claim_leads tells
+  making_leads Returning = Gather.give_back_leads tells
+  making_leads Refusing = Gather.refusal_leads tells
+  making_leads Placing = Birth.placing_leads tells
+  making_leads Listing = Birth.listing_leads tells
+  making_leads Storing = Birth.store_leads tells
+  making_leads Bearing = Birth.bearing_leads tells
+
+  -- each of access
+  access_leads : (place : Access) → PlaceLeads tells (places.Access place)
+  access_leads LoadingMeta = Way.open_leads tells
+  access_leads Walking = Way.walk_leads tells
+  access_leads Locating = Way.locate_leads tells
+  access_leads Indexing = Way.index_leads tells
+  access_leads Getting = Field.get_leads tells
+  access_leads Naming = Field.name_leads tells
+  access_leads LoadingOld = Field.old_leads tells
+  access_leads ShadingOld = Field.shade_old_leads tells
+  access_leads ShadingNew = Field.shade_new_leads tells
+  access_leads Swapping = Field.swap_leads tells
+
+  -- each of a poll
+  polling_leads : (place : Polling) → PlaceLeads tells (places.Polling place)
+  polling_leads Asking = Answer.poll_leads tells
+  polling_leads Shading = Answer.root_leads tells
+  polling_leads Answering = Answer.answer_leads tells
+
+  -- each of a leave
+  leaving_leads : (place : Leaving) → PlaceLeads tells (places.Leaving place)
+  leaving_leads Emptying = Answer.empty_leads tells
+  leaving_leads Parting = Answer.part_leads tells
+
+  -- each move, by the place
+  leads_at : (place : Place) → PlaceLeads tells place
+  leads_at places.Idle = λ heap number before seat told here stage. tt
+  leads_at (places.Making place) = making_leads place
+  leads_at places.Local = Answer.telling_leads tells
+  leads_at (places.Access place) = access_leads place
+  leads_at (places.Polling place) = polling_leads place
+  leads_at (places.Collecting place) = λ heap number before seat told here stage. absurd stage
+  leads_at (places.Leaving place) = leaving_leads place
+
+  -- a call that stands so goes on to stand so, whatever word its next step finds of which so much is told
+  pub own_leads : (heap : Heap) (number : ℕ) (command : Command) (old seat : Seat) (told : List Entry) (move : Move) (found : ℕ) → IsHeap heap → number < 16 → Fits heap seat
+      → next_move heap number seat ≡ Some move → tells move.step found → OwnStage tells heap number command old seat told
+      → OwnStage tells heap number command old (seat_after move found) (told ++ move.adds found)
+  own_leads heap number command old seat told move found limits few fits next tell is =
+      let leads : Leads tells heap number (kept_of old) seat told move found =
+      subst (λ (m : Option Move). IfSome m (LeadsOn tells heap number (kept_of old) seat told)) next
+      (leads_at seat.place heap number (kept_of old) seat told
+      (record { limits = limits; few = few; fits = fits; placed = refl; hand = fits.at_place; way = fits.way_at_place; answer = fits.answer_at_place }) is.stage) found tell in
+      record {
+        same = leads.same ∙ is.same;
+        mine = ap (λ (l : List Entry). l ++ move.adds found) (leads.kept ∙ is.mine) ∙ append_assoc old.mine told (move.adds found);
+        stage = leads.stage;
+      }
+
+  -- a call that has begun stands so, and has told nothing
+  pub own_begins : (heap : Heap) (number : ℕ) (old : Seat) (command : Command) → IsHeap heap → Fits heap old → MayBegin old command → OwnStage tells heap number command old (after_begin heap old command) []
+  own_begins heap number old command limits fits may = Begin.begin_leads tells heap number old command limits fits may

@@ -1,0 +1,146 @@
+-- A call reads or writes the field that it has reached.
+use Rattle.std.proofs.Common.{◌≡◌, ℕ, List, [], ◌∷◌, ◌++◌, Option, Some, None, refl, sym, subst}
+use Rattle.std.specs.Prelude.{IsSome, unwrap_or}
+use Rattle.heap_words.specs.Loaded.{head_of, stamp_of}
+use Rattle.heap_model.specs.declared.entry.Entry.{Entry}
+use Rattle.heap_model.specs.declared.entry.Entry.TheVariants.{Said}
+use Rattle.heap_model.specs.declared.heap.Heap.{Heap}
+use Rattle.heap_model.specs.declared.id.Value.TheVariants as values
+use Rattle.heap_model.specs.declared.reply.Reply.TheVariants as replies
+use Rattle.core_machine.specs.calls.Kept.{Kept, kept_of, IsUntold}
+use Rattle.core_machine.specs.calls.OwnStage.{StageAt}
+use Rattle.core_machine.specs.calls.Reaching.{ReachesField}
+use Rattle.core_machine.specs.calls.Replies.{IsHeldOf, IsAnswered}
+use Rattle.core_machine.specs.declared.place.Access.TheVariants.{Getting, Naming, LoadingOld, ShadingOld, ShadingNew, Swapping}
+use Rattle.core_machine.specs.declared.place.Place.TheVariants as places
+use Rattle.core_machine.specs.declared.seat.register.Register.TheVariants.{Object}
+use Rattle.core_machine.specs.declared.step.AccessStep.TheVariants.{NameLoad, GetLoad}
+use Rattle.core_machine.specs.declared.step.Step.{Step}
+use Rattle.core_machine.specs.declared.step.Step.TheVariants as steps
+use Rattle.core_machine.specs.seat.Access.{at_access, after_get, new_place_of, after_old_load}
+use Rattle.core_machine.specs.seat.AccessMoves.{got_reply, got_adds, loaded_head_of, name_move, swap_move}
+use Rattle.core_machine.specs.seat.Commands.{source_of}
+use Rattle.core_machine.specs.seat.Registers.{register_in, register_head}
+use Rattle.core_machine.specs.seat.Seat.{Seat, with_entries}
+use Rattle.core_machine.specs.table.Decode.{id_of, plain_of}
+use Rattle.core_machine.proofs.call_lemmas.RepliesAlone.{get_alone, set_alone}
+use Rattle.core_machine.proofs.moves.Standing.{IsAt}
+use Rattle.core_machine.proofs.own_stages.Leading.{PlaceLeads, quiet, from_untold, answered_alone}
+
+module _ (tells : Step → ℕ → Type 0) where
+  -- the register holds the object that was named
+  named : (word found : ℕ) (head : Option ℕ) → IsSome head → tells (steps.Access (NameLoad (unwrap_or head 0))) found → IsHeldOf tells word (Object (unwrap_or head 0) (id_of found)) head
+  named word found None some tell = cc
+  named word found (Some head) some tell = (found, tell, refl)
+
+  -- by what the seat keeps now
+  kept_field : {before : Kept} (seat : Seat) {told : List Entry} → IsUntold before (kept_of seat) told → ReachesField tells seat.command before seat.reached seat.part
+      → ReachesField tells seat.command (kept_of seat) seat.reached seat.part
+  kept_field seat untold reaches = subst (λ (b : Kept). ReachesField tells seat.command b seat.reached seat.part) (sym untold.kept_stays) reaches
+
+  module _ (heap : Heap) (number : ℕ) (before : Kept) (seat : Seat) (told : List Entry) (here : IsAt heap number seat (places.Access Getting)) (untold : IsUntold before (kept_of seat) told)
+      (reaches : ReachesField tells seat.command before seat.reached seat.part) (found : ℕ) (tell : tells (steps.Access (GetLoad seat.reached seat.part)) found) where
+    got_leads : (head : Option ℕ) → head_of found ≡ head
+        → ((after_get seat found head).mine ≡ seat.mine) × ((after_get seat found head).command ≡ seat.command)
+        × StageAt tells heap number before (with_entries (after_get seat found head) (got_adds number seat found head)) (told ++ got_adds number seat found head) (after_get seat found head).place
+    got_leads None is = (
+      refl,
+      refl,
+      from_untold (λ b t. IsAnswered tells heap number seat.command b (kept_of (after_get seat found None)) (t ++ Said number seat.command (got_reply (plain_of found) found) ∷ [])) untold
+          (answered_alone tells heap number seat.command (kept_of seat) (kept_of (after_get seat found None)) (got_reply (plain_of found) found) (get_alone seat.command here.way.0.1) (record {
+            a_get = here.way.0.1;
+            reached = seat.reached;
+            part = seat.part;
+            field = kept_field seat untold reaches;
+            word = found;
+            told = tell;
+            stamp_is = refl;
+            register = plain_of found;
+            held = subst (IsHeldOf tells found (plain_of found)) (sym is) refl;
+            value_is = refl;
+            kept_is = refl;
+          })),
+    )
+    got_leads (Some head) is = (refl, refl, (quiet (IsUntold before (kept_of seat)) told untold, (reaches, tell)))
+
+  -- the field was loaded
+  pub get_leads : PlaceLeads tells (places.Access Getting)
+  get_leads heap number before seat told here stage found tell =
+      let got = got_leads heap number before seat told here stage.0 stage.1 found tell (head_of found) refl in
+      record { kept = got.0; same = got.1; stage = got.2 }
+
+  -- the name was loaded of what it refers to
+  pub name_leads : PlaceLeads tells (places.Access Naming)
+  name_leads heap number before seat told here stage found tell =
+      let last = kept_of ((name_move number seat).told found) in
+      let reply = replies.Got (values.Object (id_of found)) (stamp_of seat.loaded) in
+      record {
+        kept = refl;
+        same = refl;
+        stage = from_untold (λ b t. IsAnswered tells heap number seat.command b last (t ++ Said number seat.command reply ∷ [])) stage.0
+            (answered_alone tells heap number seat.command (kept_of seat) last reply (get_alone seat.command here.way.0.1) (record {
+              a_get = here.way.0.1;
+              reached = seat.reached;
+              part = seat.part;
+              field = kept_field seat stage.0 stage.1.0;
+              word = seat.loaded;
+              told = stage.1.1;
+              stamp_is = refl;
+              register = Object (loaded_head_of seat) (id_of found);
+              held = named seat.loaded found (head_of seat.loaded) here.way.1 tell;
+              value_is = refl;
+              kept_is = refl;
+            }));
+      }
+
+  -- the old value is dealt with
+  old_leads_on : (heap : Heap) (number : ℕ) (before : Kept) (seat : Seat) (told : List Entry) (loaded : ℕ) → IsUntold before (kept_of seat) told → ReachesField tells seat.command before seat.reached seat.part
+      → (new : Option ℕ) → StageAt tells heap number before (with_entries (at_access (record seat { loaded = loaded }) (new_place_of new)) []) (told ++ []) (places.Access (new_place_of new))
+  old_leads_on heap number before seat told loaded untold reaches None = (quiet (IsUntold before (kept_of seat)) told untold, reaches)
+  old_leads_on heap number before seat told loaded untold reaches (Some head) = (quiet (IsUntold before (kept_of seat)) told untold, reaches)
+
+  old_found_leads : (heap : Heap) (number : ℕ) (before : Kept) (seat : Seat) (told : List Entry) (found : ℕ) → IsUntold before (kept_of seat) told → ReachesField tells seat.command before seat.reached seat.part
+      → (head : Option ℕ) → ((after_old_load (record seat { loaded = found }) head).mine ≡ seat.mine) × ((after_old_load (record seat { loaded = found }) head).command ≡ seat.command)
+      × StageAt tells heap number before (with_entries (after_old_load (record seat { loaded = found }) head) []) (told ++ []) (after_old_load (record seat { loaded = found }) head).place
+  old_found_leads heap number before seat told found untold reaches None =
+      (refl, refl, old_leads_on heap number before seat told found untold reaches (register_head (register_in seat.registers (source_of seat.command))))
+  old_found_leads heap number before seat told found untold reaches (Some head) = (refl, refl, (quiet (IsUntold before (kept_of seat)) told untold, reaches))
+
+  -- it was loaded
+  pub old_leads : PlaceLeads tells (places.Access LoadingOld)
+  old_leads heap number before seat told here stage found tell =
+      let old = old_found_leads heap number before seat told found stage.0 stage.1 (head_of found) in
+      record { kept = old.0; same = old.1; stage = old.2 }
+
+  -- it was shaded
+  pub shade_old_leads : PlaceLeads tells (places.Access ShadingOld)
+  shade_old_leads heap number before seat told here stage found tell = record {
+    kept = refl;
+    same = refl;
+    stage = old_leads_on heap number before seat told seat.loaded stage.0 stage.1 (register_head (register_in seat.registers (source_of seat.command)));
+  }
+
+  -- the new value was shaded
+  pub shade_new_leads : PlaceLeads tells (places.Access ShadingNew)
+  shade_new_leads heap number before seat told here stage found tell =
+      record { kept = refl; same = refl; stage = (quiet (IsUntold before (kept_of seat)) told stage.0, stage.1) }
+
+  -- the field got its new word
+  pub swap_leads : PlaceLeads tells (places.Access Swapping)
+  swap_leads heap number before seat told here stage found tell =
+      let last = kept_of ((swap_move number seat).told found) in
+      record {
+        kept = refl;
+        same = refl;
+        stage = from_untold (λ b t. IsAnswered tells heap number seat.command b last (t ++ Said number seat.command (replies.Was (stamp_of found)) ∷ [])) stage.0
+            (answered_alone tells heap number seat.command (kept_of seat) last (replies.Was (stamp_of found)) (set_alone seat.command here.way.0.1) (record {
+              a_set = here.way.0.1;
+              reached = seat.reached;
+              part = seat.part;
+              field = kept_field seat stage.0 stage.1;
+              word = found;
+              told = tell;
+              stamp_is = refl;
+              kept_is = refl;
+            }));
+      }
