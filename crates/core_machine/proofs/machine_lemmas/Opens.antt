@@ -13,7 +13,6 @@ use Rattle.heap_model.specs.Heap.{IsHeap}
 use Rattle.core_machine.specs.declared.table.address.Address.{Address}
 use Rattle.core_machine.specs.declared.table.address.Address.TheVariants.{Phase, Answer, Budget, Spot, Control, Word, Spine}
 use Rattle.core_machine.specs.table.Layout.{table_length, index_of, InTable, at, put}
-use Rattle.heap_words.specs.Newborn.{record_word_of}
 use Rattle.core_machine.specs.machine.Opening.{board, board_name, board_word, board_group, opening_word, opening_seat, with_left, with_board}
 use Rattle.core_machine.specs.seat.Seat.{Seat, absent_seat}
 use Rattle.core_machine.specs.declared.seat.register.Register.TheVariants.{Nil, Object}

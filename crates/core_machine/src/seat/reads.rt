@@ -5,7 +5,7 @@ use crate::place::Place;
 use crate::seat::SeatParty;
 use crate::seat::looks::Looks;
 use crate::seat::register::Register;
-use heap_model::Entry;
+use heap_model::{Command, Entry};
 
 impl SeatParty {
     /// The seat's entries, in their order.
@@ -42,11 +42,25 @@ impl<L: Entries> SeatParty<L> {
         self.mine.spare()
     }
 
+    /// The phase that it answered last.
+    pub fn answered(&self) -> u64
+        ensures { result ≡ self.now.seat.answered }
+    {
+        self.answered
+    }
+
     /// How many objects it has made.
     pub fn made(&self) -> u32
         ensures { result ≡ self.now.seat.made }
     {
         self.made
+    }
+
+    /// How many sets it has done.
+    pub fn sets(&self) -> u32
+        ensures { result ≡ self.now.seat.sets }
+    {
+        self.sets
     }
 
     /// The fragments that it keeps between two calls.
@@ -86,11 +100,32 @@ impl<L: Entries> SeatParty<L> {
         &self.registers
     }
 
+    /// The call in flight, or the last one.
+    pub fn command(&self) -> Command
+        ensures { result ≡ self.now.seat.command }
+    {
+        self.command
+    }
+
     /// Where it stands in its call.
     pub fn place(&self) -> Place
         ensures { result ≡ self.now.seat.place }
     {
         self.place
+    }
+
+    /// The fragment that its call has reached on the way to a field.
+    pub fn reached(&self) -> u16
+        ensures { result ≡ self.now.seat.reached }
+    {
+        self.reached
+    }
+
+    /// The word of its fragment in which that field stands; 0 until the object's meta is loaded.
+    pub fn part(&self) -> u8
+        ensures { result ≡ self.now.seat.part }
+    {
+        self.part
     }
 
     /// What it has found out by the inner calls of its collects.
