@@ -4,3 +4,4 @@ pub mod Growing
 pub mod SeatGrowth
 pub mod EntryGrowth
 pub mod LaterGraphs
+pub mod OwnGraphs
