@@ -38,4 +38,5 @@ pub mod TurnsLeft
 pub mod GraphLaws
 pub mod OwnGraphs
 pub mod Told
+pub mod Reached
 pub mod Found
