@@ -19,6 +19,7 @@ pub mod parties
 pub mod runs
 pub mod spines
 pub mod steps
+pub mod told
 pub mod turns
 pub mod ways
 pub mod words

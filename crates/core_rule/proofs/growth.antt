@@ -4,3 +4,5 @@ pub mod Growing
 pub mod SeatGrowth
 pub mod EntryGrowth
 pub mod LaterGraphs
+pub mod AgreeingGraphs
+pub mod OwnGraphs

@@ -36,3 +36,7 @@ pub mod TableLaws
 pub mod SpineLaws
 pub mod TurnsLeft
 pub mod GraphLaws
+pub mod OwnGraphs
+pub mod Told
+pub mod Reached
+pub mod Found

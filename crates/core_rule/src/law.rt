@@ -2,6 +2,8 @@ ghost use Rattle.core_rule.specs.Laws.{EachEventKeeps, EveryRunKeeps, WholeCalls
 ghost use Rattle.core_rule.specs.Finds.{WaitsAreFinds, EachEventIsFollowed};
 ghost use Rattle.core_rule.specs.LoneLaws.{EachLoneRefusalIsRight};
 ghost use Rattle.core_rule.specs.HeldLaws.{EachHeldIsTaken, NoClaimTakesHeld, NoFreeTakesHeld, EachHeldIsMarked, NoPlaceTakesHeld, NoCopyTakesHeld, EachStoreIsOwn, EachSpineStoreIsOwn, EachCopyStoreIsOwn};
+ghost use Rattle.core_rule.specs.Found.{EachFoundIsTold};
+ghost use Rattle.core_rule.specs.Told.{EachSeatIsAsTold};
 ghost use Rattle.core_rule.specs.TableLaws.{EachStepHasItsWord, EachTurnHasItsWord};
 ghost use Rattle.core_rule.specs.TurnsLeft.{EachTurnLeavesFewer};
 
@@ -29,6 +31,8 @@ pub fn law_every_run()
     ensures copy_stores { EachCopyStoreIsOwn }
     ensures step_words { EachStepHasItsWord }
     ensures turn_words { EachTurnHasItsWord }
+    ensures own { EachSeatIsAsTold }
+    ensures found { EachFoundIsTold }
     ensures fewer { EachTurnLeavesFewer }
     ensures finds { WaitsAreFinds }
     ensures looks { EachEventIsFollowed }

@@ -43,7 +43,7 @@ compares u v = elim (same_tells u v) as (λ _. Compares u v (answer_of (is_same_
 
 module _ (made : List Id) (owner : ℕ → Owner) (fragments : ℕ → List ℕ) where
   -- a register's value is the one that it holds
-  held_value : (held : Register) (value : Value) → HoldsValue made owner fragments held value → value ≡ value_of held
+  pub held_value : (held : Register) (value : Value) → HoldsValue made owner fragments held value → value ≡ value_of held
   held_value registers.Nil value holds = holds
   held_value (registers.Number n) value holds = holds.0
   held_value (registers.Object head id) value holds = holds.0

@@ -17,6 +17,8 @@ use Rattle.core_rule.proofs.runs.ComingTurns.{each_turn_comes_to}
 use Rattle.core_rule.proofs.runs.KeptRuns.{event_keeps, run_keeps}
 use Rattle.core_rule.proofs.spines.IdleBudgets.{words_are_used}
 use Rattle.core_rule.proofs.steps.Steps.{each_step_keeps, each_begin_keeps, each_inner_keeps, each_turn_keeps}
+use Rattle.core_rule.proofs.told.AsTold.{each_seat_is_as_told}
+use Rattle.core_rule.proofs.told.FoundWords.{each_found_is_told}
 use Rattle.core_rule.proofs.turns.{each_turn_leaves_fewer}
 use Rattle.core_rule.proofs.law.law_every_run.Goals as goal
 
@@ -94,3 +96,9 @@ returns-clause-finds c = waits_are_finds event_keeps opening_stands
 
 pub returns-clause-looks : goal.returns-clause-looks
 returns-clause-looks c = each_event_is_followed
+
+pub returns-clause-own : goal.returns-clause-own
+returns-clause-own c = each_seat_is_as_told
+
+pub returns-clause-found : goal.returns-clause-found
+returns-clause-found c = each_found_is_told

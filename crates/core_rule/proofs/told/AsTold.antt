@@ -1,0 +1,99 @@
+-- A seat's data are what its own list tells.
+use Rattle.std.proofs.Common.{◌≡◌, ℕ, ◌<◌, List, [], ◌∷◌, ◌++◌, length, filter, refl, sym, ap, ◌∙◌, subst, arith}
+use Rattle.std.proofs.lemmas.List.{append-nil}
+use Rattle.heap_model.specs.account.Cycles.{graph_of}
+use Rattle.heap_model.specs.account.Effects.{is_of, no_effect}
+use Rattle.heap_model.specs.account.Space.{total_of}
+use Rattle.heap_model.specs.declared.account.effect.Effect.{Effect}
+use Rattle.heap_model.specs.declared.command.Command.{Command}
+use Rattle.heap_model.specs.declared.command.Command.TheVariants as commands
+use Rattle.heap_model.specs.declared.entry.Entry.{Entry}
+use Rattle.heap_model.specs.declared.heap.Heap.{Heap}
+use Rattle.heap_model.specs.declared.entry.Entry.TheVariants.{Said}
+use Rattle.heap_model.specs.declared.id.Value.{Value}
+use Rattle.heap_model.specs.declared.id.Value.TheVariants as values
+use Rattle.heap_model.specs.declared.reply.Reply.TheVariants.{Got}
+use Rattle.heap_words.specs.Loaded.{stamp_of}
+use Rattle.heap_model.specs.graph.Graph.{Graph, Node}
+use Rattle.heap_model.specs.graph.Objects.{register_value}
+use Rattle.core_machine.specs.declared.place.Access.TheVariants.{Naming}
+use Rattle.core_machine.specs.declared.place.Place.{Place}
+use Rattle.core_machine.specs.declared.place.Place.TheVariants as places
+use Rattle.core_machine.specs.machine.Machine.{State, seat_at}
+use Rattle.core_machine.specs.seat.Commands.{target_of}
+use Rattle.core_machine.specs.seat.Fits.{FitsWay}
+use Rattle.core_machine.specs.seat.FitsAccess.{IsGet}
+use Rattle.core_machine.specs.seat.Registers.{register_in}
+use Rattle.core_machine.specs.seat.Seat.{Seat}
+use Rattle.core_rule.specs.Book.{Book}
+use Rattle.core_rule.specs.Counts.{Awaits, OwnList}
+use Rattle.core_rule.specs.OwnGraphs.{IsSeatsPart, EachOwnGraphIsPart}
+use Rattle.core_rule.specs.Registers.{IsAwaited}
+use Rattle.core_rule.specs.Rule.{Rule}
+use Rattle.core_rule.specs.Told.{IsAsTold, EachSeatIsAsTold}
+use Rattle.core_rule.proofs.entries.AtRest.{seat_fits}
+use Rattle.core_rule.proofs.graph.SameValues.{held_value as value_held}
+use Rattle.core_rule.proofs.growth.OwnGraphs.{same_value, as_many, each_own_graph_is_part}
+use Rattle.core_rule.proofs.told.OwnLists.{TellsAlike, whole_tells, got_tells, total_of-filter}
+
+-- the graph of the seat's entries in the history is its part of the whole
+pub own_part : (heap : Heap) (history : List Entry) (number : ℕ) → IsSeatsPart number (graph_of heap (filter (is_of number) history)) (graph_of heap history)
+unfolding EachOwnGraphIsPart
+own_part heap history number = each_own_graph_is_part heap history number
+
+module _ (heap : Heap) (state : State) (book : Book) (number : ℕ) (rule : Rule heap state book) (here : number < heap.seats) where
+  abbrev seat : Seat
+  seat = seat_at state number
+
+  abbrev whole : Graph
+  whole = graph_of heap book.history
+
+  abbrev part : List Entry
+  part = filter (is_of number) book.history
+
+  abbrev awaited : ℕ → Type 0
+  awaited = IsAwaited seat.place (target_of seat.command)
+
+  list : OwnList whole book.history book.made book.owner book.fragments number seat
+  list = (rule.seats_stand number here).told.list
+
+  -- while a get awaits its name its own list is a reply behind
+  named : (command : Command) (value : Value) (stamp : ℕ) (more : List Entry) → IsGet command → more ≡ Said number command (Got value stamp) ∷ []
+      → TellsAlike heap number (λ x. x ≡ target_of command) seat.mine (seat.mine ++ more)
+  named (commands.Get d r i) value stamp more get is =
+      subst (λ (l : List Entry). TellsAlike heap number (λ x. x ≡ d) seat.mine (seat.mine ++ l)) (sym is) (got_tells heap number d r i stamp value seat.mine)
+  named command value stamp more get is = absurd get
+
+  alike_at : (place : Place) → FitsWay seat place → Awaits whole book.made book.owner book.fragments number seat place list.awaited
+      → TellsAlike heap number (IsAwaited place (target_of seat.command)) seat.mine (seat.mine ++ list.awaited)
+  alike_at (places.Access Naming) fits awaits = named seat.command (values.Object awaits.id) (stamp_of seat.loaded) list.awaited fits.0.1 awaits.told
+  alike_at place fits awaits = whole_tells heap number (IsAwaited place (target_of seat.command)) seat.mine (seat.mine ++ list.awaited) (sym (append-nil seat.mine) ∙ ap (λ (l : List Entry). seat.mine ++ l) (sym awaits))
+
+  -- its own list tells of it what the history does
+  alike : TellsAlike heap number awaited seat.mine part
+  alike = subst (TellsAlike heap number awaited seat.mine) list.own (alike_at seat.place (seat_fits rule number here).way_at_place list.awaits)
+
+  own_total : (count : Effect → ℕ) → count no_effect ≡ 0 → total_of number count seat.mine ≡ total_of number count book.history
+  own_total count none = alike.totals count none ∙ total_of-filter number count book.history
+
+  is_part : IsSeatsPart number (graph_of heap part) whole
+  is_part = own_part heap book.history number
+
+  pub as_told : IsAsTold heap number seat
+  as_told =
+      let told = (rule.seats_stand number here).told in
+      let answers = (rule.seats_stand number here).cycle.answers_told in
+      record {
+        registers = λ r free.
+            sym (value_held book.made book.owner book.fragments (register_in seat.registers r) (register_value whole number r) ((rule.seats_stand number here).names.registers r free))
+            ∙ sym (same_value number (graph_of heap part) whole is_part.agrees r) ∙ sym (alike.registers r free);
+        made = told.counts.numbered ∙ sym (as_many number (graph_of heap part) whole is_part.agrees) ∙ sym (ap (λ (l : List Node). length l) alike.objects);
+        sets = told.counts.stamped ∙ sym is_part.agrees.seat.sets ∙ sym alike.sets;
+        left = sym told.counts.leaves ∙ sym is_part.agrees.seat.left ∙ sym alike.left;
+        answered = sym answers.told ∙ sym (own_total (λ e. e.answers) refl);
+        unborn = omega (arith, told.counts.unborn, own_total (λ e. e.given) refl, own_total (λ e. e.born) refl, own_total (λ e. e.taken) refl);
+      }
+
+pub each_seat_is_as_told : EachSeatIsAsTold
+unfolding EachSeatIsAsTold
+each_seat_is_as_told heap state book number rule here = as_told heap state book number rule here

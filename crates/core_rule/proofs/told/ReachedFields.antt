@@ -1,0 +1,95 @@
+-- What a call has reached is of the object that its register holds.
+use Rattle.std.specs.Prelude.{if◌then◌else◌}
+use Rattle.std.proofs.Common.{◌≡◌, ℕ, ◌%◌, ◌<◌, refl, sym, ap, ◌∙◌, subst, arith}
+use Rattle.heap_model.specs.account.Cycles.{graph_of}
+use Rattle.heap_model.specs.declared.heap.Heap.{Heap}
+use Rattle.heap_model.specs.graph.Graph.{Graph, Node}
+use Rattle.core_machine.specs.declared.place.Access.{Access}
+use Rattle.core_machine.specs.declared.place.Access.TheVariants.{LoadingMeta, Walking, Locating, Indexing, Getting, Naming, LoadingOld, ShadingOld, ShadingNew, Swapping}
+use Rattle.core_machine.specs.declared.place.Place.{Place}
+use Rattle.core_machine.specs.declared.place.Place.TheVariants as places
+use Rattle.core_machine.specs.machine.Machine.{State, seat_at}
+use Rattle.core_machine.specs.seat.Access.{part_of}
+use Rattle.core_machine.specs.seat.Commands.{field_of}
+use Rattle.core_machine.specs.seat.Fits.{FitsWay}
+use Rattle.core_machine.specs.seat.FitsAccess.{FitsAccess}
+use Rattle.core_machine.specs.seat.Seat.{Seat}
+use Rattle.core_rule.specs.Book.{Book, fragment_at}
+use Rattle.core_rule.specs.Flight.{WhileAccess}
+use Rattle.core_rule.specs.Objects.{node_at}
+use Rattle.core_rule.specs.Registers.{IsAwaited}
+use Rattle.core_rule.specs.Rule.{Rule}
+use Rattle.core_rule.specs.Owners.{Kept}
+use Rattle.core_rule.specs.Reached.{IsOnObject, ReachesObject, ReachesArray, ReachesRow, IsFieldPlace, ReachesOwn}
+use Rattle.core_rule.specs.Ways.{AccessStands, WayStands, Finds, Locates, SetsOut, OnWay}
+use Rattle.core_rule.proofs.entries.AtRest.{seat_fits, none_awaited}
+use Rattle.core_rule.proofs.ways.AtObject.{way_object}
+use Rattle.core_rule.proofs.ways.KeptWords.{row_ahead}
+
+module _ (heap : Heap) (state : State) (book : Book) (number : ℕ) (rule : Rule heap state book) (here : number < heap.seats) where
+  abbrev seat : Seat
+  seat = seat_at state number
+
+  abbrev g : Graph
+  g = graph_of heap book.history
+
+  abbrev nodes : ℕ → Node
+  nodes = node_at g book.made
+
+  -- what was reached on the way to an object's row is of the object that the register holds
+  on_object : (place : Access) → seat.place ≡ places.Access place → ((d r : ℕ) → ¬ IsAwaited (places.Access place) d r) → (index row : ℕ) → OnWay book.made book.owner book.fragments seat index row
+      → book.owner (fragment_at (book.fragments index) row) ≡ Kept index row → IsOnObject heap book number seat index row
+  on_object place is free index row way owned = record {
+    below = way.below;
+    holds = way.holds;
+    held = way_object heap state book number rule here place is (λ d r. none_awaited seat.place (places.Access place) d r is (free d r)) index row way;
+    owned = ap book.owner way.here ∙ owned;
+    in_order = way.here;
+  }
+
+  -- the first fragment
+  at_object : seat.place ≡ places.Access LoadingMeta → SetsOut book.made book.owner book.fragments seat → ReachesObject heap book number seat
+  at_object is out = record { object = out.index; on = on_object LoadingMeta is (λ d r e. e) out.index 0 out.way out.way.kept }
+
+  -- that of an array
+  at_array : (place : Access) → seat.place ≡ places.Access place → ((d r : ℕ) → ¬ IsAwaited (places.Access place) d r) → Locates nodes book.made book.owner book.fragments seat → ReachesArray heap book number seat
+  at_array place is free locates = record {
+    object = locates.index;
+    on = on_object place is free locates.index 0 locates.way locates.way.kept;
+    an_array = locates.an_array;
+    field = record { within = locates.within; part_is = locates.there ∙ ap (λ array. if array then field_of seat.command % 4 else part_of (field_of seat.command)) (sym locates.an_array) };
+  }
+
+  -- a row before the field's, or that
+  at_row : (place : Access) → seat.place ≡ places.Access place → ((d r : ℕ) → ¬ IsAwaited (places.Access place) d r) → Finds nodes book.made book.owner book.fragments seat → ReachesRow heap book number seat seat.links
+  at_row place is free finds =
+      let ahead = row_ahead heap state.words g book.made book.owner book.fragments rule.machine.limits rule.heap_stands.control_words rule.heap_stands.ids rule.heap_stands.objects seat finds in
+      record {
+        object = finds.index;
+        row = finds.row;
+        on = on_object place is free finds.index finds.row finds.way ((rule.heap_stands.objects.kept finds.index finds.way.below finds.way.kept).owned finds.row (omega (arith, ahead)));
+        field = record { within = finds.field.within; part_is = finds.field.there };
+        ahead = finds.field.leads;
+      }
+
+  at_field : (place : Access) → seat.place ≡ places.Access place → ((d r : ℕ) → ¬ IsAwaited (places.Access place) d r) → seat.links ≡ 0 → Finds nodes book.made book.owner book.fragments seat → IsFieldPlace heap book number seat
+  at_field place is free arrived finds = subst (ReachesRow heap book number seat) arrived (at_row place is free finds)
+
+  reaches_in : (place : Access) → seat.place ≡ places.Access place → FitsAccess seat place → AccessStands nodes book.made book.owner book.fragments seat place → ReachesOwn heap book number seat place
+  reaches_in LoadingMeta is fits way = at_object is way
+  reaches_in Walking is fits way = at_row Walking is (λ d r e. e) way
+  reaches_in Locating is fits way = at_array Locating is (λ d r e. e) way
+  reaches_in Indexing is fits way = at_array Indexing is (λ d r e. e) way
+  reaches_in Getting is fits way = at_field Getting is (λ d r e. e) fits.0.2.arrived way
+  reaches_in Naming is fits way = tt
+  reaches_in LoadingOld is fits way = at_field LoadingOld is (λ d r e. e) fits.0.2.arrived way
+  reaches_in ShadingOld is fits way = at_field ShadingOld is (λ d r e. e) fits.0.2.arrived way.0
+  reaches_in ShadingNew is fits way = at_field ShadingNew is (λ d r e. e) fits.0.2.arrived way.0
+  reaches_in Swapping is fits way = at_field Swapping is (λ d r e. e) fits.0.2.arrived way.0
+
+  reaches_at : (place : Place) → seat.place ≡ place → FitsWay seat place → WayStands nodes book.made book.owner book.fragments seat place → WhileAccess (ReachesOwn heap book number seat) place
+  reaches_at (places.Access place) is fits way = reaches_in place is fits way
+  reaches_at place is fits way = tt
+
+  pub reaches_own : WhileAccess (ReachesOwn heap book number seat) seat.place
+  reaches_own = reaches_at seat.place refl (seat_fits rule number here).way_at_place (rule.seats_stand number here).names.way
