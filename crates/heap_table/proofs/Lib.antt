@@ -11,3 +11,4 @@ pub mod OpeningHolders
 pub mod SeatHolders
 pub mod CollectorHolders
 pub mod Histories
+pub mod MadeSteps

@@ -10,3 +10,4 @@ pub mod SeatHeld
 pub mod CollectorHeld
 pub mod Opened
 pub mod Closed
+pub mod Made

@@ -3,6 +3,7 @@ ghost use Rattle.std.specs.Arc.{arc_value};
 ghost use Rattle.core_machine.specs.Moves.{due_step};
 ghost use Rattle.core_machine.specs.machine.Machine.{MayBegin, MayBeginInner, after_begin, after_inner_begin};
 ghost use Rattle.heap_table.specs.Quiet.{is_quiet};
+ghost use Rattle.heap_table.specs.Made.{IsSound};
 ghost use Rattle.heap_table.specs.SeatHeld.{KeepsSeat, IsStepped};
 ghost use Rattle.heap_table.specs.Told.{ToldAtStep};
 ghost use Rattle.heap_table.specs.Views.{seat_view};
@@ -101,7 +102,8 @@ impl<L: Entries> Holder<L> {
 
     /// What is kept of the seat.
     pub fn party(&self) -> &SeatParty<L>
-        ensures { (result.now.seat ≡ self.now.seat) }
+        ensures seat { result.now.seat ≡ self.now.seat }
+        ensures sound { IsSound self.now }
     {
         &self.party
     }

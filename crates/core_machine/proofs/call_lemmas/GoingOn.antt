@@ -26,7 +26,7 @@ use Rattle.core_machine.proofs.call_lemmas.Restoring.{claims_none}
 use Rattle.core_machine.proofs.call_lemmas.Stages.{WhileGathering, WhileReturning, WhileMaking, AloneStage}
 
 -- each group is passed when as many were claimed as there are
-every_group : (groups cursor tried g : ℕ) (P : ℕ → Type 0) → cursor < groups → groups ≤ tried → g < groups
+pub every_group : (groups cursor tried g : ℕ) (P : ℕ → Type 0) → cursor < groups → groups ≤ tried → g < groups
     → ((i : ℕ) → i < tried → P ((cursor + i) % groups)) → P g
 every_group groups cursor tried g P c t within passed =
     elim (leb_tells cursor g) as (λ _. P g) [

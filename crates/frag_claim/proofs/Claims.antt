@@ -1,0 +1,208 @@
+-- The two loops of a gather: claims, and give backs of what was claimed.
+use Rattle.std.proofs.Common.{◌≡◌, ℕ, ◌+◌, ◌*◌, ◌<◌, ◌≤◌, true, false, List, [], ◌∷◌, ◌++◌, length, Option, Some, None, refl, sym, ap, subst, ◌∙◌, arith}
+use Rattle.std.proofs.lemmas.List.Filters.{length-filter_both}
+use Rattle.heap_model.specs.declared.command.Command.{Command}
+use Rattle.heap_model.specs.declared.heap.Heap.{Heap}
+use Rattle.core_machine.specs.Moves.{move_at, due_step, seat_after_due, takes_some, give_back_move}
+use Rattle.core_machine.specs.declared.place.Making.TheVariants.{Gathering, Returning, Refusing, Placing, Storing}
+use Rattle.core_machine.specs.declared.place.Place.{Place}
+use Rattle.core_machine.specs.declared.place.Place.TheVariants as places
+use Rattle.core_machine.specs.declared.step.Step.{Step}
+use Rattle.core_machine.specs.seat.Commands.{IsArrayCall}
+use Rattle.core_machine.specs.seat.Fits.{FitsPlace}
+use Rattle.core_machine.specs.seat.Making.{next_group_of, first_group_of, settled_place, after_gather, gather_next, after_give_back}
+use Rattle.core_machine.specs.seat.Seat.{Seat, need, with_entries}
+use Rattle.core_machine.specs.table.Fragments.{in_group, out_of_group, part_in, part_out, clear_in}
+use Rattle.core_machine.proofs.call_lemmas.Owes.{owes, owes_making, steps_left}
+use Rattle.core_machine.proofs.seat_lemmas.Fitting.{goes_on_cases, returning_cases, settled_cases}
+use Rattle.heap_table.specs.Made.{Made, MakesSteps, IsSound}
+use Rattle.heap_table.specs.SeatHeld.{SeatHeld, IsStepped}
+use Rattle.heap_table.specs.Told.{ToldAtStep}
+use Rattle.heap_table.proofs.MadeSteps.{makes_none, makes_append, makes_one, step_nears}
+use Rattle.frag_claim.specs.Begins.{BeginsGathering}
+use Rattle.frag_claim.specs.Due.{due_of_claims, due_of_returns, IsReturning, has_its_fragments}
+use Rattle.frag_claim.specs.Gathered.{EndsClaiming}
+
+-- the places of claims and those to which they lead
+abbrev pub StandsClaiming : Command → Place → Type 0
+StandsClaiming command (places.Making Gathering) = Unit {0}
+StandsClaiming command (places.Making Returning) = Unit {0}
+StandsClaiming command (places.Making Refusing) = Unit {0}
+StandsClaiming command (places.Making Placing) = IsArrayCall command
+StandsClaiming command (places.Making Storing) = IsArrayCall command → ⊥
+StandsClaiming command _ = ⊥
+
+-- a seat that has claimed and given back nothing
+abbrev HasClaims : Seat → Type 0
+HasClaims seat = StandsClaiming seat.command seat.place × (seat.given ≡ 0) × (seat.stored ≡ 0)
+
+-- it goes on so
+goes_claiming : (heap : Heap) (seat : Seat) → seat.given ≡ 0 → seat.stored ≡ 0 → HasClaims (gather_next heap seat)
+goes_claiming heap seat given stored =
+    goes_on_cases HasClaims heap seat
+    (λ enough. (settled_cases (λ m. StandsClaiming seat.command (places.Making m)) seat.command (λ an_array. an_array) (λ other. other), given, stored))
+    (λ lacks left. (tt, given, stored))
+    (λ lacks all. (returning_cases (λ m. StandsClaiming seat.command (places.Making m)) seat.hand (λ none. tt) (λ some. tt), given, stored))
+
+-- where it has claimed nothing it has room
+goes_with_room : (heap : Heap) (seat : Seat) → seat.hand ≡ [] → owes (gather_next heap seat) ≤ 2 * need seat + 2
+goes_with_room heap seat empty =
+    goes_on_cases (λ s. owes s ≤ 2 * need seat + 2) heap seat
+    (λ enough. settled_cases (λ m. owes_making (after_gather heap seat) m ≤ 2 * need seat + 2) seat.command (λ an_array. omega arith) (λ other. omega arith))
+    (λ lacks left. omega arith)
+    (λ lacks all. returning_cases (λ m. owes_making (record seat { place = places.Making m }) m ≤ 2 * need seat + 2) seat.hand (λ none. omega arith)
+    (λ some. absurd (omega (arith, some, ap (length {A = ℕ}) empty))))
+
+-- which step is of a part
+of_claims : (place : Place) (due : Option Step) (step : Step) → due_of_claims place due ≡ Some step → (place ≡ places.Making Gathering) × (due ≡ Some step)
+of_claims (places.Making Gathering) due step e = (refl, e)
+of_claims _ due step e = cc
+
+of_returns : (place : Place) (due : Option Step) (step : Step) → due_of_returns place due ≡ Some step → (place ≡ places.Making Returning) × (due ≡ Some step)
+of_returns (places.Making Returning) due step e = (refl, e)
+of_returns _ due step e = cc
+
+-- no step is due any more
+pub no_more : (due : Option Step) → ((step : Step) → due ≡ Some step → ⊥) → due ≡ None
+no_more None none = refl
+no_more (Some step) none = absurd (none step refl)
+
+-- a holder goes on by one step
+module _ (first now new : SeatHeld) (step : Step) (found : ℕ) (sound : IsSound now) (due : due_step now.heap now.number now.seat ≡ Some step)
+    (stepped : IsStepped now new found) (told : ToldAtStep now.heap now.number now.seat found) where
+  nears : (steps_left now.heap new.seat < steps_left now.heap now.seat) × (owes new.seat + length new.seat.mine ≤ owes now.seat + length now.seat.mine)
+  nears = step_nears now.heap now.number now.seat sound.limits (omega (arith, sound.within, sound.limits.seats_fit)) sound.fits step found new.seat due stepped.seat_is
+
+  pub step_falls : steps_left new.heap new.seat < steps_left now.heap now.seat
+  step_falls = subst (λ (h : Heap). steps_left h new.seat < steps_left now.heap now.seat) (sym stepped.heap_stays) nears.0
+
+  pub step_leaves_room : owes now.seat + 2 ≤ now.spare → owes new.seat + 2 ≤ new.spare
+  step_leaves_room room = omega (arith, room, nears.1, stepped.room_stays)
+
+  pub step_makes : (made : List Made) → MakesSteps first now made → MakesSteps first new (made ++ record { step = step; found = found } ∷ [])
+  step_makes made makes = makes_append first now new made (record { step = step; found = found } ∷ []) makes (makes_one now new step found due told stepped)
+
+-- while groups are claimed
+pub record WhileClaiming (first now : SeatHeld) : Type 0 where
+  pub made : List Made
+  pub makes : MakesSteps first now made
+  pub stands : StandsClaiming now.seat.command now.seat.place
+  pub none_given : now.seat.given ≡ 0
+  pub none_stored : now.seat.stored ≡ 0
+  pub room : owes now.seat + 2 ≤ now.spare
+
+pub claims_begin : (held : SeatHeld) (reserve : List ℕ) (cursor need_ : ℕ) → BeginsGathering held reserve cursor need_ → 2 * need_ + 4 ≤ held.spare → WhileClaiming held held
+claims_begin held reserve cursor need_ begins room =
+    let start = goes_claiming held.heap begins.before begins.rests.none_given begins.rests.none_stored in
+    let has : HasClaims held.seat = subst HasClaims (sym begins.goes_on) start in
+    let owed : owes held.seat ≤ 2 * need_ + 2 = subst (λ (s : Seat). owes s ≤ 2 * need_ + 2) (sym begins.goes_on)
+    (subst (λ (n : ℕ). owes (gather_next held.heap begins.before) ≤ 2 * n + 2) begins.need_is (goes_with_room held.heap begins.before begins.rests.empty_hand)) in
+    record { made = []; makes = makes_none held; stands = has.0; none_given = has.1; none_stored = has.2; room = at_most (owes held.seat) need_ held.spare owed room }
+  where
+    at_most : (owed n spare : ℕ) → owed ≤ 2 * n + 2 → 2 * n + 4 ≤ spare → owed + 2 ≤ spare
+    at_most owed n spare a b = omega arith
+
+pub claims_on : (first now new : SeatHeld) (step : Step) (found : ℕ) → IsSound now → WhileClaiming first now → due_of_claims now.seat.place (due_step now.heap now.number now.seat) ≡ Some step
+    → IsStepped now new found → ToldAtStep now.heap now.number now.seat found → WhileClaiming first new × (steps_left new.heap new.seat < steps_left now.heap now.seat)
+claims_on first now new step found sound while is stepped told =
+    let at = of_claims now.seat.place (due_step now.heap now.number now.seat) step is in
+    let group = next_group_of now.heap now.seat in
+    let next : Seat = record now.seat { hand = now.seat.hand ++ clear_in group found; tried = now.seat.tried + 1 } in
+    let claimed : new.seat ≡ with_entries (gather_next now.heap next) (takes_some now.number (length (clear_in group found))) =
+    stepped.seat_is ∙ ap (λ (p : Place). seat_after_due now.seat (move_at now.heap now.number now.seat p) found) at.0 in
+    let has : HasClaims new.seat = subst HasClaims (sym claimed) (goes_claiming now.heap next while.none_given while.none_stored) in (
+      record {
+        made = while.made ++ record { step = step; found = found } ∷ [];
+        makes = step_makes first now new step found sound at.1 stepped told while.made while.makes;
+        stands = has.0;
+        none_given = has.1;
+        none_stored = has.2;
+        room = step_leaves_room first now new step found sound at.1 stepped told while.room;
+      },
+      step_falls first now new step found sound at.1 stepped told,
+    )
+
+-- once no claim is due
+module _ (held : SeatHeld) (sound : IsSound held) (none : due_of_claims held.seat.place (due_step held.heap held.number held.seat) ≡ None) where
+  -- at each place
+  abbrev EndsAt : Place → Type 0
+  EndsAt place = (has_its_fragments place ≡ true → place ≡ places.Making (settled_place held.seat.command)) × (has_its_fragments place ≡ false → IsReturning place)
+      × (3 ≤ held.spare) × (has_its_fragments place ≡ false → length held.seat.hand + 3 ≤ held.spare)
+
+  settled_of : (command : Command) → IsArrayCall command → settled_place command ≡ Placing
+  settled_of command an_array = settled_cases (λ m. m ≡ Placing) command (λ e. refl) (λ other. absurd (other an_array))
+
+  stored_of : (command : Command) → (IsArrayCall command → ⊥) → settled_place command ≡ Storing
+  stored_of command other = settled_cases (λ m. m ≡ Storing) command (λ an_array. absurd (other an_array)) (λ e. refl)
+
+  ends_at : (place : Place) → held.seat.place ≡ place → StandsClaiming held.seat.command place → Rattle.core_machine.proofs.call_lemmas.Owes.owes_at held.seat place + 2 ≤ held.spare → EndsAt place
+  ends_at (places.Making Gathering) is stands room =
+      absurd (some_due (ap (λ (p : Place). due_of_claims p (due_step held.heap held.number held.seat)) (sym is) ∙ none) (ap (λ (p : Place). Rattle.std.specs.Prelude.option_map (λ (m : Rattle.core_machine.specs.Moves.Move). m.step) (move_at held.heap held.number held.seat p)) is))
+    where
+      some_due : {step : Step} → due_step held.heap held.number held.seat ≡ None → due_step held.heap held.number held.seat ≡ Some step → ⊥
+      some_due a b = cc
+  ends_at (places.Making Returning) is stands room = (λ e. cc, λ e. tt, omega (arith, room), λ e. omega (arith, room))
+  ends_at (places.Making Refusing) is stands room =
+      let fits : FitsPlace held.heap held.seat (places.Making Refusing) = subst (FitsPlace held.heap held.seat) is sound.fits.at_place in
+      (λ e. cc, λ e. tt, omega (arith, room), λ e. omega (arith, room, ap (length {A = ℕ}) fits.1))
+  ends_at (places.Making Placing) is stands room = (λ e. ap places.Making (sym (settled_of held.seat.command stands)), λ e. cc, omega (arith, room), λ e. cc)
+  ends_at (places.Making Storing) is stands room = (λ e. ap places.Making (sym (stored_of held.seat.command stands)), λ e. cc, omega (arith, room), λ e. cc)
+  ends_at _ is stands room = absurd stands
+
+  pub claims_end : (first : SeatHeld) → WhileClaiming first held → EndsClaiming held
+  claims_end first while =
+      let ends = ends_at held.seat.place refl while.stands while.room in
+      record { settled = ends.0; returning = ends.1; none_given = while.none_given; none_stored = while.none_stored; room = ends.2; room_to_return = ends.3 }
+
+-- while what was claimed is given back
+pub record WhileReturning (first now : SeatHeld) : Type 0 where
+  pub made : List Made
+  pub makes : MakesSteps first now made
+  pub stands : IsReturning now.seat.place
+  pub all : length now.seat.hand + now.seat.given ≡ length first.seat.hand + first.seat.given
+  pub room : owes now.seat + 2 ≤ now.spare
+
+returning_room : (seat : Seat) (place : Place) (spare : ℕ) → seat.place ≡ place → IsReturning place → length seat.hand + 3 ≤ spare → owes seat + 2 ≤ spare
+returning_room seat (places.Making Returning) spare is stands room = subst (λ (p : Place). Rattle.core_machine.proofs.call_lemmas.Owes.owes_at seat p + 2 ≤ spare) (sym is) (omega (arith, room))
+returning_room seat (places.Making Refusing) spare is stands room = subst (λ (p : Place). Rattle.core_machine.proofs.call_lemmas.Owes.owes_at seat p + 2 ≤ spare) (sym is) (omega (arith, room))
+returning_room seat _ spare is stands room = absurd stands
+
+pub returns_begin : (held : SeatHeld) → IsReturning held.seat.place → length held.seat.hand + 3 ≤ held.spare → WhileReturning held held
+returns_begin held stands room = record { made = []; makes = makes_none held; stands = stands; all = refl; room = returning_room held.seat held.seat.place held.spare refl stands room }
+
+pub returns_on : (first now new : SeatHeld) (step : Step) (found : ℕ) → IsSound now → WhileReturning first now → due_of_returns now.seat.place (due_step now.heap now.number now.seat) ≡ Some step
+    → IsStepped now new found → ToldAtStep now.heap now.number now.seat found → WhileReturning first new × (steps_left new.heap new.seat < steps_left now.heap now.seat)
+returns_on first now new step found sound while is stepped told =
+    let at = of_returns now.seat.place (due_step now.heap now.number now.seat) step is in
+    let group = first_group_of now.seat.hand in
+    let given : new.seat ≡ with_entries (after_give_back now.seat) ((give_back_move now.number now.seat).adds found) =
+    stepped.seat_is ∙ ap (λ (p : Place). seat_after_due now.seat (move_at now.heap now.number now.seat p) found) at.0 in
+    let both = length-filter_both (in_group group) (out_of_group group) (λ f. refl) now.seat.hand in
+    let stands : IsReturning (after_give_back now.seat).place = returning_cases (λ m. IsReturning (places.Making m)) (part_out group now.seat.hand) (λ none. tt) (λ some. tt) in
+    let all : length (part_out group now.seat.hand) + (now.seat.given + length (part_in group now.seat.hand)) ≡ length first.seat.hand + first.seat.given = omega (arith, both, while.all) in (
+      record {
+        made = while.made ++ record { step = step; found = found } ∷ [];
+        makes = step_makes first now new step found sound at.1 stepped told while.made while.makes;
+        stands = subst (λ (s : Seat). IsReturning s.place) (sym given) stands;
+        all = subst (λ (s : Seat). length s.hand + s.given ≡ length first.seat.hand + first.seat.given) (sym given) all;
+        room = step_leaves_room first now new step found sound at.1 stepped told while.room;
+      },
+      step_falls first now new step found sound at.1 stepped told,
+    )
+
+-- once none is due all was given back
+pub returns_end : (first held : SeatHeld) → IsSound held → WhileReturning first held → due_of_returns held.seat.place (due_step held.heap held.number held.seat) ≡ None
+    → (held.seat.place ≡ places.Making Refusing) × (held.seat.given ≡ length first.seat.hand + first.seat.given) × (3 ≤ held.spare)
+returns_end first held sound while none = ends held.seat.place refl while.stands while.room
+  where
+    some_due : {step : Step} → due_step held.heap held.number held.seat ≡ None → due_step held.heap held.number held.seat ≡ Some step → ⊥
+    some_due a b = cc
+
+    ends : (place : Place) → held.seat.place ≡ place → IsReturning place → Rattle.core_machine.proofs.call_lemmas.Owes.owes_at held.seat place + 2 ≤ held.spare
+        → (place ≡ places.Making Refusing) × (held.seat.given ≡ length first.seat.hand + first.seat.given) × (3 ≤ held.spare)
+    ends (places.Making Returning) is stands room =
+        absurd (some_due (ap (λ (p : Place). due_of_returns p (due_step held.heap held.number held.seat)) (sym is) ∙ none) (ap (λ (p : Place). Rattle.std.specs.Prelude.option_map (λ (m : Rattle.core_machine.specs.Moves.Move). m.step) (move_at held.heap held.number held.seat p)) is))
+    ends (places.Making Refusing) is stands room =
+        let fits : FitsPlace held.heap held.seat (places.Making Refusing) = subst (FitsPlace held.heap held.seat) is sound.fits.at_place in
+        (refl, omega (arith, while.all, ap (length {A = ℕ}) fits.1), omega (arith, room))
+    ends _ is stands room = absurd stands

@@ -1,0 +1,9 @@
+use Rattle.core_machine.proofs.call_lemmas.Owes.{steps_left}
+use Rattle.frag_claim.proofs.Claims.{WhileClaiming}
+use Rattle.frag_claim.proofs.gathering.claim_groups.Given as goal
+
+abbrev pub invariant-loop-step : goal.invariant-loop-step
+invariant-loop-step g l = WhileClaiming l.fn.holder l.holder
+
+abbrev pub decreases-loop-step : goal.decreases-loop-step
+decreases-loop-step g l = steps_left l.holder.heap l.holder.seat

@@ -1,0 +1,34 @@
+-- Which due steps are of a part, by the place.
+use Rattle.std.specs.Prelude.{Bool, true, false, Option, None}
+use Rattle.core_machine.specs.declared.place.Leaving.TheVariants.{Emptying}
+use Rattle.core_machine.specs.declared.place.Making.TheVariants.{Gathering, Returning, Refusing, Placing, Storing}
+use Rattle.core_machine.specs.declared.place.Place.{Place}
+use Rattle.core_machine.specs.declared.place.Place.TheVariants.{Making, Leaving}
+use Rattle.core_machine.specs.declared.step.Step.{Step}
+
+-- a claim
+abbrev pub due_of_claims : Place → Option Step → Option Step
+due_of_claims (Making Gathering) due = due
+due_of_claims _ due = None
+
+-- a give back of what was claimed
+abbrev pub due_of_returns : Place → Option Step → Option Step
+due_of_returns (Making Returning) due = due
+due_of_returns _ due = None
+
+-- the give back of a reserve
+abbrev pub due_of_emptying : Place → Option Step → Option Step
+due_of_emptying (Leaving Emptying) due = due
+due_of_emptying _ due = None
+
+-- what was claimed is given back, or all was
+abbrev pub IsReturning : Place → Type 0
+IsReturning (Making Returning) = Unit {0}
+IsReturning (Making Refusing) = Unit {0}
+IsReturning _ = ⊥
+
+-- the object has its fragments, and none of its words is stored
+abbrev pub has_its_fragments : Place → Bool
+has_its_fragments (Making Placing) = true
+has_its_fragments (Making Storing) = true
+has_its_fragments _ = false

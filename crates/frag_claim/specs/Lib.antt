@@ -1,0 +1,4 @@
+pub mod Begins
+pub mod Due
+pub mod Emptied
+pub mod Gathered

@@ -1,0 +1,120 @@
+-- Steps that a seat has made: they go on by one more, one list of them behind another, and the call stands after them as it is to.
+use Rattle.std.proofs.Common.{suc, ◌≡◌, ℕ, ◌+◌, ◌<◌, ◌≤◌, List, [], ◌∷◌, ◌++◌, length, Option, Some, None, refl, sym, ap, subst, ◌∙◌, append-nil, append_assoc, length-append, arith}
+use Rattle.std.specs.Prelude.{IfSome, option_map, replicate}
+use Rattle.std.proofs.lemmas.List.{get_or_push, length-replicate}
+use Rattle.heap_model.specs.Heap.{IsHeap}
+use Rattle.heap_model.specs.declared.command.Command.{Command}
+use Rattle.heap_model.specs.declared.entry.Entry.{Entry}
+use Rattle.heap_model.specs.declared.heap.Heap.{Heap}
+use Rattle.core_machine.specs.declared.step.Step.{Step}
+use Rattle.core_machine.specs.declared.table.address.Address.{Address}
+use Rattle.core_machine.specs.Moves.{Move, next_move, due_step, seat_after_due}
+use Rattle.core_machine.specs.calls.OwnStage.{OwnStage}
+use Rattle.core_machine.specs.collector.Collector.{opening_collector}
+use Rattle.core_machine.specs.machine.Machine.{State}
+use Rattle.core_machine.specs.seat.Fits.{Fits}
+use Rattle.core_machine.specs.seat.Seat.{Seat}
+use Rattle.core_machine.specs.table.Layout.{at, index_of}
+use Rattle.core_machine.specs.table.Operation.{address_of}
+use Rattle.core_machine.proofs.call_lemmas.Owes.{owes, steps_left}
+use Rattle.core_machine.proofs.moves.{move_stands}
+use Rattle.core_machine.proofs.moves.Standing.{MoveStands}
+use Rattle.core_machine.proofs.own_stages.{own_leads}
+use Rattle.heap_table.specs.Begun.{next_seat}
+use Rattle.heap_table.specs.Made.{Made, FoundIn, LeadsTo, MakesSteps}
+use Rattle.heap_table.specs.SeatHeld.{SeatHeld, IsStepped}
+use Rattle.heap_table.specs.Told.{ToldAtStep}
+use Rattle.heap_table.proofs.SeatSteps.{at_is}
+
+-- steps behind other steps
+pub leads_append : (heap : Heap) (number : ℕ) (first mid last : Seat) (made more : List Made) → LeadsTo heap number first made mid → LeadsTo heap number mid more last
+    → LeadsTo heap number first (made ++ more) last
+leads_append heap number first mid last [] more here there = subst (λ (s : Seat). LeadsTo heap number s more last) here there
+leads_append heap number first mid last (m ∷ made) more here there = (here.0, here.1, leads_append heap number (next_seat heap number first m.found) mid last made more here.2 there)
+
+-- a holder that has made no step yet
+pub makes_none : (held : SeatHeld) → MakesSteps held held []
+makes_none held = record { table_stays = refl; heap_stays = refl; number_stays = refl; leads = refl; room_stays = omega arith }
+
+-- and one that makes one list of steps behind another
+pub makes_append : (first mid last : SeatHeld) (made more : List Made) → MakesSteps first mid made → MakesSteps mid last more → MakesSteps first last (made ++ more)
+makes_append first mid last made more one two = record {
+  table_stays = two.table_stays ∙ one.table_stays;
+  heap_stays = two.heap_stays ∙ one.heap_stays;
+  number_stays = two.number_stays ∙ one.number_stays;
+  leads = leads_append first.heap first.number first.seat mid.seat last.seat made more one.leads
+      (subst (λ (n : ℕ). LeadsTo first.heap n mid.seat more last.seat) one.number_stays (subst (λ (h : Heap). LeadsTo h mid.number mid.seat more last.seat) one.heap_stays two.leads));
+  room_stays = omega (arith, one.room_stays, two.room_stays);
+}
+
+-- one step alone
+pub makes_one : (old new : SeatHeld) (step : Step) (found : ℕ) → due_step old.heap old.number old.seat ≡ Some step → ToldAtStep old.heap old.number old.seat found → IsStepped old new found
+    → MakesSteps old new (record { step = step; found = found } ∷ [])
+makes_one old new step found due told stepped = record {
+  table_stays = stepped.table_stays;
+  heap_stays = stepped.heap_stays;
+  number_stays = stepped.number_stays;
+  leads = (due, told, stepped.seat_is);
+  room_stays = stepped.room_stays;
+}
+
+-- each of the steps is one of these and those
+pub found_more : (made : List Made) (m : Made) (step : Step) (word : ℕ) → FoundIn made step word → FoundIn (m ∷ made) step word
+found_more made m step word there = let inside = there.1 in (suc there.0, omega arith, there.2)
+
+pub found_first : (made : List Made) (m : Made) → FoundIn (m ∷ made) m.step m.found
+found_first made m = (0, omega arith, refl)
+
+-- some words have this one at an address
+some_words : (heap : Heap) (a : Address) (found : ℕ) → (words : List ℕ) × (at heap words a ≡ found)
+some_words heap a found =
+    let before : List ℕ = replicate (index_of heap a) 0 in
+    (before ++ found ∷ [], at_is heap (before ++ found ∷ []) a ∙ get_or_push before found 0 (index_of heap a) (length-replicate (index_of heap a) 0))
+
+-- the move that is due
+module _ (heap : Heap) (number : ℕ) (seat : Seat) (limits : IsHeap heap) (few : number < 16) (fits : Fits heap seat) where
+  of_move : (move : Option Move) (step : Step) → option_map (λ (m : Move). m.step) move ≡ Some step → (m : Move) × (move ≡ Some m) × (m.step ≡ step)
+  of_move None step due = cc
+  of_move (Some m) step due = (m, refl, cc)
+
+  near_by : (move : Option Move) (step : Step) (found : ℕ) (next : Seat) → option_map (λ (m : Move). m.step) move ≡ Some step → IfSome move (MoveStands heap number seat seat.place)
+      → next ≡ seat_after_due seat move found → (steps_left heap next < steps_left heap seat) × (owes next + length next.mine ≤ owes seat + length seat.mine)
+  near_by None step found next due stands same = cc
+  near_by (Some m) step found next due stands same =
+      let near = stands.near found in
+      let words = some_words heap (address_of m.step) found in
+      let now : State = record { words = words.0; seats = []; collector = opening_collector } in
+      let kept : (m.told found).mine ≡ seat.mine = subst (λ (n : ℕ). (m.told n).mine ≡ seat.mine) words.1 (stands.adds now).kept in
+      let long = length-append (m.told found).mine (m.adds found) in
+      subst (λ (s : Seat). (steps_left heap s < steps_left heap seat) × (owes s + length s.mine ≤ owes seat + length seat.mine)) (sym same)
+      (near.fewer, omega (arith, near.paid, long, ap (length {A = Entry}) kept))
+
+  -- by it fewer steps are left, and no more entries are added than were owed
+  pub step_nears : (step : Step) (found : ℕ) (next : Seat) → due_step heap number seat ≡ Some step → next ≡ next_seat heap number seat found
+      → (steps_left heap next < steps_left heap seat) × (owes next + length next.mine ≤ owes seat + length seat.mine)
+  step_nears step found next due is = near_by (next_move heap number seat) step found next due (move_stands heap number seat limits few fits) is
+
+  on_by : (tells : Step → ℕ → Type 0) (command : Command) (old : Seat) (told : List Entry) (move : Option Move) (step : Step) (found : ℕ) → next_move heap number seat ≡ move
+      → option_map (λ (m : Move). m.step) move ≡ Some step → tells step found → OwnStage tells heap number command old seat told
+      → (more : List Entry) × OwnStage tells heap number command old (seat_after_due seat move found) (told ++ more)
+  on_by tells command old told None step found next due tell stage = cc
+  on_by tells command old told (Some m) step found next due tell stage =
+      let same : m.step ≡ step = cc in
+      (m.adds found, own_leads tells heap number command old seat told m found limits few fits next (subst (λ (s : Step). tells s found) (sym same) tell) stage)
+
+  -- and the call stands after it as it is to, whatever word it found of which so much is told
+  pub stage_on : (tells : Step → ℕ → Type 0) (command : Command) (old : Seat) (told : List Entry) (step : Step) (found : ℕ) → due_step heap number seat ≡ Some step → tells step found
+      → OwnStage tells heap number command old seat told → (more : List Entry) × OwnStage tells heap number command old (next_seat heap number seat found) (told ++ more)
+  stage_on tells command old told step found due tell stage = on_by tells command old told (next_move heap number seat) step found refl due tell stage
+
+-- a call that stands so stands after all these steps as it is to, where so much is told of each of them
+pub stage_along : (tells : Step → ℕ → Type 0) (heap : Heap) (number : ℕ) (command : Command) (old : Seat) → IsHeap heap → number < 16
+    → (made : List Made) (seat new : Seat) (told : List Entry) → Fits heap seat → LeadsTo heap number seat made new → ((step : Step) (word : ℕ) → FoundIn made step word → tells step word)
+    → OwnStage tells heap number command old seat told → (more : List Entry) × OwnStage tells heap number command old new (told ++ more)
+stage_along tells heap number command old limits few [] seat new told fits leads tell stage =
+    ([], subst (λ (t : List Entry). OwnStage tells heap number command old new t) (sym (append-nil told)) (subst (λ (s : Seat). OwnStage tells heap number command old s told) (sym leads) stage))
+stage_along tells heap number command old limits few (m ∷ made) seat new told fits leads tell stage =
+    let on = stage_on heap number seat limits few fits tells command old told m.step m.found leads.0 (tell m.step m.found (found_first made m)) stage in
+    let rest = stage_along tells heap number command old limits few made (next_seat heap number seat m.found) new (told ++ on.0) leads.1.fits leads.2
+    (λ step word there. tell step word (found_more made m step word there)) on.1 in
+    (on.0 ++ rest.0, subst (λ (t : List Entry). OwnStage tells heap number command old new t) (append_assoc told on.0 rest.0) rest.1)
