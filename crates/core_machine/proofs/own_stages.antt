@@ -8,7 +8,10 @@ pub mod End
 pub mod Field
 pub mod Gather
 pub mod Inner
+pub mod InnerAnswer
+pub mod InnerLooks
 pub mod Leading
+pub mod Objects
 pub mod Once
 pub mod Sums
 pub mod Turns

@@ -14,13 +14,13 @@ use Rattle.core_machine.specs.Moves.{Move, next_move, due_step, seat_after}
 use Rattle.core_machine.specs.seat.Seat.{Seat, call_over}
 use Rattle.core_machine.proofs.call_lemmas.CallEnd.{StepsOn, steps_on, idle_from}
 use Rattle.core_machine.proofs.call_lemmas.CallRoom.{log_of_seat}
-use Rattle.core_machine.specs.calls.InnerStage.{IsInnerOver, InnerStageAt, OwnInnerStage}
+use Rattle.core_machine.specs.calls.InnerStage.{OwnInnerStage}
 use Rattle.core_machine.specs.calls.Kept.{kept_of}
 use Rattle.core_machine.specs.seat.Awaiting.{entries_awaited, entries_awaited_at}
 use Rattle.core_machine.proofs.call_lemmas.Calling.{mine_by, more_listed, found_due}
 use Rattle.core_machine.proofs.call_lemmas.InnerCalls.{IsOfStart, InnerAlone, InnerLeads, inner_alone, first_alone, inner_comes}
 use Rattle.core_machine.proofs.moves.Standing.{MoveStands}
-use Rattle.core_machine.proofs.own_stages.Inner.{inner_leads, inner_begins}
+use Rattle.core_machine.proofs.own_stages.Inner.{inner_leads, inner_begins, inner_ended}
 use Rattle.core_machine.specs.calls.Owes.{owes}
 use Rattle.core_machine.proofs.machine_lemmas.Runs.{runs_on, seat_at-set, machine_after, moves_stand}
 use Rattle.core_machine.proofs.moves.Collect.{inner_stands}
@@ -121,8 +121,7 @@ inner_over heap old now number inner playing none =
     let awaited : entries_awaited heap now.words number seat ≡ [] = ap (entries_awaited_at heap now.words number seat) idle in
     let told : playing.listed ≡ playing.told = append_cancel_left (seat_at old number).mine playing.listed playing.told
     (sym playing.own.mine ∙ sym (append-nil seat.mine) ∙ ap (λ (l : List Entry). seat.mine ++ l) (sym awaited) ∙ playing.mine) in
-    let over : IsInnerOver (IsOfStart heap old.words) number (kept_of (seat_at old number)) (kept_of seat) playing.listed inner =
-    subst (InnerStageAt (IsOfStart heap old.words) number inner (kept_of (seat_at old number)) seat playing.listed) idle playing.own.stage in
+    let over = inner_ended (IsOfStart heap old.words) number inner (seat_at old number) seat playing.listed playing.own idle in
     let comes = inner_comes heap old.words number (seat_at old number) seat playing.listed playing.resting (over_idle heap seat (playing.machine.fit number playing.within) idle) playing.own.same playing.own.mine inner over in
     record { steps = playing.steps; can = playing.can; ends = playing.ends; shown = playing.shows ∙ sym told ∙ comes.1; seat = comes.0 }
 
