@@ -1,0 +1,191 @@
+-- The collector's holder: its turn is allowed, and what it keeps true it keeps true after a turn and after a seat was folded in.
+use Rattle.std.proofs.Common.{zero, suc, ◌≡◌, ℕ, ◌+◌, ◌-◌, ◌<◌, ◌≤◌, ◌^◌, true, List, [], ◌∷◌, length, set, min, Option, Some, refl, sym, ap, subst, ◌∙◌, arith}
+use Rattle.std.specs.Prelude.{option_map}
+use Rattle.std.proofs.lemmas.List.{length-set}
+use Rattle.atomic_table.specs.Seated.{TableId}
+use Rattle.atomic_table.specs.Table.{Me, Allows, Joins}
+use Rattle.heap_model.specs.declared.calls.collector_calls.Turn.{Turn as TurnAnswer}
+use Rattle.heap_model.specs.declared.heap.Heap.{Heap}
+use Rattle.core_machine.specs.collector.Collector.{Collector, next_turn}
+use Rattle.core_machine.specs.collector.FitsTurns.{CollectorFits}
+use Rattle.core_machine.specs.declared.step.Step.{Step}
+use Rattle.core_machine.specs.declared.step.operation.Operation.{Operation}
+use Rattle.core_machine.specs.declared.step.operation.Operation.TheVariants.{Load, Store, Exchange, Or, And, Add, Subtract}
+use Rattle.core_machine.specs.machine.Value.{SeatWithRoom}
+use Rattle.core_machine.specs.seat.Seat.{Seat}
+use Rattle.core_machine.specs.table.Decode.{FoundPointsWithin}
+use Rattle.core_machine.specs.table.Layout.{index_of, HasWord}
+use Rattle.core_machine.specs.table.Operation.{address_of, operation_of, operation_result, word_after}
+use Rattle.core_machine.proofs.collector_lemmas.{turn_stands}
+use Rattle.heap_table.specs.CollectorHeld.{CollectorHeld, KeepsCollector, IsTurned, seats_in}
+use Rattle.heap_table.specs.Handing.{with_folded, folding_view}
+use Rattle.heap_table.specs.Holds.{Holds}
+use Rattle.heap_table.specs.Known.{CollectorKnown}
+use Rattle.heap_table.specs.Quiet.{is_quiet}
+use Rattle.heap_table.specs.Told.{next_collector, next_known, TurnHasWord, ToldAtTurn, Tells, TellsStored}
+use Rattle.heap_table.specs.Views.{seat_view, collector_view, known_by}
+use Rattle.heap_table.specs.declared.view.View.{View}
+use Rattle.heap_table.specs.declared.view.View.TheVariants.{Spent}
+use Rattle.heap_table.proofs.Folding.{folding_allowed}
+use Rattle.heap_table.proofs.Quiet.{quiet_collector, store_is_quiet}
+use Rattle.heap_table.proofs.Turns.{turn_allows, may_turn}
+
+-- what is told at the due turn of the collector whose view this is
+abbrev pub TurnTells : Heap → Me (Unit {0}) View → ℕ → Me (Unit {0}) View → Type 0
+TurnTells heap me = Tells (λ n. collector_view (next_known heap (known_by me.0) n)) (ToldAtTurn heap (known_by me.0).collector) me
+
+module _ (shared : TableId) (key : Heap) (mine : TableId) (me : Me (Unit {0}) View) (heap : Heap) (collector : Collector) (places : List (Option SeatWithRoom)) (folded : ℕ)
+    (keeps : KeepsCollector shared key mine me heap collector places folded) where
+  abbrev known : CollectorKnown
+  known = known_by me.0
+
+  -- the collector's data fit together
+  known_fits : CollectorFits heap known.collector
+  known_fits = subst (CollectorFits heap) (sym keeps.collector_is) keeps.fits
+
+  module _ (step : Step) (due : (next_turn heap known.collector).step ≡ step) where
+    -- the turn has its word
+    pub turn_word : HasWord heap (address_of step)
+    turn_word = subst (λ (s : Step). HasWord heap (address_of s)) (ap (λ (c : Collector). (next_turn heap c).step) (sym keeps.collector_is) ∙ due) keeps.has_word
+
+    -- the rule allows it
+    pub turn_allowed : (slots id room : ℕ) (key' : Heap) → slots ≡ shared.slots → key' ≡ key → 2 ≤ room → room + length collector.log < 2 ^ 64
+        → Allows (Holds key') slots id me (index_of heap (address_of step)) (word_after step) (TurnTells heap me)
+    turn_allowed slots id room key' slots_are key_is some_room within =
+        let may = may_turn heap known.collector known_fits (omega (arith, some_room, within, ap (λ (c : Collector). length c.log) keeps.collector_is)) in
+        let none_ : slots ≡ 0 = slots_are ∙ ap (λ (z : TableId). z.slots) (sym keeps.token.table) ∙ keeps.token.slots in
+        subst (λ (k : Heap). Allows (Holds k) slots id me (index_of heap (address_of step)) (word_after step) (TurnTells heap me)) (sym (key_is ∙ keeps.token.key_is))
+        (subst (λ (k : ℕ). Allows (Holds heap) k id me (index_of heap (address_of step)) (word_after step) (TurnTells heap me)) (sym none_)
+        (subst (λ (m : Me (Unit {0}) View). Allows (Holds heap) 0 id m (index_of heap (address_of step)) (word_after step) (Tells (λ n. collector_view (next_known heap known n)) (ToldAtTurn heap known.collector) m)) (sym keeps.token.knows)
+        (turn_allows heap known step due may keeps.unread id)))
+
+    -- of a store, it tells what goes with the word stored
+    stored_at : (operation : Operation) → operation_of step ≡ operation → TellsStored operation (TurnTells heap me)
+    stored_at Load is = tt
+    stored_at (Store word) is = λ found after tells.
+        let stores : operation_of (next_turn heap known.collector).step ≡ Store word = ap operation_of due ∙ is in
+        let same = quiet_collector heap known.collector found word (store_is_quiet (next_turn heap known.collector).step word stores) in
+        let stands = turn_stands heap known.collector keeps.token.limits known_fits in (
+          tells.0 ∙ ap (λ (c : Collector). (collector_view (record known { collector = c }), me.1)) same,
+          record {
+            leads = subst (λ (o : Operation). FoundPointsWithin heap (address_of (next_turn heap known.collector).step) (operation_result o found)) stores (stands.step.leads found tells.1.leads);
+            fits = subst (CollectorFits heap) same tells.1.fits;
+            has_word = subst (TurnHasWord heap) same tells.1.has_word;
+          },
+        )
+    stored_at (Exchange word) is = tt
+    stored_at (Or bits) is = tt
+    stored_at (And bits) is = tt
+    stored_at (Add k) is = tt
+    stored_at (Subtract k) is = tt
+
+    pub turn_stored : TellsStored (operation_of step) (TurnTells heap me)
+    turn_stored = stored_at (operation_of step) refl
+
+  -- what the holder keeps after the turn
+  pub keeps_turned : (mine' : TableId) (me' : Me (Unit {0}) View) (next : Collector) (found : ℕ) → mine' ≡ mine → TurnTells heap me found me' → next ≡ next_collector heap collector found
+      → KeepsCollector shared key mine' me' heap next places folded
+  keeps_turned mine' me' next found same tells is =
+      let known_is : known_by me'.0 ≡ next_known heap known found = ap (λ (m : Me (Unit {0}) View). known_by m.0) tells.0 in
+      let collector_is : (known_by me'.0).collector ≡ next = ap (λ (k : CollectorKnown). k.collector) known_is ∙ ap (λ (c : Collector). next_collector heap c found) keeps.collector_is ∙ sym is in
+      record {
+        token = record {
+          table = same ∙ keeps.token.table;
+          size = ap (λ (z : TableId). z.words) same ∙ keeps.token.size;
+          slots = ap (λ (z : TableId). z.slots) same ∙ keeps.token.slots;
+          key_is = keeps.token.key_is;
+          limits = keeps.token.limits;
+          knows = tells.0 ∙ ap (λ (m : Me (Unit {0}) View). (collector_view (next_known heap known found), m.1)) keeps.token.knows ∙ ap (λ (k : CollectorKnown). (collector_view k, [])) (sym known_is);
+        };
+        collector_is = collector_is;
+        seats_are = keeps.seats_are ∙ ap (λ (k : CollectorKnown). k.seats) (sym known_is);
+        a_place_each = keeps.a_place_each;
+        folded_is = ap (λ (k : CollectorKnown). k.folded) known_is ∙ keeps.folded_is;
+        unread = ap (λ (k : CollectorKnown). k.closed) known_is ∙ keeps.unread;
+        fits = subst (CollectorFits heap) (ap (λ (k : CollectorKnown). k.collector) (sym known_is) ∙ collector_is) tells.1.fits;
+        has_word = subst (TurnHasWord heap) (ap (λ (k : CollectorKnown). k.collector) (sym known_is) ∙ collector_is) tells.1.has_word;
+      }
+
+  -- what contracts see of the turn
+  pub is_turned : (mine' : TableId) (me' : Me (Unit {0}) View) (next : Collector) (found turns turns' room room' : ℕ) (value : CollectorHeld)
+      → record { table = mine; heap = heap; known = known; turns = turns; spare = room } ≡ value → mine' ≡ mine
+      → TurnTells heap me found me' → next ≡ next_collector heap collector found → turns' ≡ min (turns + 1) (2 ^ 64 - 1)
+      → room + length collector.log ≤ room' + length next.log → IsTurned value (record { table = mine'; heap = heap; known = known_by me'.0; turns = turns'; spare = room' }) found
+  is_turned mine' me' next found turns turns' room room' value view same tells is counted spent =
+      subst (λ (v : CollectorHeld). IsTurned v (record { table = mine'; heap = heap; known = known_by me'.0; turns = turns'; spare = room' }) found) view
+      record {
+        table_stays = same;
+        heap_stays = refl;
+        known_is = ap (λ (m : Me (Unit {0}) View). known_by m.0) tells.0;
+        counted = counted;
+        room_stays = subst (λ (l : ℕ). room + l ≤ room' + length (known_by me'.0).collector.log) (ap (λ (c : Collector). length c.log) (sym keeps.collector_is))
+            (subst (λ (c : Collector). room + length collector.log ≤ room' + length c.log)
+            (is ∙ ap (λ (c : Collector). next_collector heap c found) (sym keeps.collector_is) ∙ ap (λ (m : Me (Unit {0}) View). (known_by m.0).collector) (sym tells.0)) spent);
+      }
+
+  -- folding in a seat is allowed
+  pub fold_allowed : (id other number : ℕ) (seat : Seat) (key' : Heap) (view : View) → seat.left ≡ true → key' ≡ key → view ≡ seat_view number seat
+      → Joins (Holds key') id me.0 other view (folding_view me.0 view) Spent
+  fold_allowed id other number seat key' view left key_is view_is =
+      subst (λ (k : Heap). Joins (Holds k) id me.0 other view (folding_view me.0 view) Spent) (sym (key_is ∙ keeps.token.key_is))
+      (subst (λ (v : View). Joins (Holds heap) id me.0 other v (folding_view me.0 v) Spent) (sym view_is)
+      (subst (λ (v : View). Joins (Holds heap) id v other (seat_view number seat) (folding_view v (seat_view number seat)) Spent) (sym (ap (λ (m : Me (Unit {0}) View). m.0) keeps.token.knows))
+      (folding_allowed heap known number seat left id other)))
+
+  -- what the holder keeps after that
+  pub keeps_folded : (mine' : TableId) (me' : Me (Unit {0}) View) (places' : List (Option SeatWithRoom)) (now number : ℕ) (seat : Seat) (party : SeatWithRoom) (view : View)
+      → mine' ≡ mine → me' ≡ (folding_view me.0 view, me.1) → view ≡ seat_view number seat → places' ≡ set places number (Some party) → party.seat ≡ seat → now ≡ collector.phase
+      → KeepsCollector shared key mine' me' heap collector places' now
+  keeps_folded mine' me' places' now number seat party view same me_is view_is places_are party_is now_is =
+      let known_is : known_by me'.0 ≡ with_folded known number seat = ap (λ (m : Me (Unit {0}) View). known_by m.0) me_is ∙ ap (λ (v : View). known_by (folding_view me.0 v)) view_is in
+      record {
+        token = record {
+          table = same ∙ keeps.token.table;
+          size = ap (λ (z : TableId). z.words) same ∙ keeps.token.size;
+          slots = ap (λ (z : TableId). z.slots) same ∙ keeps.token.slots;
+          key_is = keeps.token.key_is;
+          limits = keeps.token.limits;
+          knows = me_is ∙ ap (λ (m : Me (Unit {0}) View). (folding_view me.0 view, m.1)) keeps.token.knows ∙ ap (λ (k : CollectorKnown). (collector_view k, []))
+              (ap (λ (v : View). known_by (folding_view me.0 v)) view_is ∙ sym known_is);
+        };
+        collector_is = ap (λ (k : CollectorKnown). k.collector) known_is ∙ keeps.collector_is;
+        seats_are = ap seats_in places_are ∙ seats_set places number party ∙ ap (λ (l : List (Option Seat)). set l number (Some party.seat)) keeps.seats_are
+            ∙ ap (λ (s : Seat). set known.seats number (Some s)) party_is ∙ ap (λ (k : CollectorKnown). k.seats) (sym known_is);
+        a_place_each = ap length places_are ∙ length-set places number (Some party) ∙ keeps.a_place_each;
+        folded_is = ap (λ (k : CollectorKnown). k.folded) known_is ∙ ap (λ (c : Collector). c.phase) keeps.collector_is ∙ sym now_is;
+        unread = ap (λ (k : CollectorKnown). k.closed) known_is ∙ keeps.unread;
+        fits = keeps.fits;
+        has_word = keeps.has_word;
+      }
+    where
+      seats_set : (l : List (Option SeatWithRoom)) (i : ℕ) (p : SeatWithRoom) → seats_in (set l i (Some p)) ≡ set (seats_in l) i (Some p.seat)
+      seats_set [] i p = refl
+      seats_set (x ∷ l) zero p = refl
+      seats_set (x ∷ l) (suc i) p = ap (λ (m : List (Option Seat)). option_map (λ (q : SeatWithRoom). q.seat) x ∷ m) (seats_set l i p)
+
+-- what the turn answers, as contracts see it
+pub answered_by : (heap : Heap) (collector : Collector) (knows : CollectorKnown) (value : CollectorHeld) (found : ℕ) (answer : TurnAnswer) → knows.collector ≡ collector → value.heap ≡ heap → value.known ≡ knows
+    → answer ≡ (next_turn heap collector).answer found → answer ≡ (next_turn value.heap value.known.collector).answer found
+answered_by heap collector knows value found answer same heap_is known_is is =
+    is ∙ ap (λ (c : Collector). (next_turn heap c).answer found) (sym same ∙ ap (λ (k : CollectorKnown). k.collector) (sym known_is))
+    ∙ ap (λ (h : Heap). (next_turn h value.known.collector).answer found) (sym heap_is)
+
+-- what holds of the holder as contracts see it holds of its parts
+pub due_of : (whole value : CollectorHeld) (step : Step) → whole ≡ value → (next_turn value.heap value.known.collector).step ≡ step → (next_turn whole.heap whole.known.collector).step ≡ step
+due_of whole value step is due = subst (λ (v : CollectorHeld). (next_turn v.heap v.known.collector).step ≡ step) (sym is) due
+
+pub room_of : (whole value : CollectorHeld) → whole ≡ value → 2 ≤ value.spare → 2 ≤ whole.spare
+room_of whole value is some_room = subst (λ (v : CollectorHeld). 2 ≤ v.spare) (sym is) some_room
+
+pub told_of : (whole value : CollectorHeld) (found : ℕ) → whole ≡ value → ToldAtTurn whole.heap whole.known.collector found → ToldAtTurn value.heap value.known.collector found
+told_of whole value found is told = subst (λ (v : CollectorHeld). ToldAtTurn v.heap v.known.collector found) is told
+
+-- after a quiet turn no found word matters
+pub quietly_turned : (old new : CollectorHeld) (step : Step) (found : ℕ) → (next_turn old.heap old.known.collector).step ≡ step → is_quiet step ≡ true → IsTurned old new found → IsTurned old new 0
+quietly_turned old new step found due quiet turned = record {
+  table_stays = turned.table_stays;
+  heap_stays = turned.heap_stays;
+  known_is = turned.known_is ∙ ap (λ (c : Collector). record old.known { collector = c }) (quiet_collector old.heap old.known.collector found 0 (ap is_quiet due ∙ quiet));
+  counted = turned.counted;
+  room_stays = turned.room_stays;
+}

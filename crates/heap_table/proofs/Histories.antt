@@ -1,0 +1,103 @@
+-- Once all is read, one legal history has exactly the logs.
+use Rattle.std.proofs.Common.{zero, suc, ◌≡◌, ℕ, ◌+◌, ◌<◌, List, [], ◌∷◌, ◌++◌, length, map, filter, Option, Some, None, refl, sym, ap, subst, ◌∙◌, arith}
+use Rattle.std.specs.List.{range_with_len}
+use Rattle.std.specs.Option.{option_map_or}
+use mathlib.Core.Option.{some, some-injective}
+use lib.ListN.{get_elem?}
+use Rattle.atomic_table.specs.Seated.{TableId}
+use Rattle.atomic_table.specs.Table.{Me, Allows}
+use Rattle.heap_model.specs.declared.entry.Entry.{Entry}
+use Rattle.heap_model.specs.declared.heap.Heap.{Heap}
+use Rattle.heap_model.specs.account.Cycles.{graph_of}
+use Rattle.heap_model.specs.account.Effects.{is_of}
+use Rattle.core_machine.specs.collector.Collector.{Collector}
+use Rattle.core_machine.specs.machine.Machine.{seat_at}
+use Rattle.core_machine.specs.machine.Value.{SeatWithRoom}
+use Rattle.core_machine.specs.seat.Seat.{Seat}
+use Rattle.core_machine.specs.table.Layout.{table_length}
+use Rattle.core_rule.proofs.entries.AtRest.{seat_fits}
+use Rattle.core_rule.proofs.entries.SeatLists.{idle_list}
+use Rattle.heap_table.specs.Closed.{IsWhole, EndsWhole, logs_in, logs_known, HasOneHistory}
+use Rattle.heap_table.specs.CollectorHeld.{KeepsToken, seats_in}
+use Rattle.heap_table.specs.Folded.{AllFolded}
+use Rattle.heap_table.specs.Handing.{with_closed}
+use Rattle.heap_table.specs.Holds.{Holds}
+use Rattle.heap_table.specs.Known.{CollectorKnown}
+use Rattle.heap_table.specs.Told.{Tells}
+use Rattle.heap_table.specs.Views.{collector_view, known_by}
+use Rattle.heap_table.specs.declared.view.View.{View}
+use Rattle.heap_table.proofs.Closing.{reading_allowed}
+
+-- a list that has f of each number at its place is the row of these
+row_of : {A B : Type 0} (g : A → B) (f : ℕ → B) (l : List A) (a n : ℕ) → length l ≡ n → ((i : ℕ) → i < n → (x : A) × (get_elem? l i ≡ some x) × (g x ≡ f (a + i))) → map g l ≡ map f (range_with_len a n)
+row_of g f [] a zero long each = refl
+row_of g f [] a (suc n) long each = absurd (omega (arith, long))
+row_of g f (x ∷ l) a zero long each = absurd (omega (arith, long))
+row_of {A} {B} g f (x ∷ l) a (suc n) long each =
+    let first = each 0 (omega arith) in
+    let head : g x ≡ f a = ap g (some-injective _ _ first.1) ∙ first.2 ∙ ap f (omega arith) in
+    let rest = row_of g f l (a + 1) n (omega (arith, long)) (λ i below. let it = each (suc i) (omega (arith, below)) in (it.0, it.1, it.2 ∙ ap f (omega arith))) in
+    ap (λ (b : B). b ∷ map g l) head ∙ ap (λ (m : List B). f a ∷ m) rest
+
+-- what is whole has one history
+pub one_history : (heap : Heap) (known : CollectorKnown) → length known.seats ≡ heap.seats → IsWhole heap known
+    → HasOneHistory (record { heap = heap; words = known.closed; logs = logs_known known; folded = known.folded })
+one_history heap known places whole =
+    let rule = whole.stands.rule in
+    record {
+      history = whole.book.history;
+      legal = rule.heap_stands.legal;
+      logs_are =
+          ap (λ (l : List (List Entry)). l ++ known.collector.log ∷ [])
+          (row_of (λ (place : Option Seat). option_map_or (λ (seat : Seat). seat.mine) place []) (λ (number : ℕ). filter (is_of number) whole.book.history) known.seats 0 heap.seats places
+          (λ number within. (Some (seat_at whole.state number), whole.seats_are number within, own number within)))
+          ∙ ap (λ (l : List Entry). map (λ (number : ℕ). filter (is_of number) whole.book.history) (range_with_len 0 heap.seats) ++ l ∷ [])
+          (ap (λ (c : Collector). c.log) (sym whole.collector_is) ∙ rule.collector_stands.log);
+      state = whole.state;
+      book = whole.book;
+      stands = whole.stands;
+      its_history = refl;
+      words_are = whole.words_are;
+      seats_before = whole.late;
+    }
+  where
+    own : (number : ℕ) → number < heap.seats → (seat_at whole.state number).mine ≡ filter (is_of (0 + number)) whole.book.history
+    own number within =
+        let rule = whole.stands.rule in
+        let idle = ((seat_fits rule number within).gone (whole.gone number within)).idle in
+        idle_list (graph_of heap whole.book.history) whole.book.history whole.book.made whole.book.owner whole.book.fragments number (seat_at whole.state number) idle (rule.seats_stand number within).told.list
+        ∙ ap (λ (n : ℕ). filter (is_of n) whole.book.history) (omega arith)
+
+-- the logs in the places are those that are known
+pub logs_placed : (places : List (Option SeatWithRoom)) → logs_in places ≡ map (λ place. option_map_or (λ (seat : Seat). seat.mine) place []) (seats_in places)
+logs_placed [] = refl
+logs_placed (None ∷ places) = ap (λ (l : List (List Entry)). [] ∷ l) (logs_placed places)
+logs_placed (Some party ∷ places) = ap (λ (l : List (List Entry)). party.seat.mine ∷ l) (logs_placed places)
+
+-- what is told of the next word that closing reads
+abbrev pub ReadTells : Heap → Me (Unit {0}) View → ℕ → Me (Unit {0}) View → Type 0
+ReadTells heap me = Tells (λ n. collector_view (with_closed (known_by me.0) n)) (λ n. EndsWhole heap (with_closed (known_by me.0) n)) me
+
+module _ (shared : TableId) (key : Heap) (mine : TableId) (me : Me (Unit {0}) View) (heap : Heap) (keeps : KeepsToken shared key mine me heap) where
+  -- reading it is allowed
+  pub read_allowed : (slots id word : ℕ) (key' : Heap) → slots ≡ shared.slots → key' ≡ key → AllFolded heap (known_by me.0).seats → word ≡ length (known_by me.0).closed → word < table_length heap
+      → Allows (Holds key') slots id me word (λ n. n) (ReadTells heap me)
+  read_allowed slots id word key' slots_are key_is all next within =
+      let none_ : slots ≡ 0 = slots_are ∙ ap (λ (z : TableId). z.slots) (sym keeps.table) ∙ keeps.slots in
+      subst (λ (k : Heap). Allows (Holds k) slots id me word (λ n. n) (ReadTells heap me)) (sym (key_is ∙ keeps.key_is))
+      (subst (λ (k : ℕ). Allows (Holds heap) k id me word (λ n. n) (ReadTells heap me)) (sym none_)
+      (subst (λ (k : ℕ). Allows (Holds heap) 0 id me k (λ n. n) (ReadTells heap me)) (sym next)
+      (subst (λ (m : Me (Unit {0}) View). Allows (Holds heap) 0 id m (length (known_by me.0).closed) (λ n. n) (Tells (λ n. collector_view (with_closed (known_by me.0) n)) (λ n. EndsWhole heap (with_closed (known_by me.0) n)) m)) (sym keeps.knows)
+      (reading_allowed heap (known_by me.0) all (rw (← next) within) id))))
+
+  -- and leaves the collector's token
+  pub keeps_read : (mine' : TableId) (me' : Me (Unit {0}) View) (found : ℕ) → mine' ≡ mine → ReadTells heap me found me' → KeepsToken shared key mine' me' heap
+  keeps_read mine' me' found same tells = record {
+    table = same ∙ keeps.table;
+    size = ap (λ (z : TableId). z.words) same ∙ keeps.size;
+    slots = ap (λ (z : TableId). z.slots) same ∙ keeps.slots;
+    key_is = keeps.key_is;
+    limits = keeps.limits;
+    knows = tells.0 ∙ ap (λ (m : Me (Unit {0}) View). (collector_view (with_closed (known_by me.0) found), m.1)) keeps.knows
+        ∙ ap (λ (m : Me (Unit {0}) View). (collector_view (known_by m.0), [])) (sym tells.0);
+  }

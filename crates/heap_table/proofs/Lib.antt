@@ -1,0 +1,13 @@
+pub mod Places
+pub mod Knowers
+pub mod SeatSteps
+pub mod Turns
+pub mod Quiet
+pub mod Performed
+pub mod Handing
+pub mod Folding
+pub mod Closing
+pub mod Opening
+pub mod SeatHolders
+pub mod CollectorHolders
+pub mod Histories

@@ -1,0 +1,55 @@
+-- What contracts see of the collector's holder, what it keeps true, and what its turn does.
+use Rattle.std.specs.Prelude.{◌≡◌, ℕ, ◌+◌, ◌-◌, ◌^◌, ◌≤◌, min, List, [], map, length, Option, option_map}
+use Rattle.atomic_table.specs.Seated.{TableId}
+use Rattle.atomic_table.specs.Table.{Me}
+use Rattle.heap_model.specs.declared.heap.Heap.{Heap}
+use Rattle.heap_model.specs.Heap.{IsHeap}
+use Rattle.core_machine.specs.collector.Collector.{Collector}
+use Rattle.core_machine.specs.collector.FitsTurns.{CollectorFits}
+use Rattle.core_machine.specs.machine.Value.{SeatWithRoom}
+use Rattle.core_machine.specs.seat.Seat.{Seat}
+use Rattle.core_machine.specs.table.Layout.{table_length}
+use Rattle.heap_table.specs.Known.{CollectorKnown}
+use Rattle.heap_table.specs.Told.{next_known, TurnHasWord}
+use Rattle.heap_table.specs.Views.{collector_view, known_by}
+use Rattle.heap_table.specs.declared.view.View.{View}
+
+-- which table it is of, the table's heap, what the holder knows, how many turns it has made, and for how many more entries it has room
+pub record CollectorHeld : Type 0 where
+  pub table : TableId
+  pub heap : Heap
+  pub known : CollectorKnown
+  pub turns : ℕ
+  pub spare : ℕ
+
+-- the seats in their places, where there are some
+abbrev pub seats_in : List (Option SeatWithRoom) → List (Option Seat)
+seats_in places = map (λ place. option_map (λ party. party.seat) place) places
+
+-- the token is of this table, whose rule is that of the heap, and its view is the collector's
+pub record KeepsToken (shared : TableId) (key : Heap) (mine : TableId) (me : Me (Unit {0}) View) (heap : Heap) : Type 0 where
+  pub table : mine ≡ shared
+  pub size : mine.words ≡ table_length heap
+  pub slots : mine.slots ≡ 0
+  pub key_is : key ≡ heap
+  pub limits : IsHeap heap
+  pub knows : me ≡ (collector_view (known_by me.0), [])
+
+-- the holder has such a token, which knows its collector and the seats in their places; closing has read nothing yet
+pub record KeepsCollector (shared : TableId) (key : Heap) (mine : TableId) (me : Me (Unit {0}) View) (heap : Heap) (collector : Collector) (places : List (Option SeatWithRoom)) (folded : ℕ) : Type 0 where
+  pub token : KeepsToken shared key mine me heap
+  pub collector_is : (known_by me.0).collector ≡ collector
+  pub seats_are : seats_in places ≡ (known_by me.0).seats
+  pub a_place_each : length places ≡ heap.seats
+  pub folded_is : (known_by me.0).folded ≡ folded
+  pub unread : (known_by me.0).closed ≡ []
+  pub fits : CollectorFits heap collector
+  pub has_word : TurnHasWord heap collector
+
+-- the collector made its due turn, which found this word; else the holder is as it was, but for the room of new entries
+pub record IsTurned (old new : CollectorHeld) (found : ℕ) : Type 0 where
+  pub table_stays : new.table ≡ old.table
+  pub heap_stays : new.heap ≡ old.heap
+  pub known_is : new.known ≡ next_known old.heap old.known found
+  pub counted : new.turns ≡ min (old.turns + 1) (2 ^ 64 - 1)
+  pub room_stays : old.spare + length old.known.collector.log ≤ new.spare + length new.known.collector.log

@@ -1,0 +1,12 @@
+pub mod Known
+pub mod Views
+pub mod Folded
+pub mod Holds
+pub mod Begun
+pub mod Quiet
+pub mod Told
+pub mod Handing
+pub mod SeatHeld
+pub mod CollectorHeld
+pub mod Opened
+pub mod Closed
