@@ -14,7 +14,7 @@ use Rattle.core_machine.specs.declared.step.operation.Operation.TheVariants.{Loa
 use Rattle.core_machine.specs.machine.Value.{SeatWithRoom}
 use Rattle.core_machine.specs.seat.Seat.{Seat}
 use Rattle.core_machine.specs.table.Decode.{FoundPointsWithin}
-use Rattle.core_machine.specs.table.Layout.{index_of, HasWord}
+use Rattle.core_machine.specs.table.Layout.{index_of, HasWord, table_length}
 use Rattle.core_machine.specs.table.Operation.{address_of, operation_of, operation_result, word_after}
 use Rattle.core_machine.proofs.collector_lemmas.{turn_stands}
 use Rattle.heap_table.specs.CollectorHeld.{CollectorHeld, KeepsCollector, IsTurned, seats_in}
@@ -189,3 +189,7 @@ quietly_turned old new step found due quiet turned = record {
   counted = turned.counted;
   room_stays = turned.room_stays;
 }
+
+-- the table has words
+pub some_words : (heap : Heap) (words : ℕ) → words ≡ table_length heap → 0 < words
+some_words heap words is = omega (arith, is)

@@ -1,7 +1,9 @@
 -- Once all is read, one legal history has exactly the logs.
 use Rattle.std.proofs.Common.{zero, suc, ◌≡◌, ℕ, ◌+◌, ◌<◌, List, [], ◌∷◌, ◌++◌, length, map, filter, Option, Some, None, refl, sym, ap, subst, ◌∙◌, arith}
+use Rattle.std.proofs.lemmas.List.{length-map}
 use Rattle.std.specs.List.{range_with_len}
 use Rattle.std.specs.Option.{option_map_or}
+use Rattle.std.specs.Prelude.{option_map}
 use mathlib.Core.Option.{some, some-injective}
 use lib.ListN.{get_elem?}
 use Rattle.atomic_table.specs.Seated.{TableId}
@@ -26,7 +28,7 @@ use Rattle.heap_table.specs.Known.{CollectorKnown}
 use Rattle.heap_table.specs.Told.{Tells}
 use Rattle.heap_table.specs.Views.{collector_view, known_by}
 use Rattle.heap_table.specs.declared.view.View.{View}
-use Rattle.heap_table.proofs.Closing.{reading_allowed}
+use Rattle.heap_table.proofs.ClosingLoads.{reading_allowed}
 
 -- a list that has f of each number at its place is the row of these
 row_of : {A B : Type 0} (g : A → B) (f : ℕ → B) (l : List A) (a n : ℕ) → length l ≡ n → ((i : ℕ) → i < n → (x : A) × (get_elem? l i ≡ some x) × (g x ≡ f (a + i))) → map g l ≡ map f (range_with_len a n)
@@ -101,3 +103,48 @@ module _ (shared : TableId) (key : Heap) (mine : TableId) (me : Me (Unit {0}) Vi
     knows = tells.0 ∙ ap (λ (m : Me (Unit {0}) View). (collector_view (with_closed (known_by me.0) found), m.1)) keeps.knows
         ∙ ap (λ (m : Me (Unit {0}) View). (collector_view (known_by m.0), [])) (sym tells.0);
   }
+
+-- while words are read: those read so far are the closed ones
+pub record IsReading (shared : TableId) (key : Heap) (mine : TableId) (me : Me (Unit {0}) View) (heap : Heap) (start : CollectorKnown) (words : List ℕ) : Type 0 where
+  pub token : KeepsToken shared key mine me heap
+  pub known_is : known_by me.0 ≡ record start { closed = words }
+  pub ends : EndsWhole heap (known_by me.0)
+
+module _ (shared : TableId) (key heap : Heap) (start : CollectorKnown) where
+  -- nothing is read yet, and there are words
+  pub reading_begins : (mine : TableId) (me : Me (Unit {0}) View) (words : List ℕ) → KeepsToken shared key mine me heap → start ≡ known_by me.0 → start.closed ≡ [] → words ≡ [] → IsReading shared key mine me heap start words
+  reading_begins mine me words keeps same unread none_ = record {
+    token = keeps;
+    known_is = sym same ∙ ap (λ (l : List ℕ). record start { closed = l }) (unread ∙ sym none_);
+    ends = λ whole. absurd (omega (arith, whole, ap (λ (k : CollectorKnown). length k.closed) (sym same), ap length unread));
+  }
+
+  -- one more word is read
+  pub reading_more : (mine mine' : TableId) (me me' : Me (Unit {0}) View) (words words' : List ℕ) (word : ℕ) → IsReading shared key mine me heap start words → KeepsToken shared key mine' me' heap
+      → known_by me'.0 ≡ with_closed (known_by me.0) word → EndsWhole heap (known_by me'.0) → words' ≡ words ++ word ∷ [] → IsReading shared key mine' me' heap start words'
+  reading_more mine mine' me me' words words' word is keeps known_is ends more = record {
+    token = keeps;
+    known_is = known_is ∙ ap (λ (k : CollectorKnown). with_closed k word) is.known_is ∙ ap (λ (l : List ℕ). record start { closed = l }) (sym more);
+    ends = ends;
+  }
+
+-- while logs are moved: those moved so far stand behind those before, and the others are still in their places
+pub record IsMoving (before : List (List Entry)) (places : List (Option SeatWithRoom)) (logs : List (List Entry)) (rest : List (Option SeatWithRoom)) : Type 0 where
+  pub together : logs ++ logs_in rest ≡ before ++ logs_in places
+
+-- so all logs stand behind one another
+pub logs_closed : (places : List (Option SeatWithRoom)) (known : CollectorKnown) (collector : Collector) (before moved all : List (List Entry)) (log : List Entry) → seats_in places ≡ known.seats → known.collector ≡ collector
+    → log ≡ collector.log → before ≡ [] → moved ≡ before ++ logs_in places → all ≡ moved ++ log ∷ [] → all ≡ logs_known known
+logs_closed places known collector before moved all log seats its its_log none_ moved_are all_are =
+    all_are
+    ∙ ap (λ (l : List (List Entry)). l ++ log ∷ []) (moved_are ∙ ap (λ (l : List (List Entry)). l ++ logs_in places) none_ ∙ logs_placed places ∙ ap (map (λ place. option_map_or (λ (seat : Seat). seat.mine) place [])) seats)
+    ∙ ap (λ (l : List Entry). map (λ place. option_map_or (λ (seat : Seat). seat.mine) place []) known.seats ++ l ∷ []) (its_log ∙ ap (λ (c : Collector). c.log) (sym its))
+
+-- and one history has them
+pub closes : (heap : Heap) (known read : CollectorKnown) (places : List (Option SeatWithRoom)) (words : List ℕ) (logs : List (List Entry)) (folded : ℕ) → read ≡ record known { closed = words } → seats_in places ≡ known.seats → length places ≡ heap.seats
+    → EndsWhole heap read → length words ≡ table_length heap → logs ≡ logs_known known → known.folded ≡ folded → HasOneHistory (record { heap = heap; words = words; logs = logs; folded = folded })
+closes heap known read places words logs folded read_is seats places_are ends long logs_are folded_is =
+    let whole : IsWhole heap (record known { closed = words }) = subst (IsWhole heap) read_is (ends (ap (λ (k : CollectorKnown). length k.closed) read_is ∙ long)) in
+    let one = one_history heap (record known { closed = words }) (ap length (sym seats) ∙ length-map places (λ place. option_map (λ (party : SeatWithRoom). party.seat) place) ∙ places_are) whole in
+    subst (λ (n : ℕ). HasOneHistory (record { heap = heap; words = words; logs = logs; folded = n })) folded_is
+    (subst (λ (l : List (List Entry)). HasOneHistory (record { heap = heap; words = words; logs = l; folded = known.folded })) (sym logs_are) one)

@@ -6,8 +6,8 @@ pub mod Quiet
 pub mod Performed
 pub mod Handing
 pub mod Folding
-pub mod Closing
-pub mod Opening
+pub mod ClosingLoads
+pub mod OpeningHolders
 pub mod SeatHolders
 pub mod CollectorHolders
 pub mod Histories

@@ -1,9 +1,19 @@
 //! One heap's words in a table of atomic words that threads share, under the machine's own rule.
 #![tactic(auto)]
 
+mod closed;
+mod closing;
+mod collector;
+mod holder;
+mod opening;
 mod plays;
 mod rule;
 mod touch;
 mod view;
 
+pub use closed::Closed;
+pub use closing::CloseFault;
+pub use collector::CollectorHolder;
+pub use holder::Holder;
+pub use opening::HeapTable;
 pub use view::View;

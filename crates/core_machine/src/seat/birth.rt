@@ -84,8 +84,8 @@ impl<L: Entries> SeatParty<L> {
         });
     }
 
-    /// Whether births are black.
-    fn bears_black(&self) -> bool
+    /// Whether its births are black.
+    pub fn bears_black(&self) -> bool
         ensures { result ≡ bears_black_of self.now.seat }
     {
         let k = self.answered % CYCLE_PHASES;

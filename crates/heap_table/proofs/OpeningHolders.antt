@@ -1,7 +1,8 @@
 -- A table that opens, and the seats that are handed out first.
-use Rattle.std.proofs.Common.{zero, suc, ◌≡◌, ℕ, ◌<◌, List, [], ◌∷◌, length, map, replicate, Option, None, refl, sym, ap, subst, ◌∙◌, arith}
-use Rattle.std.specs.List.{range_with_len}
-use Rattle.std.proofs.lemmas.List.{length-replicate}
+use Rattle.std.proofs.Common.{zero, suc, ◌≡◌, ℕ, ◌<◌, List, [], ◌∷◌, length, map, replicate, Option, None, refl, sym, ap, subst, ◌∙◌, arith, inl, inr, ◌≢◌, ◌+◌, ◌++◌, Some}
+use Rattle.std.specs.List.{range_with_len, slice_get}
+use Rattle.std.proofs.lemmas.Bool.Decides.{eqb_tells}
+use Rattle.std.proofs.lemmas.List.{length-replicate, length-append}
 use Rattle.std.proofs.lemmas.List.FromFn.{length-map-range_with_len}
 use Rattle.atomic_table.specs.Seated.{TableId}
 use Rattle.atomic_table.specs.Table.{Me, opening, Splits}
@@ -22,8 +23,8 @@ use Rattle.heap_table.specs.CollectorHeld.{CollectorHeld, KeepsCollector, seats_
 use Rattle.heap_table.specs.Handing.{handing_view, handed_view}
 use Rattle.heap_table.specs.Holds.{Holds}
 use Rattle.heap_table.specs.Known.{opening_known}
-use Rattle.heap_table.specs.Opened.{EachOpens}
-use Rattle.heap_table.specs.SeatHeld.{KeepsSeat}
+use Rattle.heap_table.specs.Opened.{EachOpens, IsOpened}
+use Rattle.heap_table.specs.SeatHeld.{SeatHeld, KeepsSeat}
 use Rattle.heap_table.specs.Views.{seat_view, collector_view, known_by, opening_view}
 use Rattle.heap_table.specs.declared.view.View.{View}
 use Rattle.heap_table.proofs.Folding.{none_later}
@@ -160,3 +161,41 @@ next_of whole value number is next = next ∙ ap (λ (v : CollectorHeld). v.know
 
 pub within_of : (whole value : CollectorHeld) (number : ℕ) → whole ≡ value → number < value.heap.seats → number < whole.heap.seats
 within_of whole value number is within = subst (λ (v : CollectorHeld). number < v.heap.seats) (sym is) within
+
+-- these are the holders of the first seats, in their order
+pub record AreOpened (table : TableId) (heap : Heap) (count : ℕ) (holders : List SeatHeld) : Type 0 where
+  pub long : length holders ≡ count
+  pub each : (number : ℕ) (held : SeatHeld) → slice_get holders number ≡ Some held → IsOpened table heap number held
+
+pub none_opened : (table : TableId) (heap : Heap) → AreOpened table heap 0 []
+none_opened table heap = record { long = refl; each = λ number held there. absurd (nothing number held there) }
+  where
+    nothing : (number : ℕ) (held : SeatHeld) → slice_get [] number ≡ Some held → ⊥
+    nothing zero held there = cc
+    nothing (suc n) held there = cc
+
+-- with one more there is one more
+pub one_more_opened : (table : TableId) (heap : Heap) (count : ℕ) (holders : List SeatHeld) (next : SeatHeld) → AreOpened table heap count holders → IsOpened table heap count next → AreOpened table heap (count + 1) (holders ++ next ∷ [])
+one_more_opened table heap count holders next opened is = record {
+  long = omega (arith, length-append holders (next ∷ []), opened.long);
+  each = λ number held there. elim (eqb_tells number count) as (λ _. IsOpened table heap number held) [
+    | inl here ↦
+        let last : next ≡ held = at_the_end holders count number opened.long here.1 held there in
+        subst (IsOpened table heap number) last (subst (λ (n : ℕ). IsOpened table heap n next) (sym here.1) is)
+    | inr other ↦ opened.each number held (before holders count number opened.long other.1 held there)
+  ];
+}
+  where
+    at_the_end : (l : List SeatHeld) (n number : ℕ) → length l ≡ n → number ≡ n → (held : SeatHeld) → slice_get (l ++ next ∷ []) number ≡ Some held → next ≡ held
+    at_the_end [] n zero long same held there = cc
+    at_the_end [] n (suc k) long same held there = absurd (omega (arith, long, same))
+    at_the_end (x ∷ l) n zero long same held there = absurd (omega (arith, long, same))
+    at_the_end (x ∷ l) zero (suc k) long same held there = absurd (omega (arith, long))
+    at_the_end (x ∷ l) (suc n) (suc k) long same held there = at_the_end l n k (omega (arith, long)) (omega (arith, same)) held there
+
+    before : (l : List SeatHeld) (n number : ℕ) → length l ≡ n → number ≢ n → (held : SeatHeld) → slice_get (l ++ next ∷ []) number ≡ Some held → slice_get l number ≡ Some held
+    before [] n zero long other held there = absurd (other (omega (arith, long)))
+    before [] n (suc k) long other held there = there
+    before (x ∷ l) n zero long other held there = there
+    before (x ∷ l) zero (suc k) long other held there = absurd (omega (arith, long))
+    before (x ∷ l) (suc n) (suc k) long other held there = before l n k (omega (arith, long)) (λ e. other (ap suc e)) held there

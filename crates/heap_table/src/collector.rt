@@ -1,0 +1,221 @@
+ghost use Rattle.std.specs.Prelude.{◌≡◌, ◌+◌, ◌<◌, ◌≤◌, ◌^◌, true, [], length, map, replicate, None, IfOk, OnOk, OnErr};
+ghost use Rattle.heap_model.specs.Heap.{IsHeap};
+ghost use Rattle.core_machine.specs.collector.Collector.{next_turn};
+ghost use Rattle.core_machine.specs.machine.Opening.{opening_seat};
+ghost use Rattle.heap_table.specs.CollectorHeld.{IsTurned};
+ghost use Rattle.heap_table.specs.Handing.{with_handed, with_folded};
+ghost use Rattle.heap_table.specs.Known.{opening_known};
+ghost use Rattle.heap_table.specs.Opened.{EachOpens, IsOpened};
+ghost use Rattle.heap_table.specs.Quiet.{is_quiet};
+ghost use Rattle.heap_table.specs.Told.{ToldAtTurn};
+
+use crate::holder::Holder;
+use crate::plays::FoldsIn;
+use crate::rule::{SharedTable, Token};
+use crate::touch::{hand_out, touch};
+use atomic_table::Table;
+use core_machine::{CollectorParty, CountsEntries, Entries, Log, SeatParty, Step, opening_words};
+use heap_model::{Entry, Heap, Memory, Turn};
+use std::alloc::Global;
+use std::marker::{Brand, Model};
+use std::sync::Arc;
+
+mod copying;
+mod handshake;
+mod marking;
+mod sweeping;
+
+/// The collector of a table: the right to make its turns, with what is kept of it and its log, and a place for each seat that it folds in.
+#[derive(Drop)]
+pub struct CollectorHolder<L: Entries = Log, C: CountsEntries = Log> {
+    pub(crate) table: SharedTable,
+    pub(crate) token: Token,
+    pub(crate) heap: Heap,
+    pub(crate) party: CollectorParty<C>,
+    pub(crate) places: Vec<Option<SeatParty<L>>>,
+    pub(crate) folded: u64,
+}
+
+impl<L: Entries, C: CountsEntries> Model for CollectorHolder<L, C> {
+    ghost use Rattle.std.specs.Arc.{arc_value};
+    ghost use Rattle.heap_table.specs.CollectorHeld.{CollectorHeld, KeepsCollector};
+    ghost use Rattle.heap_table.specs.Views.{known_by};
+
+    ghost Value = { CollectorHeld };
+
+    ghost view = { λ holder. record {
+      table = holder.token.table_id;
+      heap = holder.heap;
+      known = known_by holder.token.me.0;
+      turns = holder.party.turns;
+      spare = holder.party.spare;
+    } };
+
+    ghost invariant = { λ holder. KeepsCollector (arc_value holder.table).shared.table_id (arc_value holder.table).shared.key holder.token.table_id holder.token.me holder.heap holder.party.collector holder.places.items holder.folded };
+}
+
+/// A place for each seat, with none in it yet.
+fn empty_places<L: Entries>(alloc: Global, seats: u8) -> Result<Vec<Option<SeatParty<L>>>, Memory>
+    ensures { IfOk result (λ places. places.items ≡ replicate seats None) }
+{
+    let mut places = Vec::new(alloc);
+    for _ in 0..seats {
+        places.push(None)?;
+    }
+    Ok(places)
+}
+
+impl<L: Entries, C: CountsEntries> CollectorHolder<L, C> {
+    /// The holder of the collector of a table that opens.
+    pub(crate) fn opening(alloc: Global, heap: Heap) -> Result<CollectorHolder<L, C>, Memory>
+        requires { IsHeap heap }
+        ensures heap { IfOk result (λ holder. holder.heap ≡ heap) }
+        ensures known { IfOk result (λ holder. holder.known ≡ opening_known heap) }
+        ensures turns { IfOk result (λ holder. holder.turns ≡ 0) }
+        ensures opens { IfOk result (λ holder. EachOpens heap) }
+    {
+        let words = opening_words(alloc, &heap)?;
+        let places = empty_places(alloc, heap.seats)?;
+        let (table, token) = Table::of_words(alloc, words.as_slice(), &heap)?;
+        let table = Arc::new(alloc, table)?;
+        Ok(CollectorHolder {
+            table,
+            token,
+            heap,
+            party: CollectorParty::opening(alloc),
+            places,
+            folded: 0,
+        })
+    }
+
+    /// Hands out the next seat.
+    pub(crate) fn next_seat(&mut self, alloc: Global, number: u8) -> Result<Holder<L>, Memory>
+        requires opens { EachOpens self.old.heap }
+        requires next { (number ≡ self.old.known.handed) × (number < self.old.heap.seats) }
+        ensures handed { IfOk result (λ holder. self.new ≡ record self.old { known = with_handed self.old.known }) }
+        ensures seat { IfOk result (IsOpened self.old.table self.old.heap number) }
+    {
+        let table = self.table.clone()?;
+        let token = hand_out::<Brand>(&self.table.shared, &mut self.token, &self.heap);
+        let party = SeatParty::opening(alloc, &self.heap, number);
+        Ok(Holder::of(table, token, self.heap, number, party))
+    }
+
+    /// The heap whose table it is.
+    pub fn heap(&self) -> Heap
+        ensures { result ≡ self.now.heap }
+    {
+        self.heap
+    }
+
+    /// The phase.
+    pub fn phase(&self) -> u64
+        ensures { result ≡ self.now.known.collector.phase }
+    {
+        self.party.phase()
+    }
+
+    /// The phase in which the last seat was folded in; 0 where none was.
+    pub fn folded(&self) -> u64
+        ensures { result ≡ self.now.known.folded }
+    {
+        self.folded
+    }
+
+    /// The number of turns that were made, or the last number of 64 bits.
+    pub fn turns(&self) -> u64
+        ensures { result ≡ self.now.turns }
+    {
+        self.party.turns()
+    }
+
+    /// For how many more entries there is room.
+    pub fn spare(&self) -> usize
+        ensures { result ≡ self.now.spare }
+    {
+        self.party.spare()
+    }
+
+    /// Makes room for at least `n` more entries.
+    pub fn room(&mut self, n: usize) -> Result<(), Memory>
+        ensures same { self.new ≡ record self.old { spare = self.new.spare } }
+        ensures more { self.old.spare ≤ self.new.spare }
+        ensures room { OnOk result (n ≤ self.new.spare) }
+        ensures memory { OnErr result (self.new ≡ self.old) }
+    {
+        self.party.room(n)
+    }
+
+    /// The step of the next turn.
+    pub fn due(&self) -> Step
+        ensures { result ≡ (next_turn self.now.heap self.now.known.collector).step }
+    {
+        self.party.due(&self.heap)
+    }
+
+    /// Makes the next turn: answers the word found (of a store, the word stored), and what the turn comes to.
+    pub fn turn(&mut self) -> (u64, Turn)
+        requires room { 2 ≤ self.old.spare }
+        ensures turned { IsTurned self.old self.new result.0 }
+        ensures answer { result.1 ≡ (next_turn self.old.heap self.old.known.collector).answer result.0 }
+        ensures told { ToldAtTurn self.old.heap self.old.known.collector result.0 }
+    {
+        let step = self.due();
+        self.turn_by(&step)
+    }
+
+    /// Makes the next turn, whose step is this one.
+    fn turn_by(&mut self, step: &Step) -> (u64, Turn)
+        requires due { (next_turn self.old.heap self.old.known.collector).step ≡ step.now }
+        requires room { 2 ≤ self.old.spare }
+        ensures turned { IsTurned self.old self.new result.0 }
+        ensures answer { result.1 ≡ (next_turn self.old.heap self.old.known.collector).answer result.0 }
+        ensures told { ToldAtTurn self.old.heap self.old.known.collector result.0 }
+    {
+        let _within = self.party.spare();
+        let found = touch::<Brand, CollectorParty<C>>(
+            &self.table.shared,
+            &mut self.token,
+            &self.heap,
+            step,
+            0,
+            &self.party,
+        );
+        let answer = self.party.learn(&self.heap, found);
+        (found, answer)
+    }
+
+    /// Makes the next turn, whose step is this one, and after which the collector is the same whatever word was found.
+    fn turn_quietly(&mut self, step: &Step)
+        requires due { (next_turn self.old.heap self.old.known.collector).step ≡ step.now }
+        requires room { 2 ≤ self.old.spare }
+        requires quiet { is_quiet step.now ≡ true }
+        ensures { IsTurned self.old self.new 0 }
+    {
+        self.turn_by(step);
+    }
+
+    /// Takes in a seat that has left: its data with its log move into its place.
+    pub fn fold_in(&mut self, from: Holder<L>)
+        requires table { (from.table ≡ self.old.table) × (from.heap ≡ self.old.heap) }
+        requires left { from.seat.left ≡ true }
+        ensures { self.new ≡ record self.old { known = with_folded self.old.known from.number from.seat } }
+    {
+        let place = from.number() as usize;
+        let (token, party) = from.into_parts();
+        self.table
+            .shared
+            .join_seat::<FoldsIn>(&mut self.token, token);
+        self.folded = self.party.phase();
+        self.places[place] = Some(party);
+    }
+}
+
+impl<L: Entries> CollectorHolder<L> {
+    /// The collector's entries, in their order.
+    pub fn log(&self) -> &[Entry]
+        ensures { result.now ≡ self.now.known.collector.log }
+    {
+        self.party.entries()
+    }
+}

@@ -1,0 +1,38 @@
+ghost use Rattle.std.specs.Prelude.{◌≡◌, ℕ, ◌<◌, Some, length, IfOk};
+ghost use Rattle.std.specs.List.{slice_get};
+ghost use Rattle.heap_model.specs.Heap.{IsHeap};
+ghost use Rattle.heap_table.specs.Known.{opening_known};
+ghost use Rattle.heap_table.specs.Opened.{IsOpened};
+ghost use Rattle.heap_table.specs.SeatHeld.{SeatHeld};
+
+use crate::collector::CollectorHolder;
+use crate::holder::Holder;
+use core_machine::{CountsEntries, Entries};
+use heap_model::{Heap, Memory};
+use std::alloc::Global;
+
+/// One heap's words, shared by the holders of its seats and of its collector.
+pub struct HeapTable;
+
+impl HeapTable {
+    /// The holders of a heap that opens: one for each seat, in the seats' order, and the collector's.
+    pub fn make<L: Entries, C: CountsEntries>(
+        alloc: Global,
+        heap: Heap,
+    ) -> Result<(Vec<Holder<L>>, CollectorHolder<L, C>), Memory>
+        requires { IsHeap heap }
+        ensures seats { IfOk result (λ made. length made.0.items ≡ heap.seats) }
+        ensures each { IfOk result (λ made. (number : ℕ) (held : SeatHeld) → slice_get made.0.items number ≡ Some held → IsOpened made.1.table heap number held) }
+        ensures heap { IfOk result (λ made. made.1.heap ≡ heap) }
+        ensures known { IfOk result (λ made. made.1.known ≡ record (opening_known heap) { handed = heap.seats }) }
+        ensures turns { IfOk result (λ made. made.1.turns ≡ 0) }
+    {
+        let mut collector = CollectorHolder::opening(alloc, heap)?;
+        let mut holders = Vec::new(alloc);
+        for number in 0..heap.seats {
+            let holder = collector.next_seat(alloc, number)?;
+            holders.push(holder)?;
+        }
+        Ok((holders, collector))
+    }
+}
