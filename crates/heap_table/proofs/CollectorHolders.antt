@@ -1,10 +1,11 @@
 -- The collector's holder: its turn is allowed, and what it keeps true it keeps true after a turn and after a seat was folded in.
-use Rattle.std.proofs.Common.{zero, suc, ◌≡◌, ℕ, ◌+◌, ◌-◌, ◌<◌, ◌≤◌, ◌^◌, true, List, [], ◌∷◌, length, set, min, Option, Some, refl, sym, ap, subst, ◌∙◌, arith}
-use Rattle.std.specs.Prelude.{option_map}
+use Rattle.std.proofs.Common.{zero, suc, ◌≡◌, ℕ, ◌+◌, ◌<◌, ◌≤◌, ◌^◌, true, Bool, List, [], ◌∷◌, length, set, Option, Some, None, refl, sym, ap, subst, ◌∙◌, arith}
+use Rattle.std.specs.List.{list_all}
+use Rattle.std.specs.Prelude.{option_map, is_some, IsTrue, ◌↔◌}
+use mathlib.Core.Option.{some, some-injective}
 use Rattle.std.proofs.lemmas.List.{length-set}
 use Rattle.atomic_table.specs.Seated.{TableId}
 use Rattle.atomic_table.specs.Table.{Me, Allows, Joins}
-use Rattle.heap_model.specs.declared.calls.collector_calls.Turn.{Turn as TurnAnswer}
 use Rattle.heap_model.specs.declared.heap.Heap.{Heap}
 use Rattle.core_machine.specs.collector.Collector.{Collector, next_turn}
 use Rattle.core_machine.specs.collector.FitsTurns.{CollectorFits}
@@ -18,6 +19,7 @@ use Rattle.core_machine.specs.table.Layout.{index_of, HasWord, table_length}
 use Rattle.core_machine.specs.table.Operation.{address_of, operation_of, operation_result, word_after}
 use Rattle.core_machine.proofs.collector_lemmas.{turn_stands}
 use Rattle.heap_table.specs.CollectorHeld.{CollectorHeld, KeepsCollector, IsTurned, seats_in}
+use Rattle.heap_table.specs.Folded.{IsFolded, AllFolded}
 use Rattle.heap_table.specs.Handing.{with_folded, folding_view}
 use Rattle.heap_table.specs.Holds.{Holds}
 use Rattle.heap_table.specs.Known.{CollectorKnown}
@@ -106,23 +108,6 @@ module _ (shared : TableId) (key : Heap) (mine : TableId) (me : Me (Unit {0}) Vi
         has_word = subst (TurnHasWord heap) (ap (λ (k : CollectorKnown). k.collector) (sym known_is) ∙ collector_is) tells.1.has_word;
       }
 
-  -- what contracts see of the turn
-  pub is_turned : (mine' : TableId) (me' : Me (Unit {0}) View) (next : Collector) (found turns turns' room room' : ℕ) (value : CollectorHeld)
-      → record { table = mine; heap = heap; known = known; turns = turns; spare = room } ≡ value → mine' ≡ mine
-      → TurnTells heap me found me' → next ≡ next_collector heap collector found → turns' ≡ min (turns + 1) (2 ^ 64 - 1)
-      → room + length collector.log ≤ room' + length next.log → IsTurned value (record { table = mine'; heap = heap; known = known_by me'.0; turns = turns'; spare = room' }) found
-  is_turned mine' me' next found turns turns' room room' value view same tells is counted spent =
-      subst (λ (v : CollectorHeld). IsTurned v (record { table = mine'; heap = heap; known = known_by me'.0; turns = turns'; spare = room' }) found) view
-      record {
-        table_stays = same;
-        heap_stays = refl;
-        known_is = ap (λ (m : Me (Unit {0}) View). known_by m.0) tells.0;
-        counted = counted;
-        room_stays = subst (λ (l : ℕ). room + l ≤ room' + length (known_by me'.0).collector.log) (ap (λ (c : Collector). length c.log) (sym keeps.collector_is))
-            (subst (λ (c : Collector). room + length collector.log ≤ room' + length c.log)
-            (is ∙ ap (λ (c : Collector). next_collector heap c found) (sym keeps.collector_is) ∙ ap (λ (m : Me (Unit {0}) View). (known_by m.0).collector) (sym tells.0)) spent);
-      }
-
   -- folding in a seat is allowed
   pub fold_allowed : (id other number : ℕ) (seat : Seat) (key' : Heap) (view : View) → seat.left ≡ true → key' ≡ key → view ≡ seat_view number seat
       → Joins (Holds key') id me.0 other view (folding_view me.0 view) Spent
@@ -163,22 +148,12 @@ module _ (shared : TableId) (key : Heap) (mine : TableId) (me : Me (Unit {0}) Vi
       seats_set (x ∷ l) zero p = refl
       seats_set (x ∷ l) (suc i) p = ap (λ (m : List (Option Seat)). option_map (λ (q : SeatWithRoom). q.seat) x ∷ m) (seats_set l i p)
 
--- what the turn answers, as contracts see it
-pub answered_by : (heap : Heap) (collector : Collector) (knows : CollectorKnown) (value : CollectorHeld) (found : ℕ) (answer : TurnAnswer) → knows.collector ≡ collector → value.heap ≡ heap → value.known ≡ knows
-    → answer ≡ (next_turn heap collector).answer found → answer ≡ (next_turn value.heap value.known.collector).answer found
-answered_by heap collector knows value found answer same heap_is known_is is =
-    is ∙ ap (λ (c : Collector). (next_turn heap c).answer found) (sym same ∙ ap (λ (k : CollectorKnown). k.collector) (sym known_is))
-    ∙ ap (λ (h : Heap). (next_turn h value.known.collector).answer found) (sym heap_is)
-
 -- what holds of the holder as contracts see it holds of its parts
 pub due_of : (whole value : CollectorHeld) (step : Step) → whole ≡ value → (next_turn value.heap value.known.collector).step ≡ step → (next_turn whole.heap whole.known.collector).step ≡ step
 due_of whole value step is due = subst (λ (v : CollectorHeld). (next_turn v.heap v.known.collector).step ≡ step) (sym is) due
 
 pub room_of : (whole value : CollectorHeld) → whole ≡ value → 2 ≤ value.spare → 2 ≤ whole.spare
 room_of whole value is some_room = subst (λ (v : CollectorHeld). 2 ≤ v.spare) (sym is) some_room
-
-pub told_of : (whole value : CollectorHeld) (found : ℕ) → whole ≡ value → ToldAtTurn whole.heap whole.known.collector found → ToldAtTurn value.heap value.known.collector found
-told_of whole value found is told = subst (λ (v : CollectorHeld). ToldAtTurn v.heap v.known.collector found) is told
 
 -- after a quiet turn no found word matters
 pub quietly_turned : (old new : CollectorHeld) (step : Step) (found : ℕ) → (next_turn old.heap old.known.collector).step ≡ step → is_quiet step ≡ true → IsTurned old new found → IsTurned old new 0
@@ -193,3 +168,27 @@ quietly_turned old new step found due quiet turned = record {
 -- the table has words
 pub some_words : (heap : Heap) (words : ℕ) → words ≡ table_length heap → 0 < words
 some_words heap words is = omega (arith, is)
+
+-- there is a seat in each place exactly where every seat was folded in
+all_there : (places : List (Option SeatWithRoom)) → list_all is_some places ≡ true → (number : ℕ) → number < length places → (seat : Seat) × IsFolded (seats_in places) number seat
+all_there [] full number within = absurd (omega (arith, within))
+all_there (None ∷ places) full number within = cc
+all_there (Some party ∷ places) full zero within = (party.seat, refl)
+all_there (Some party ∷ places) full (suc number) within = all_there places full number (omega (arith, within))
+
+none_missing : (places : List (Option SeatWithRoom)) → ((number : ℕ) → number < length places → (seat : Seat) × IsFolded (seats_in places) number seat) → list_all is_some places ≡ true
+none_missing [] all = refl
+none_missing (None ∷ places) all = let first = (all 0 (omega arith)).1 in absurd (nobody _ first)
+  where
+    nobody : (seat : Seat) → some None ≡ some (Some seat) → ⊥
+    nobody seat e = let f = some-injective _ _ e in cc f
+none_missing (Some party ∷ places) all = none_missing places (λ number within. all (suc number) (omega (arith, within)))
+
+pub full_folded : (heap : Heap) (places : List (Option SeatWithRoom)) (known : CollectorKnown) (full : Bool) → full ≡ list_all is_some places → seats_in places ≡ known.seats → length places ≡ heap.seats → IsTrue full ↔ AllFolded heap known.seats
+full_folded heap places known full is seats long = (
+  λ yes number within. subst (λ (l : List (Option Seat)). (seat : Seat) × IsFolded l number seat) seats (all_there places (sym is ∙ yes) number (rw long within)),
+  λ all. is ∙ none_missing places (λ number within. subst (λ (l : List (Option Seat)). (seat : Seat) × IsFolded l number seat) (sym seats) (all number (rw (← long) within))),
+)
+
+pub folded_of : (whole value : CollectorHeld) (full : Bool) → whole ≡ value → IsTrue full ↔ AllFolded whole.heap whole.known.seats → IsTrue full ↔ AllFolded value.heap value.known.seats
+folded_of whole value full is folded = subst (λ (v : CollectorHeld). IsTrue full ↔ AllFolded v.heap v.known.seats) is folded

@@ -110,24 +110,6 @@ pub record IsReading (shared : TableId) (key : Heap) (mine : TableId) (me : Me (
   pub known_is : known_by me.0 ≡ record start { closed = words }
   pub ends : EndsWhole heap (known_by me.0)
 
-module _ (shared : TableId) (key heap : Heap) (start : CollectorKnown) where
-  -- nothing is read yet, and there are words
-  pub reading_begins : (mine : TableId) (me : Me (Unit {0}) View) (words : List ℕ) → KeepsToken shared key mine me heap → start ≡ known_by me.0 → start.closed ≡ [] → words ≡ [] → IsReading shared key mine me heap start words
-  reading_begins mine me words keeps same unread none_ = record {
-    token = keeps;
-    known_is = sym same ∙ ap (λ (l : List ℕ). record start { closed = l }) (unread ∙ sym none_);
-    ends = λ whole. absurd (omega (arith, whole, ap (λ (k : CollectorKnown). length k.closed) (sym same), ap length unread));
-  }
-
-  -- one more word is read
-  pub reading_more : (mine mine' : TableId) (me me' : Me (Unit {0}) View) (words words' : List ℕ) (word : ℕ) → IsReading shared key mine me heap start words → KeepsToken shared key mine' me' heap
-      → known_by me'.0 ≡ with_closed (known_by me.0) word → EndsWhole heap (known_by me'.0) → words' ≡ words ++ word ∷ [] → IsReading shared key mine' me' heap start words'
-  reading_more mine mine' me me' words words' word is keeps known_is ends more = record {
-    token = keeps;
-    known_is = known_is ∙ ap (λ (k : CollectorKnown). with_closed k word) is.known_is ∙ ap (λ (l : List ℕ). record start { closed = l }) (sym more);
-    ends = ends;
-  }
-
 -- while logs are moved: those moved so far stand behind those before, and the others are still in their places
 pub record IsMoving (before : List (List Entry)) (places : List (Option SeatWithRoom)) (logs : List (List Entry)) (rest : List (Option SeatWithRoom)) : Type 0 where
   pub together : logs ++ logs_in rest ≡ before ++ logs_in places

@@ -1,14 +1,14 @@
 -- A table that opens, and the seats that are handed out first.
-use Rattle.std.proofs.Common.{zero, suc, ◌≡◌, ℕ, ◌<◌, List, [], ◌∷◌, length, map, replicate, Option, None, refl, sym, ap, subst, ◌∙◌, arith, inl, inr, ◌≢◌, ◌+◌, ◌++◌, Some}
-use Rattle.std.specs.List.{range_with_len, slice_get}
-use Rattle.std.proofs.lemmas.Bool.Decides.{eqb_tells}
-use Rattle.std.proofs.lemmas.List.{length-replicate, length-append}
+use Rattle.std.proofs.Common.{zero, suc, ◌≡◌, ℕ, ◌<◌, List, [], ◌∷◌, length, map, replicate, Option, None, All, refl, sym, ap, subst, ◌∙◌, arith, ◌+◌, ◌++◌}
+use Rattle.std.specs.List.{range_with_len}
+use Rattle.std.proofs.lemmas.List.{length-replicate, map-append}
+use Rattle.std.proofs.lemmas.List.Elements.{All-append, All-cons, All-nil}
 use Rattle.std.proofs.lemmas.List.FromFn.{length-map-range_with_len}
 use Rattle.atomic_table.specs.Seated.{TableId}
 use Rattle.atomic_table.specs.Table.{Me, opening, Splits}
 use Rattle.heap_model.specs.declared.heap.Heap.{Heap}
 use Rattle.heap_model.specs.Heap.{IsHeap}
-use Rattle.core_machine.specs.collector.Collector.{Collector, opening_collector}
+use Rattle.core_machine.specs.collector.Collector.{opening_collector}
 use Rattle.core_machine.specs.declared.table.address.Address.{Address}
 use Rattle.core_machine.specs.machine.Machine.{State}
 use Rattle.core_machine.specs.machine.Opening.{IsOpening, opening_word, opening_seat}
@@ -127,28 +127,6 @@ keeps_handed heap key shared mine me number seat opens limits same size none_ ke
   has_word = (opens number within).0;
 }
 
--- and what the collector's keeps
-pub keeps_handing : (shared mine mine' : TableId) (key heap : Heap) (me me' : Me (Unit {0}) View) (collector : Collector) (places : List (Option SeatWithRoom)) (folded : ℕ) → KeepsCollector shared key mine me heap collector places folded
-    → mine' ≡ mine → me' ≡ (handing_view me.0, me.1) → KeepsCollector shared key mine' me' heap collector places folded
-keeps_handing shared mine mine' key heap me me' collector places folded keeps same me_is = record {
-  token = record {
-    table = same ∙ keeps.token.table;
-    size = ap (λ (z : TableId). z.words) same ∙ keeps.token.size;
-    slots = ap (λ (z : TableId). z.slots) same ∙ keeps.token.slots;
-    key_is = keeps.token.key_is;
-    limits = keeps.token.limits;
-    knows = me_is ∙ ap (λ (l : List (ℕ × Unit {0})). (handing_view me.0, l)) (ap (λ (m : Me (Unit {0}) View). m.1) keeps.token.knows)
-        ∙ ap (λ (m : Me (Unit {0}) View). (collector_view (known_by m.0), [])) (sym me_is);
-  };
-  collector_is = ap (λ (m : Me (Unit {0}) View). (known_by m.0).collector) me_is ∙ keeps.collector_is;
-  seats_are = keeps.seats_are ∙ ap (λ (m : Me (Unit {0}) View). (known_by m.0).seats) (sym me_is);
-  a_place_each = keeps.a_place_each;
-  folded_is = ap (λ (m : Me (Unit {0}) View). (known_by m.0).folded) me_is ∙ keeps.folded_is;
-  unread = ap (λ (m : Me (Unit {0}) View). (known_by m.0).closed) me_is ∙ keeps.unread;
-  fits = keeps.fits;
-  has_word = keeps.has_word;
-}
-
 -- what holds of the holder as contracts see it holds of its parts
 pub few_of : (whole value : CollectorHeld) (number : ℕ) → whole ≡ value → number ≡ value.known.handed → number < value.heap.seats → whole.known.handed < whole.heap.seats
 few_of whole value number is next within = subst (λ (v : CollectorHeld). v.known.handed < v.heap.seats) (sym is) (rw (← next) within)
@@ -164,38 +142,23 @@ within_of whole value number is within = subst (λ (v : CollectorHeld). number <
 
 -- these are the holders of the first seats, in their order
 pub record AreOpened (table : TableId) (heap : Heap) (count : ℕ) (holders : List SeatHeld) : Type 0 where
-  pub long : length holders ≡ count
-  pub each : (number : ℕ) (held : SeatHeld) → slice_get holders number ≡ Some held → IsOpened table heap number held
-
-pub none_opened : (table : TableId) (heap : Heap) → AreOpened table heap 0 []
-none_opened table heap = record { long = refl; each = λ number held there. absurd (nothing number held there) }
-  where
-    nothing : (number : ℕ) (held : SeatHeld) → slice_get [] number ≡ Some held → ⊥
-    nothing zero held there = cc
-    nothing (suc n) held there = cc
+  pub numbers : map (λ (held : SeatHeld). held.number) holders ≡ range_with_len 0 count
+  pub each : All (IsOpened table heap) holders
 
 -- with one more there is one more
-pub one_more_opened : (table : TableId) (heap : Heap) (count : ℕ) (holders : List SeatHeld) (next : SeatHeld) → AreOpened table heap count holders → IsOpened table heap count next → AreOpened table heap (count + 1) (holders ++ next ∷ [])
-one_more_opened table heap count holders next opened is = record {
-  long = omega (arith, length-append holders (next ∷ []), opened.long);
-  each = λ number held there. elim (eqb_tells number count) as (λ _. IsOpened table heap number held) [
-    | inl here ↦
-        let last : next ≡ held = at_the_end holders count number opened.long here.1 held there in
-        subst (IsOpened table heap number) last (subst (λ (n : ℕ). IsOpened table heap n next) (sym here.1) is)
-    | inr other ↦ opened.each number held (before holders count number opened.long other.1 held there)
-  ];
+pub one_more_opened : (table : TableId) (heap : Heap) (count : ℕ) (holders : List SeatHeld) (next : SeatHeld) → AreOpened table heap count holders → IsOpened table heap next → next.number ≡ count → AreOpened table heap (count + 1) (holders ++ next ∷ [])
+one_more_opened table heap count holders next opened is number = record {
+  numbers = map-append (λ (held : SeatHeld). held.number) holders (next ∷ []) ∙ ap (λ (l : List ℕ). l ++ next.number ∷ []) opened.numbers ∙ ap (λ (n : ℕ). range_with_len 0 count ++ n ∷ []) number
+      ∙ sym (numbers_more count);
+  each = All-append (IsOpened table heap) holders (next ∷ []) opened.each (All-cons (IsOpened table heap) next [] is (All-nil (IsOpened table heap)));
 }
   where
-    at_the_end : (l : List SeatHeld) (n number : ℕ) → length l ≡ n → number ≡ n → (held : SeatHeld) → slice_get (l ++ next ∷ []) number ≡ Some held → next ≡ held
-    at_the_end [] n zero long same held there = cc
-    at_the_end [] n (suc k) long same held there = absurd (omega (arith, long, same))
-    at_the_end (x ∷ l) n zero long same held there = absurd (omega (arith, long, same))
-    at_the_end (x ∷ l) zero (suc k) long same held there = absurd (omega (arith, long))
-    at_the_end (x ∷ l) (suc n) (suc k) long same held there = at_the_end l n k (omega (arith, long)) (omega (arith, same)) held there
+    numbers_from : (a n : ℕ) → range_with_len a (suc n) ≡ range_with_len a n ++ (a + n) ∷ []
+    numbers_from a zero = let same : a ≡ a + 0 = omega arith in ap (λ (k : ℕ). k ∷ []) same
+    numbers_from a (suc n) = let same : a + 1 + n ≡ a + suc n = omega arith in ap (λ (l : List ℕ). a ∷ l) (numbers_from (a + 1) n ∙ ap (λ (k : ℕ). range_with_len (a + 1) n ++ k ∷ []) same)
 
-    before : (l : List SeatHeld) (n number : ℕ) → length l ≡ n → number ≢ n → (held : SeatHeld) → slice_get (l ++ next ∷ []) number ≡ Some held → slice_get l number ≡ Some held
-    before [] n zero long other held there = absurd (other (omega (arith, long)))
-    before [] n (suc k) long other held there = there
-    before (x ∷ l) n zero long other held there = there
-    before (x ∷ l) zero (suc k) long other held there = absurd (omega (arith, long))
-    before (x ∷ l) (suc n) (suc k) long other held there = before l n k (omega (arith, long)) (λ e. other (ap suc e)) held there
+    numbers_more : (n : ℕ) → range_with_len 0 (n + 1) ≡ range_with_len 0 n ++ n ∷ []
+    numbers_more n =
+        let next : n + 1 ≡ suc n = omega arith in
+        let same : 0 + n ≡ n = omega arith in
+        ap (range_with_len 0) next ∙ numbers_from 0 n ∙ ap (λ (k : ℕ). range_with_len 0 n ++ k ∷ []) same

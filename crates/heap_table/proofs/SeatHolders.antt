@@ -1,5 +1,5 @@
 -- A seat's holder: its step is allowed, and what it keeps true it keeps true after a begin and after a step.
-use Rattle.std.proofs.Common.{◌≡◌, ℕ, ◌<◌, Bool, true, false, cond, nat_lt, nat_le, [], length, Option, Some, None, refl, sym, ap, subst, ◌∙◌, arith}
+use Rattle.std.proofs.Common.{◌≡◌, ℕ, ◌<◌, Bool, true, false, cond, nat_lt, nat_le, length, Option, Some, None, refl, sym, ap, subst, ◌∙◌, arith}
 use Rattle.std.specs.Prelude.{IfSome, option_map}
 use Rattle.atomic_table.specs.Seated.{TableId}
 use Rattle.atomic_table.specs.Table.{Me, Allows}
@@ -185,10 +185,6 @@ module _ (shared : TableId) (key : Heap) (mine : TableId) (me : Me (Unit {0}) Vi
         fits = subst (Fits heap) (sym is) (inner_stands heap number seat inner keeps.fits may).fits;
         has_word = keeps.has_word;
       }
-
-  -- once the seat has left, the view is exactly it
-  pub gone_viewed : seat.left ≡ true → me ≡ (seat_view number seat, [])
-  gone_viewed left = keeps.knows ∙ ap (λ (s : Seat). (seat_view number s, [])) (sym (idle_same heap number keeps.old seat keeps.begun (keeps.fits.gone left).idle))
 
 -- what holds of the holder as contracts see it holds of its parts
 pub due_of : (whole value : SeatHeld) (step : Step) → whole ≡ value → due_step value.heap value.number value.seat ≡ Some step → due_step whole.heap whole.number whole.seat ≡ Some step

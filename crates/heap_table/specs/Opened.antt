@@ -11,9 +11,8 @@ use Rattle.heap_table.specs.SeatHeld.{SeatHeld}
 abbrev pub EachOpens : Heap → Type 0
 EachOpens heap = (number : ℕ) → number < heap.seats → NextHasWord heap number (opening_seat heap number) × Fits heap (opening_seat heap number)
 
--- the holder is of the table, and its seat, of this number, is as at the opening
-pub record IsOpened (table : TableId) (heap : Heap) (number : ℕ) (held : SeatHeld) : Type 0 where
+-- the holder is of the table, and its seat is as at the opening
+pub record IsOpened (table : TableId) (heap : Heap) (held : SeatHeld) : Type 0 where
   pub table_is : held.table ≡ table
   pub heap_is : held.heap ≡ heap
-  pub number_is : held.number ≡ number
-  pub seat_is : held.seat ≡ opening_seat heap number
+  pub seat_is : held.seat ≡ opening_seat heap held.number

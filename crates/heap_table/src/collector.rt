@@ -1,8 +1,10 @@
-ghost use Rattle.std.specs.Prelude.{◌≡◌, ◌+◌, ◌<◌, ◌≤◌, ◌^◌, true, [], length, map, replicate, None, IfOk, OnOk, OnErr};
+ghost use Rattle.std.specs.Prelude.{◌≡◌, ◌+◌, ◌<◌, ◌≤◌, ◌^◌, ◌↔◌, true, [], length, map, replicate, None, is_some, IsTrue, IfOk, OnOk, OnErr};
+ghost use Rattle.std.specs.List.{list_all};
 ghost use Rattle.heap_model.specs.Heap.{IsHeap};
 ghost use Rattle.core_machine.specs.collector.Collector.{next_turn};
 ghost use Rattle.core_machine.specs.machine.Opening.{opening_seat};
 ghost use Rattle.heap_table.specs.CollectorHeld.{IsTurned};
+ghost use Rattle.heap_table.specs.Folded.{AllFolded};
 ghost use Rattle.heap_table.specs.Handing.{with_handed, with_folded};
 ghost use Rattle.heap_table.specs.Known.{opening_known};
 ghost use Rattle.heap_table.specs.Opened.{EachOpens, IsOpened};
@@ -65,6 +67,13 @@ fn empty_places<L: Entries>(alloc: Global, seats: u8) -> Result<Vec<Option<SeatP
     Ok(places)
 }
 
+/// Whether there is a seat in each of these places.
+fn all_full<L: Entries>(places: &[Option<SeatParty<L>>]) -> bool
+    ensures { result ≡ list_all is_some places.now }
+{
+    places.iter().all(|place| place.is_some())
+}
+
 impl<L: Entries, C: CountsEntries> CollectorHolder<L, C> {
     /// The holder of the collector of a table that opens.
     pub(crate) fn opening(alloc: Global, heap: Heap) -> Result<CollectorHolder<L, C>, Memory>
@@ -76,8 +85,8 @@ impl<L: Entries, C: CountsEntries> CollectorHolder<L, C> {
     {
         let words = opening_words(alloc, &heap)?;
         let places = empty_places(alloc, heap.seats)?;
-        let (table, token) = Table::of_words(alloc, words.as_slice(), &heap)?;
-        let table = Arc::new(alloc, table)?;
+        let (shared, token) = Table::of_words(alloc, words.as_slice(), &heap)?;
+        let table = Arc::new(alloc, shared)?;
         Ok(CollectorHolder {
             table,
             token,
@@ -93,7 +102,8 @@ impl<L: Entries, C: CountsEntries> CollectorHolder<L, C> {
         requires opens { EachOpens self.old.heap }
         requires next { (number ≡ self.old.known.handed) × (number < self.old.heap.seats) }
         ensures handed { IfOk result (λ holder. self.new ≡ record self.old { known = with_handed self.old.known }) }
-        ensures seat { IfOk result (IsOpened self.old.table self.old.heap number) }
+        ensures seat { IfOk result (IsOpened self.old.table self.old.heap) }
+        ensures number { IfOk result (λ holder. holder.number ≡ number) }
     {
         let table = self.table.clone()?;
         let token = hand_out::<Brand>(&self.table.shared, &mut self.token, &self.heap);
@@ -193,6 +203,13 @@ impl<L: Entries, C: CountsEntries> CollectorHolder<L, C> {
         ensures { IsTurned self.old self.new 0 }
     {
         self.turn_by(step);
+    }
+
+    /// Whether every seat was folded in.
+    pub fn all_folded(&self) -> bool
+        ensures { IsTrue result ↔ AllFolded self.now.heap self.now.known.seats }
+    {
+        all_full(self.places.as_slice())
     }
 
     /// Takes in a seat that has left: its data with its log move into its place.

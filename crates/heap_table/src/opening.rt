@@ -1,9 +1,8 @@
-ghost use Rattle.std.specs.Prelude.{◌≡◌, ℕ, ◌<◌, Some, length, IfOk};
-ghost use Rattle.std.specs.List.{slice_get};
+ghost use Rattle.std.specs.Prelude.{◌≡◌, map, All, IfOk};
+ghost use Rattle.std.specs.List.{range_with_len};
 ghost use Rattle.heap_model.specs.Heap.{IsHeap};
 ghost use Rattle.heap_table.specs.Known.{opening_known};
 ghost use Rattle.heap_table.specs.Opened.{IsOpened};
-ghost use Rattle.heap_table.specs.SeatHeld.{SeatHeld};
 
 use crate::collector::CollectorHolder;
 use crate::holder::Holder;
@@ -21,8 +20,8 @@ impl HeapTable {
         heap: Heap,
     ) -> Result<(Vec<Holder<L>>, CollectorHolder<L, C>), Memory>
         requires { IsHeap heap }
-        ensures seats { IfOk result (λ made. length made.0.items ≡ heap.seats) }
-        ensures each { IfOk result (λ made. (number : ℕ) (held : SeatHeld) → slice_get made.0.items number ≡ Some held → IsOpened made.1.table heap number held) }
+        ensures numbers { IfOk result (λ made. map (λ held. held.number) made.0.items ≡ range_with_len 0 heap.seats) }
+        ensures each { IfOk result (λ made. All (IsOpened made.1.table heap) made.0.items) }
         ensures heap { IfOk result (λ made. made.1.heap ≡ heap) }
         ensures known { IfOk result (λ made. made.1.known ≡ record (opening_known heap) { handed = heap.seats }) }
         ensures turns { IfOk result (λ made. made.1.turns ≡ 0) }

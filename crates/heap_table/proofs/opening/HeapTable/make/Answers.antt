@@ -15,8 +15,8 @@ loop-number-preserved g c =
     let n : ℕ = c.loop-number.number in
     let new = c.in_ok-holder.ensures.handed in
     let table = ap (λ v. v.table) new in
-    let opened = subst (λ (h : Heap). IsOpened c.loop-number.collector.table h n c.in_ok-holder.holder) i.0 c.in_ok-holder.ensures.seat in
-    let more = one_more_opened c.loop-number.collector.table c.args.heap n c.loop-number.holders.items c.in_ok-holder.holder i.4 opened in
+    let opened = subst (λ (h : Heap). IsOpened c.loop-number.collector.table h c.in_ok-holder.holder) i.0 c.in_ok-holder.ensures.seat in
+    let more = one_more_opened c.loop-number.collector.table c.args.heap n c.loop-number.holders.items c.in_ok-holder.holder i.4 opened c.in_ok-holder.ensures.number in
     let one : suc n ≡ n + 1 = omega arith in (
       ap (λ v. v.heap) new ∙ i.0,
       ap (λ v. v.known) new ∙ ap with_handed i.1 ∙ ap (λ (k : ℕ). record (opening_known c.args.heap) { handed = k }) one,
