@@ -1,1 +1,2 @@
 pub mod LoneSeat
+pub mod SameSeat

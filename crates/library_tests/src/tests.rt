@@ -7,4 +7,5 @@ mod machine;
 mod paces;
 mod scripts;
 mod streams;
+mod table;
 mod words;

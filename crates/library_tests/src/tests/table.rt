@@ -1,0 +1,116 @@
+//! The table that threads share: two seats work in threads of their own, and when all is closed what they have told goes together.
+
+ghost use Rattle.std.specs.Prelude.{◌≡◌, All, IfOk};
+ghost use Rattle.library_tests.specs.SameSeat.{IsSameSeat};
+
+use super::comparing::{holds, same};
+use core_machine::Log;
+use heap_model::{Command, Entry, Heap, Memory, Reply};
+use heap_table::{Closed, CollectorHolder, HeapTable, Holder};
+use std::alloc::Global;
+use std::test::Fail;
+use std::thread::{Threads, join};
+
+/// More steps than a call here makes.
+const MANY: u32 = 10_000;
+
+/// Makes a whole call, step by step; none where it may not be begun.
+fn call(holder: &mut Holder, command: Command) -> Result<(), Memory>
+    ensures { IsSameSeat holder.old holder.new }
+{
+    if !holder.may_begin(&command) {
+        return Ok(());
+    }
+    holder.begin(command);
+    for _ in 0..MANY {
+        let Some(step) = holder.due() else {
+            break;
+        };
+        holder.room(2)?;
+        holder.step(&step);
+    }
+    Ok(())
+}
+
+/// Makes so many records of two fields, and leaves.
+fn make_records(holder: Holder, records: u32) -> Result<Holder, Memory>
+    ensures { IfOk result (IsSameSeat holder) }
+{
+    let mut holder = holder;
+    for _ in 0..records {
+        call(&mut holder, Command::New { d: 1, fields: 2 })?;
+    }
+    call(&mut holder, Command::Leave)?;
+    Ok(holder)
+}
+
+/// How many objects the entries tell to be made.
+fn made(entries: &[Entry]) -> usize {
+    entries
+        .iter()
+        .filter(|entry| {
+            matches!(
+                entry,
+                Entry::Said {
+                    reply: Reply::Made(_),
+                    ..
+                }
+            )
+        })
+        .count()
+}
+
+/// Folds a seat in, if it has left.
+fn fold(collector: &mut CollectorHolder, holder: Holder)
+    requires { (holder.table ≡ collector.old.table) × (holder.heap ≡ collector.old.heap) }
+    ensures { (collector.new.table ≡ collector.old.table) × (collector.new.heap ≡ collector.old.heap) }
+{
+    if holder.party().left() {
+        collector.fold_in(holder);
+    }
+}
+
+/// Two seats of a heap make twenty records each, beside each other; then all is closed.
+fn run_two<R: Threads>(rt: &R, alloc: Global, heap: Heap) -> Result<Option<Closed>, Memory> {
+    let (mut holders, mut collector) = HeapTable::make::<Log, Log>(alloc, heap)?;
+    let Some(second) = holders.pop() else {
+        return Ok(None);
+    };
+    let Some(first) = holders.pop() else {
+        return Ok(None);
+    };
+    let (first, second) = join(
+        rt,
+        move || -> Result<Holder, Memory>
+            ensures { IfOk result (IsSameSeat first) }
+        { make_records(first, 20) },
+        move || -> Result<Holder, Memory>
+            ensures { IfOk result (IsSameSeat second) }
+        { make_records(second, 20) },
+    );
+    fold(&mut collector, first?);
+    fold(&mut collector, second?);
+    if !collector.all_folded() {
+        return Ok(None);
+    }
+    match collector.close(alloc) {
+        Ok(closed) => Ok(Some(closed)),
+        Err(_) => Err(Memory),
+    }
+}
+
+#[test]
+fn two_threads_make_forty_records(rt: HostRuntime) -> Result<(), Fail> {
+    let heap = Heap::make(8, 0, 2).ok_or("the limits")?;
+    let closed = run_two(&rt, rt.alloc(), heap)?.ok_or("a seat hasn't left")?;
+    let logs = closed.logs();
+    same(&rt, &logs.len(), &3, &"the logs");
+    let all: usize = logs.iter().map(|log| made(log.as_slice()).min(1000)).fold(0, |sum, n| sum.min(100_000) + n);
+    same(&rt, &all, &40, &"the records");
+    let words = closed.words();
+    same(&rt, &words.len(), &(19 + 65 * 8), &"the words");
+    holds(&rt, words.len() > 19, &"the first group");
+    same(&rt, &(words[19] & 0xffff), &0xffff, &"the first group's taken bits");
+    same(&rt, &closed.folded(), &0, &"the phase");
+    Ok(())
+}
