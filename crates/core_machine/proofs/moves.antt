@@ -12,8 +12,8 @@ pub mod Set
 pub mod Spine
 pub mod Local
 pub mod Walk
-use Rattle.std.proofs.Common.{◌≡◌, ℕ, ◌^◌, ◌<◌, Some, length, refl, subst}
-use Rattle.std.specs.Prelude.{IfSome}
+use Rattle.std.proofs.Common.{◌≡◌, ℕ, ◌^◌, ◌<◌, Option, Some, None, length, refl, subst}
+use Rattle.std.specs.Prelude.{IfSome, option_map}
 use Rattle.heap_model.specs.declared.heap.Heap.{Heap}
 use Rattle.heap_model.specs.Heap.{IsHeap}
 use Rattle.core_machine.specs.declared.place.Collecting.{Collecting}
@@ -28,7 +28,8 @@ use Rattle.core_machine.specs.declared.place.Polling.{Polling}
 use Rattle.core_machine.specs.declared.place.Polling.TheVariants.{Asking, Shading, Answering}
 use Rattle.core_machine.specs.declared.place.Access.{Access}
 use Rattle.core_machine.specs.declared.place.Access.TheVariants.{LoadingMeta, Walking, Locating, Indexing, Getting, Naming, LoadingOld, ShadingOld, ShadingNew, Swapping}
-use Rattle.core_machine.specs.Moves.{Move, next_move, seat_after}
+use Rattle.core_machine.specs.Moves.{Move, next_move, due_step, seat_after}
+use Rattle.core_machine.specs.declared.step.Step.{Step}
 use Rattle.core_machine.specs.calls.Owes.{Nears, owes, steps_left}
 use Rattle.core_machine.specs.table.Decode.{FoundPointsWithin}
 use Rattle.core_machine.specs.table.Operation.{address_of}
@@ -112,6 +113,14 @@ due_fits heap number seat move found limits few fits due small led =
 pub due_nears : (heap : Heap) (number : ℕ) (seat : Seat) (move : Move) (found : ℕ) → IsHeap heap → number < 16 → Fits heap seat → next_move heap number seat ≡ Some move
     → Nears heap (seat_after move found) (owes seat) (steps_left heap seat) (length (move.adds found))
 due_nears heap number seat move found limits few fits due = (due_stands heap number seat move limits few fits due).near found
+
+-- a step that is due is a move's
+pub due_move : (heap : Heap) (number : ℕ) (seat : Seat) (step : Step) → due_step heap number seat ≡ Some step → (move : Move) × (next_move heap number seat ≡ Some move) × (move.step ≡ step)
+due_move heap number seat step due = by (next_move heap number seat) refl due
+  where
+    by : (next : Option Move) → next_move heap number seat ≡ next → option_map (λ m. m.step) next ≡ Some step → (move : Move) × (next_move heap number seat ≡ Some move) × (move.step ≡ step)
+    by None is due = cc
+    by (Some move) is due = (move, is, cc)
 
 -- each begin stands, by the command
 begin_at : (command : Command) → CommandStands command

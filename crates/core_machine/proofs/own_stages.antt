@@ -17,13 +17,17 @@ pub mod Sums
 pub mod Turns
 pub mod Way
 pub mod Weaker
-use Rattle.std.proofs.Common.{◌≡◌, ℕ, ◌<◌, List, [], ◌∷◌, ◌++◌, Option, Some, None, refl, sym, ap, subst, ◌∙◌, append_assoc}
+use Rattle.std.proofs.Common.{◌≡◌, ℕ, ◌^◌, ◌<◌, List, [], ◌∷◌, ◌++◌, length, Option, Some, None, refl, sym, ap, subst, ◌∙◌, append_assoc}
 use Rattle.std.specs.Prelude.{IfSome}
 use Rattle.heap_model.specs.Heap.{IsHeap}
 use Rattle.heap_model.specs.declared.command.Command.{Command}
 use Rattle.heap_model.specs.declared.entry.Entry.{Entry}
 use Rattle.heap_model.specs.declared.heap.Heap.{Heap}
-use Rattle.core_machine.specs.Moves.{Move, next_move, seat_after}
+use Rattle.core_machine.specs.Moves.{Move, next_move, due_step, seat_after, seat_after_due}
+use Rattle.core_machine.specs.calls.Owes.{Nears, owes, steps_left}
+use Rattle.core_machine.specs.table.Decode.{FoundPointsWithin}
+use Rattle.core_machine.specs.table.Operation.{address_of}
+use Rattle.core_machine.proofs.moves.{due_move, due_fits, due_nears}
 use Rattle.core_machine.specs.calls.Kept.{Kept, kept_of}
 use Rattle.core_machine.specs.calls.OwnStage.{StageAt, OwnStage}
 use Rattle.core_machine.specs.declared.place.Access.{Access}
@@ -107,3 +111,23 @@ module _ (tells : Step → ℕ → Type 0) where
   -- a call that has begun stands so, and has told nothing
   pub own_begins : (heap : Heap) (number : ℕ) (old : Seat) (command : Command) → IsHeap heap → Fits heap old → MayBegin old command → OwnStage tells heap number command old (after_begin heap old command) []
   own_begins heap number old command limits fits may = Begin.begin_leads tells heap number old command limits fits may
+
+-- a seat of a call has learned the word that its due step found: it has told no more than it owed, and nears its end
+pub record HasLearned (tells : Step → ℕ → Type 0) (heap : Heap) (number : ℕ) (command : Command) (old seat next : Seat) (told : List Entry) : Type 0 where
+  pub more : List Entry
+  pub own : OwnStage tells heap number command old next (told ++ more)
+  pub fits : Fits heap next
+  pub nears : Nears heap next (owes seat) (steps_left heap seat) (length more)
+
+pub own_learns : (tells : Step → ℕ → Type 0) (heap : Heap) (number : ℕ) (command : Command) (old seat next : Seat) (told : List Entry) (step : Step) (found : ℕ) → IsHeap heap → number < 16 → Fits heap seat
+    → due_step heap number seat ≡ Some step → next ≡ seat_after_due seat (next_move heap number seat) found → found < 2 ^ 64 → FoundPointsWithin heap (address_of step) found → tells step found
+    → OwnStage tells heap number command old seat told → HasLearned tells heap number command old seat next told
+own_learns tells heap number command old seat next told step found limits few fits due is small led tell own =
+    let move = due_move heap number seat step due in
+    let here : seat_after move.0 found ≡ next = sym (is ∙ ap (λ m. seat_after_due seat m found) move.1) in
+    subst (λ (s : Seat). HasLearned tells heap number command old seat s told) here (record {
+      more = move.0.adds found;
+      own = own_leads tells heap number command old seat told move.0 found limits few fits move.1 (subst (λ (s : Step). tells s found) (sym move.2) tell) own;
+      fits = due_fits heap number seat move.0 found limits few fits move.1 small (subst (λ (s : Step). FoundPointsWithin heap (address_of s) found) (sym move.2) led);
+      nears = due_nears heap number seat move.0 found limits few fits move.1;
+    })
