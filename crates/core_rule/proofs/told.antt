@@ -5,3 +5,4 @@ pub mod NearPhases
 pub mod OwnMetas
 pub mod ReachedFields
 pub mod FoundWords
+pub mod StoredWords

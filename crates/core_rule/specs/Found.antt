@@ -14,6 +14,7 @@ use Rattle.core_machine.specs.Moves.{due_step}
 use Rattle.core_machine.specs.seat.Registers.{register_in, register_head}
 use Rattle.core_machine.specs.seat.Seat.{Seat}
 use Rattle.core_rule.specs.Book.{Book}
+use Rattle.core_rule.specs.Flight.{WhileAccess}
 use Rattle.core_rule.specs.Reached.{ReachesInBook}
 use Rattle.core_rule.specs.Stands.{Stands}
 use Rattle.core_rule.specs.Told.{own_state}
@@ -48,10 +49,10 @@ TellsWord heap number seat (Access (WalkLoad fragment)) found = TellsMeta heap n
 TellsWord heap number seat (Turning (LookLoad other)) found = TellsAnswer seat found
 TellsWord heap number seat _ found = Unit {0}
 
--- what is told at a seat's due step that found this word: of the word, and of what the call has reached
+-- what is told at a seat's due step that found this word: of the word, and of what a call on an object has reached
 pub record TellsFound (heap : Heap) (number : ℕ) (seat : Seat) (found : ℕ) : Type 0 where
   pub word : IfSome (due_step heap number seat) (λ step. TellsWord heap number seat step found)
-  pub reached : ReachesInBook heap number seat found
+  pub reached : WhileAccess (ReachesInBook heap number seat found) seat.place
 
 -- from any state that a book stands for, so much is told at each seat's due step
 unfoldable pub EachFoundIsTold : Type 0

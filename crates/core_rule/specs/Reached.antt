@@ -14,7 +14,6 @@ use Rattle.core_machine.specs.seat.Commands.{object_of, field_of}
 use Rattle.core_machine.specs.seat.Registers.{register_in}
 use Rattle.core_machine.specs.seat.Seat.{Seat}
 use Rattle.core_rule.specs.Book.{Book, fragment_at, id_at}
-use Rattle.core_rule.specs.Flight.{WhileAccess}
 use Rattle.core_rule.specs.Objects.{node_at}
 use Rattle.core_rule.specs.Owners.{Kept}
 use Rattle.core_rule.specs.Stands.{Stands}
@@ -74,11 +73,11 @@ ReachesOwn heap book number seat ShadingOld = IsFieldPlace heap book number seat
 ReachesOwn heap book number seat ShadingNew = IsFieldPlace heap book number seat
 ReachesOwn heap book number seat Swapping = IsFieldPlace heap book number seat
 
--- some book stands for a state in which the seat is this one and its due step finds this word, and there the call has reached this
-pub record ReachesInBook (heap : Heap) (number : ℕ) (seat : Seat) (found : ℕ) : Type 0 where
+-- some book stands for a state in which the seat is this one and its due step finds this word, and there the call has reached this at the place
+pub record ReachesInBook (heap : Heap) (number : ℕ) (seat : Seat) (found : ℕ) (place : Access) : Type 0 where
   pub state : State
   pub book : Book
   pub stands : Stands heap state book
   pub here : seat_at state number ≡ seat
   pub finds : IfSome (due_step heap number seat) (λ step. found ≡ found_by heap state step)
-  pub reaches : WhileAccess (ReachesOwn heap book number seat) seat.place
+  pub reaches : ReachesOwn heap book number seat place

@@ -1,5 +1,5 @@
 -- What the rule says of a machine whose seat has no call in flight, by the entries so far.
-use Rattle.std.proofs.Common.{◌≡◌, ℕ, ◌+◌, ◌<◌, ◌≤◌, false, List, [], length, refl, sym, ap, subst, ◌∙◌, inl, inr, arith}
+use Rattle.std.proofs.Common.{◌≡◌, ℕ, ◌+◌, ◌<◌, ◌≤◌, false, List, [], length, refl, sym, ap, subst, ◌∙◌, arith}
 use Rattle.heap_model.specs.declared.heap.Heap.{Heap}
 use Rattle.heap_model.specs.declared.command.Command.{Command}
 use Rattle.heap_model.specs.declared.command.Command.TheVariants as commands
@@ -16,6 +16,7 @@ use Rattle.core_machine.specs.machine.Machine.{State, seat_at}
 use Rattle.core_machine.specs.seat.Fits.{IsAtRest, FitsPlace}
 use Rattle.core_machine.specs.seat.Seat.{Seat, HasNumberLeft}
 use Rattle.core_machine.specs.table.Layout.{at}
+use Rattle.core_rule.proofs.told.NearPhases.{phase_told}
 use Rattle.core_rule.specs.Laws.{StandsFor, AllIdle, WordsAreUsed}
 use Rattle.core_rule.specs.Holding.{fragments_in_hand}
 use Rattle.core_rule.specs.Phases.{answer_word}
@@ -63,13 +64,7 @@ module _ (heap : Heap) (state : State) (told : List Entry) (s : StandsFor heap s
 
     -- the phase word is the phase that the seat answered last, or the next
     pub phase_near : seat.left ≡ false → IsPhaseNear heap state number
-    phase_near present = elim ((s.stands.rule.seats_stand number below).cycle.answers_told.near present) [
-      | inl same ↦ inl (word ∙ sym same)
-      | inr next ↦ inr (word ∙ sym next)
-    ]
-      where
-        word : at heap state.words Phase ≡ phase s.book.history
-        word = s.stands.rule.heap_stands.cycle.word
+    phase_near present = phase_told heap state s.book number s.stands.rule below present
 
     pub number_left : (command : Command) → HasNumber (record { heap = heap; number = number; mine = told; spare = 0 }) command → HasNumberLeft seat.made seat.sets command
     number_left (commands.New d fields) has = rw made_is has

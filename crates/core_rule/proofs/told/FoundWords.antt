@@ -28,10 +28,11 @@ use Rattle.core_rule.specs.Book.{Book}
 use Rattle.core_rule.specs.Counts.{Awaits}
 use Rattle.core_rule.specs.Found.{TellsWord, TellsFound, EachFoundIsTold}
 use Rattle.core_rule.specs.Looks.{WhileCollecting, CollectingStands}
+use Rattle.core_rule.specs.Reached.{ReachesInBook}
 use Rattle.core_rule.specs.Registers.{IsAwaited}
 use Rattle.core_rule.specs.Rule.{Rule}
 use Rattle.core_rule.specs.Stands.{Stands}
-use Rattle.core_rule.proofs.entries.AtRest.{none_awaited}
+use Rattle.core_rule.proofs.entries.AtRest.{in_flight, none_awaited}
 use Rattle.core_rule.proofs.entries.SeatLists.{all_told}
 use Rattle.core_rule.proofs.told.NearPhases.{phase_told, answer_told}
 use Rattle.core_rule.proofs.told.OwnMetas.{if_some, metas_told}
@@ -50,7 +51,7 @@ module _ (heap : Heap) (state : State) (book : Book) (number : ℕ) (stands : St
 
   module _ (busy : seat.place ≢ places.Idle) where
     polled : TellsAt steps.PollLoad
-    polled = phase_told heap state book number rule here busy
+    polled = phase_told heap state book number rule here (in_flight rule number here busy)
 
     refused : (command : Command) → TellsAt (refusal_step command (spine_need seat))
     refused (commands.Array d cells) = tt
@@ -73,7 +74,7 @@ module _ (heap : Heap) (state : State) (book : Book) (number : ℕ) (stands : St
     collected_at (collecting.Comparing other p) is =
         let looks = stands.looks number here in
         let asks : CollectingStands heap book.history number (collecting.Comparing other p) = subst (WhileCollecting (CollectingStands heap book.history number)) is looks.asks in
-        answer_told heap state book number rule here busy other asks.asked.below looks.seen
+        answer_told heap state book number rule here (in_flight rule number here busy) other asks.asked.below looks.seen
     collected_at collecting.Looking is = polled
     collected_at (collecting.Asking other) is = polled
     collected_at (collecting.Noting reply) is = polled
@@ -112,14 +113,8 @@ module _ (heap : Heap) (state : State) (book : Book) (number : ℕ) (stands : St
   found_told : (step : Step) → due_step heap number seat ≡ Some step → TellsFound heap number seat (found_by heap state step)
   found_told step due = record {
     word = rw due at_step;
-    reached = record {
-      state = state;
-      book = book;
-      stands = stands;
-      here = refl;
-      finds = rw due refl;
-      reaches = reaches_own heap state book number rule here;
-    };
+    reached = reaches_own heap state book number rule here (ReachesInBook heap number seat (found_by heap state step))
+        (λ place reaches. record { state = state; book = book; stands = stands; here = refl; finds = rw due refl; reaches = reaches });
   }
     where
       at_step : TellsWord heap number seat step (found_by heap state step)

@@ -1,8 +1,7 @@
 -- The phase word is near to what a seat has answered, and so is another seat's word.
-use Rattle.std.proofs.Common.{◌≡◌, ◌≢◌, ℕ, ◌+◌, ◌<◌, ◌≤◌, Bool, true, false, refl, sym, ap, ◌∙◌, inl, inr, arith}
+use Rattle.std.proofs.Common.{◌≡◌, ℕ, ◌+◌, ◌<◌, ◌≤◌, Bool, true, false, refl, sym, ap, ◌∙◌, inl, inr, arith}
 use Rattle.heap_model.specs.account.PhaseCounts.{phase}
 use Rattle.heap_model.specs.declared.heap.Heap.{Heap}
-use Rattle.core_machine.specs.declared.place.Place.TheVariants as places
 use Rattle.core_machine.specs.declared.table.address.Address.TheVariants.{Phase, Answer}
 use Rattle.core_machine.specs.machine.Machine.{State, seat_at}
 use Rattle.core_machine.specs.seat.Seat.{Seat}
@@ -11,7 +10,6 @@ use Rattle.core_rule.specs.Book.{Book}
 use Rattle.core_rule.specs.Found.{IsAnsweredOrNext, TellsAnswer}
 use Rattle.core_rule.specs.Phases.{IsNear, answer_word}
 use Rattle.core_rule.specs.Rule.{Rule}
-use Rattle.core_rule.proofs.entries.AtRest.{in_flight}
 
 -- the phase is at most one ahead of an answer that is near to it
 near_next : (phase answer : ℕ) → IsNear phase answer → phase ≤ answer + 1
@@ -26,13 +24,13 @@ answered_or_next : (found phase answer : ℕ) → found ≡ phase → IsNear pha
 answered_or_next found phase answer is (inl same) = inl (is ∙ sym same)
 answered_or_next found phase answer is (inr behind) = inr (is ∙ sym behind)
 
-module _ (heap : Heap) (state : State) (book : Book) (number : ℕ) (rule : Rule heap state book) (here : number < heap.seats) (busy : (seat_at state number).place ≢ places.Idle) where
+module _ (heap : Heap) (state : State) (book : Book) (number : ℕ) (rule : Rule heap state book) (here : number < heap.seats) (present : (seat_at state number).left ≡ false) where
   abbrev seat : Seat
   seat = seat_at state number
 
-  -- a seat with a call in flight hasn't left, so its answer is near
+  -- the answer of a seat that hasn't left is near
   near : IsNear (phase book.history) seat.answered
-  near = (rule.seats_stand number here).cycle.answers_told.near (in_flight rule number here busy)
+  near = (rule.seats_stand number here).cycle.answers_told.near present
 
   -- the phase word is near to what it has answered
   pub phase_told : IsAnsweredOrNext seat.answered (at heap state.words Phase)

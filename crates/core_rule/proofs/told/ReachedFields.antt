@@ -87,9 +87,11 @@ module _ (heap : Heap) (state : State) (book : Book) (number : ℕ) (rule : Rule
   reaches_in ShadingNew is fits way = at_field ShadingNew is (λ d r e. e) fits.0.2.arrived way.0
   reaches_in Swapping is fits way = at_field Swapping is (λ d r e. e) fits.0.2.arrived way.0
 
-  reaches_at : (place : Place) → seat.place ≡ place → FitsWay seat place → WayStands nodes book.made book.owner book.fragments seat place → WhileAccess (ReachesOwn heap book number seat) place
-  reaches_at (places.Access place) is fits way = reaches_in place is fits way
-  reaches_at place is fits way = tt
+  reaches_at : (P : Access → Type 0) (place : Place) → seat.place ≡ place → FitsWay seat place → WayStands nodes book.made book.owner book.fragments seat place
+      → ((reaching : Access) → ReachesOwn heap book number seat reaching → P reaching) → WhileAccess P place
+  reaches_at P (places.Access place) is fits way goes = goes place (reaches_in place is fits way)
+  reaches_at P place is fits way goes = tt
 
-  pub reaches_own : WhileAccess (ReachesOwn heap book number seat) seat.place
-  reaches_own = reaches_at seat.place refl (seat_fits rule number here).way_at_place (rule.seats_stand number here).names.way
+  -- so it is at the seat's place, and so what follows
+  pub reaches_own : (P : Access → Type 0) → ((reaching : Access) → ReachesOwn heap book number seat reaching → P reaching) → WhileAccess P seat.place
+  reaches_own P goes = reaches_at P seat.place refl (seat_fits rule number here).way_at_place (rule.seats_stand number here).names.way goes

@@ -1,0 +1,50 @@
+-- A store finds no word: what is told at its step is told of any word.
+use Rattle.std.specs.Prelude.{option_map}
+use Rattle.std.proofs.Common.{◌≡◌, ℕ, Some, ap, ◌∙◌}
+use Rattle.heap_model.specs.declared.heap.Heap.{Heap}
+use Rattle.core_machine.specs.declared.place.Access.{Access}
+use Rattle.core_machine.specs.declared.place.Access.TheVariants.{LoadingMeta, Walking, Locating, Indexing, Getting, Naming, LoadingOld, ShadingOld, ShadingNew, Swapping}
+use Rattle.core_machine.specs.declared.place.Place.{Place}
+use Rattle.core_machine.specs.declared.place.Place.TheVariants as places
+use Rattle.core_machine.specs.declared.step.AccessStep.TheVariants.{WalkLoad}
+use Rattle.core_machine.specs.declared.step.operation.Operation.TheVariants.{Store}
+use Rattle.core_machine.specs.declared.step.Step.{Step}
+use Rattle.core_machine.specs.declared.step.Step.TheVariants as steps
+use Rattle.core_machine.specs.declared.step.TurningStep.TheVariants.{LookLoad}
+use Rattle.core_machine.specs.Moves.{Move, move_at, due_step, access_move}
+use Rattle.core_machine.specs.seat.Seat.{Seat}
+use Rattle.core_machine.specs.table.Operation.{operation_of}
+use Rattle.core_rule.specs.Flight.{WhileAccess}
+use Rattle.core_rule.specs.Found.{TellsWord, TellsFound}
+
+module _ (heap : Heap) (number : ℕ) (seat : Seat) (stored word : ℕ) where
+  -- of no word that is loaded
+  none_loaded : (step : Step) → operation_of step ≡ Store stored → TellsWord heap number seat step word
+  none_loaded steps.PollLoad stores = absurd (cc stores)
+  none_loaded (steps.Access (WalkLoad fragment)) stores = absurd (cc stores)
+  none_loaded (steps.Turning (LookLoad other)) stores = absurd (cc stores)
+  none_loaded step stores = tt
+
+  -- and at no place of a call on an object
+  no_access : (place : Access) → operation_of (access_move heap number seat place).step ≡ Store stored → ⊥
+  no_access LoadingMeta stores = cc stores
+  no_access Walking stores = cc stores
+  no_access Locating stores = cc stores
+  no_access Indexing stores = cc stores
+  no_access Getting stores = cc stores
+  no_access Naming stores = cc stores
+  no_access LoadingOld stores = cc stores
+  no_access ShadingOld stores = cc stores
+  no_access ShadingNew stores = cc stores
+  no_access Swapping stores = cc stores
+
+  module _ (step : Step) (stores : operation_of step ≡ Store stored) where
+    nowhere : (P : Access → Type 0) (place : Place) → option_map (λ (m : Move). m.step) (move_at heap number seat place) ≡ Some step → WhileAccess P place
+    nowhere P (places.Access place) due = let same : (access_move heap number seat place).step ≡ step = cc due in absurd (no_access place (ap operation_of same ∙ stores))
+    nowhere P place due = tt
+
+    pub store_tells : due_step heap number seat ≡ Some step → TellsFound heap number seat word
+    store_tells due = record {
+      word = rw due (none_loaded step stores);
+      reached = nowhere _ seat.place due;
+    }
