@@ -62,11 +62,6 @@ of_returns : (place : Place) (due : Option Step) (step : Step) → due_of_return
 of_returns (places.Making Returning) due step e = (refl, e)
 of_returns _ due step e = cc
 
--- no step is due any more
-pub no_more : (due : Option Step) → ((step : Step) → due ≡ Some step → ⊥) → due ≡ None
-no_more None none = refl
-no_more (Some step) none = absurd (none step refl)
-
 -- a holder goes on by one step
 module _ (first now new : SeatHeld) (step : Step) (found : ℕ) (sound : IsSound now) (due : due_step now.heap now.number now.seat ≡ Some step)
     (stepped : IsStepped now new found) (told : ToldAtStep now.heap now.number now.seat found) where

@@ -1,3 +1,4 @@
 pub mod Claims
 pub mod Gathers
 pub mod GivesBack
+pub mod Begun

@@ -65,6 +65,11 @@ found_more made m step word there = let inside = there.1 in (suc there.0, omega 
 pub found_first : (made : List Made) (m : Made) → FoundIn (m ∷ made) m.step m.found
 found_first made m = (0, omega arith, refl)
 
+-- no step is due any more
+pub no_more : (due : Option Step) → ((step : Step) → due ≡ Some step → ⊥) → due ≡ None
+no_more None none = refl
+no_more (Some step) none = absurd (none step refl)
+
 -- some words have this one at an address
 some_words : (heap : Heap) (a : Address) (found : ℕ) → (words : List ℕ) × (at heap words a ≡ found)
 some_words heap a found =

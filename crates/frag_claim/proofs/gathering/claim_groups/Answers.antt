@@ -1,5 +1,6 @@
 use Rattle.std.proofs.Common.{sym, ◌∙◌}
-use Rattle.frag_claim.proofs.Claims.{claims_begin, claims_on, claims_end, no_more}
+use Rattle.heap_table.proofs.MadeSteps.{no_more}
+use Rattle.frag_claim.proofs.Claims.{claims_begin, claims_on, claims_end}
 use Rattle.frag_claim.proofs.gathering.claim_groups.Goals as goal
 
 pub loop-step-init : goal.loop-step-init

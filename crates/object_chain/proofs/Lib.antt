@@ -1,0 +1,4 @@
+pub mod Births
+pub mod Born
+pub mod Links
+pub mod Named

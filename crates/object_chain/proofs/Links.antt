@@ -1,0 +1,187 @@
+-- A walk goes by one link after another to its field.
+use Rattle.std.proofs.Common.{◌≡◌, ℕ, zero, suc, ◌+◌, ◌<◌, ◌≤◌, List, [], ◌∷◌, ◌++◌, Option, Some, None, refl, sym, ap, subst, ◌∙◌, inl, inr, arith}
+use Rattle.std.proofs.lemmas.Bool.Decides.{eqb_tells, leb_tells}
+use Rattle.std.proofs.lemmas.List.Elements.{Contains-append_left, Contains-append_right}
+use Rattle.std.specs.Prelude.{option_map}
+use Rattle.heap_words.specs.Loaded.{length_of}
+use Rattle.heap_words.specs.declared.meta.Meta.{Meta}
+use Rattle.heap_model.specs.declared.command.Command.{Command}
+use Rattle.heap_model.specs.declared.command.Command.TheVariants as commands
+use Rattle.heap_model.specs.declared.heap.Heap.{Heap}
+use Rattle.heap_model.specs.declared.reply.Reply.{Reply}
+use Rattle.core_machine.specs.Moves.{Move, move_at, due_step, seat_after_due}
+use Rattle.core_machine.specs.calls.Reaching.{LeadsTo}
+use Rattle.core_machine.specs.declared.place.Access.TheVariants.{Walking, Getting, LoadingOld, Swapping}
+use Rattle.core_machine.specs.declared.place.Place.{Place}
+use Rattle.core_machine.specs.declared.place.Place.TheVariants as places
+use Rattle.core_machine.specs.declared.step.AccessStep.TheVariants.{WalkLoad}
+use Rattle.core_machine.specs.declared.step.Step.{Step}
+use Rattle.core_machine.specs.declared.step.Step.TheVariants as steps
+use Rattle.core_machine.specs.seat.Access.{row_of, part_of, at_access, with_field_place, field_place_of, way_place_of, after_link, after_walk, after_length, after_meta, meta_reply_of}
+use Rattle.core_machine.specs.seat.AccessMoves.{reply_entries_if}
+use Rattle.core_machine.specs.seat.Commands.{field_of}
+use Rattle.core_machine.specs.seat.FitsAccess.{NamesField}
+use Rattle.core_machine.specs.seat.Seat.{Seat, with_entries}
+use Rattle.core_machine.proofs.call_lemmas.Owes.{owes, owes_at, steps_left}
+use Rattle.core_machine.proofs.seat_lemmas.FieldPlaces.{field_cases}
+use Rattle.heap_table.specs.Made.{Made, FoundIn, MakesSteps, IsSound}
+use Rattle.heap_table.specs.SeatHeld.{SeatHeld, IsStepped}
+use Rattle.heap_table.specs.Told.{ToldAtStep}
+use Rattle.heap_table.proofs.MadeSteps.{makes_none, makes_append, makes_one, step_nears}
+use Rattle.object_chain.specs.Due.{due_of_walk}
+use Rattle.object_chain.specs.Walking.{BeginsWalking, HasFound, IsAtField}
+
+-- what is told of each word by fewer is told by more
+leads_by : (few more : Step → ℕ → Type 0) (links head reached : ℕ) → ((step : Step) (word : ℕ) → few step word → more step word) → LeadsTo few links head reached → LeadsTo more links head reached
+leads_by few more zero head reached on leads = leads
+leads_by few more (suc links) head reached on leads =
+    (leads.0, leads.1, leads_by few more links head leads.0 on leads.2, on (steps.Access (WalkLoad leads.0)) leads.1 leads.3, leads.4)
+
+-- so far the way has come where so many links are left, or at the field
+abbrev pub WayAt : (Step → ℕ → Type 0) → ℕ → ℕ → ℕ → ℕ → Place → Type 0
+WayAt tells head rows links reached (places.Access Walking) = (passed : ℕ) × (passed + links ≡ rows) × LeadsTo tells passed head reached
+WayAt tells head rows links reached (places.Access Getting) = LeadsTo tells rows head reached
+WayAt tells head rows links reached (places.Access LoadingOld) = LeadsTo tells rows head reached
+WayAt tells head rows links reached (places.Access Swapping) = LeadsTo tells rows head reached
+WayAt tells head rows links reached _ = ⊥
+
+way_by : (few more : Step → ℕ → Type 0) (head rows links reached : ℕ) (place : Place) → ((step : Step) (word : ℕ) → few step word → more step word) → WayAt few head rows links reached place → WayAt more head rows links reached place
+way_by few more head rows links reached (places.Access Walking) on way = (way.0, way.1, leads_by few more way.0 head reached on way.2)
+way_by few more head rows links reached (places.Access Getting) on way = leads_by few more rows head reached on way
+way_by few more head rows links reached (places.Access LoadingOld) on way = leads_by few more rows head reached on way
+way_by few more head rows links reached (places.Access Swapping) on way = leads_by few more rows head reached on way
+way_by few more head rows links reached _ on way = absurd way
+
+module _ (tells : Step → ℕ → Type 0) (head rows : ℕ) where
+  -- the way of this seat
+  abbrev pub WayOf : Seat → Type 0
+  WayOf seat = WayAt tells head rows seat.links seat.reached seat.place
+
+  -- where no link is left it is at the field
+  at_field : (seat : Seat) → LeadsTo tells rows head seat.reached → WayOf (at_access seat (field_place_of seat seat.command))
+  at_field seat leads = field_cases (λ a. WayAt tells head rows seat.links seat.reached (places.Access a)) seat seat.command leads (λ on. leads) (λ off. leads)
+
+  on_way : (seat : Seat) → (passed : ℕ) → passed + seat.links ≡ rows → LeadsTo tells passed head seat.reached → WayAt tells head rows seat.links seat.reached (places.Access (way_place_of seat))
+  on_way seat passed all leads =
+      elim (eqb_tells seat.links 0) as (λ _. WayAt tells head rows seat.links seat.reached (places.Access (way_place_of seat))) [
+        | inl none ↦
+            let whole : passed ≡ rows = omega (arith, all, none.1) in
+            rw none.0 (at_field seat (subst (λ (n : ℕ). LeadsTo tells n head seat.reached) whole leads))
+        | inr some ↦ rw some.0 (passed, all, leads)
+      ]
+
+  -- one link more
+  walked : (seat : Seat) (found passed : ℕ) → passed + seat.links ≡ rows → LeadsTo tells passed head seat.reached → tells (steps.Access (WalkLoad seat.reached)) found → WayOf (after_walk seat found)
+  walked seat found passed all leads tell =
+      elim (eqb_tells seat.links 0) as (λ _. WayOf (after_walk seat found)) [
+        | inl none ↦
+            let whole : passed ≡ rows = omega (arith, all, none.1) in
+            rw none.0 (at_field seat (subst (λ (n : ℕ). LeadsTo tells n head seat.reached) whole leads))
+        | inr some ↦ rw some.0 (on_way (after_link seat found) (suc passed) (omega (arith, all, some.1)) (seat.reached, found, leads, tell, refl))
+      ]
+
+-- walking leaves the field's part
+part_stays : (seat : Seat) (found : ℕ) → (after_walk seat found).part ≡ seat.part
+part_stays seat found = elim (eqb_tells seat.links 0) as (λ _. (after_walk seat found).part ≡ seat.part) [ inl none ↦ rw none.0 refl | inr some ↦ rw some.0 refl ]
+
+-- a field that the object has is not refused
+none_refused : (command : Command) (word : ℕ) → NamesField command → field_of command < length_of word → meta_reply_of command word ≡ None
+none_refused (commands.Get d r i) word names within = elim (leb_tells (suc i) (length_of word)) as (λ _. meta_reply_of (commands.Get d r i) word ≡ None) [ inl yes_ ↦ rw yes_.0 refl | inr past ↦ absurd (omega (arith, past.1, within)) ]
+none_refused (commands.Set r i v) word names within = elim (leb_tells (suc i) (length_of word)) as (λ _. meta_reply_of (commands.Set r i v) word ≡ None) [ inl yes_ ↦ rw yes_.0 refl | inr past ↦ absurd (omega (arith, past.1, within)) ]
+none_refused _ word names within = absurd names
+
+-- while the way goes on
+pub record WhileWalking (head : ℕ) (meta : Meta) (field : ℕ) (first now : SeatHeld) : Type 0 where
+  pub made : List Made
+  pub makes : MakesSteps first now made
+  pub way : WayOf (HasFound made head meta) head (row_of field) now.seat
+  pub part_is : now.seat.part ≡ part_of field
+  pub room : owes now.seat + 2 ≤ now.spare
+
+-- each place of it owes one entry
+way_owes : (tells : Step → ℕ → Type 0) (head rows links reached : ℕ) (seat : Seat) (place : Place) → WayAt tells head rows links reached place → owes_at seat place ≡ 1
+way_owes tells head rows links reached seat (places.Access place) way = refl
+way_owes tells head rows links reached seat _ way = absurd way
+
+pub walk_begins : (held : SeatHeld) (head : ℕ) (meta : Meta) (field : ℕ) → BeginsWalking held head meta field → 3 ≤ held.spare → WhileWalking head meta field held held
+walk_begins held head meta field begins room =
+    let before = begins.before in
+    let start = with_field_place before in
+    let tells = HasFound [] head meta in
+    let within : field_of before.command < length_of begins.word = omega (arith, begins.within, begins.field_is, begins.tells.length_is) in
+    let is : held.seat ≡ with_entries (after_walk start begins.word) [] =
+    begins.goes_on ∙ ap (λ (p : Place). seat_after_due before (move_at held.heap held.number before p) begins.word) begins.loading
+    ∙ ap (λ (r : Option Reply). with_entries (after_meta before begins.word r) (reply_entries_if held.number before r)) (none_refused before.command begins.word begins.names within)
+    ∙ ap (λ (n : Option ℕ). with_entries (after_length before begins.word n) []) begins.tells.a_record in
+    let rows : row_of (field_of before.command) ≡ row_of field = ap row_of begins.field_is in
+    let tell : tells (steps.Access (WalkLoad start.reached)) begins.word = inr (ap (λ (n : ℕ). steps.Access (WalkLoad n)) begins.head_is, begins.tells) in
+    let way : WayOf tells head (row_of field) (after_walk start begins.word) = walked tells head (row_of field) start begins.word 0 (omega (arith, rows)) begins.head_is tell in
+    let here : WayOf tells head (row_of field) held.seat = subst (λ (s : Seat). WayOf tells head (row_of field) s) (sym is) way in
+    record {
+      made = [];
+      makes = makes_none held;
+      way = here;
+      part_is = ap (λ (s : Seat). s.part) is ∙ part_stays start begins.word ∙ ap part_of begins.field_is;
+      room = omega (arith, room, way_owes tells head (row_of field) held.seat.links held.seat.reached held.seat held.seat.place here);
+    }
+
+of_walk : (place : Place) (due : Option Step) (step : Step) → due_of_walk place due ≡ Some step → (place ≡ places.Access Walking) × (due ≡ Some step)
+of_walk (places.Access Walking) due step e = (refl, e)
+of_walk _ due step e = cc
+
+same_step : {a b : Step} → Some a ≡ Some b → a ≡ b
+same_step e = cc
+
+pub walks_on : (head : ℕ) (meta : Meta) (field : ℕ) (first now new : SeatHeld) (step : Step) (found : ℕ) → IsSound now → WhileWalking head meta field first now
+    → due_of_walk now.seat.place (due_step now.heap now.number now.seat) ≡ Some step → IsStepped now new found → ToldAtStep now.heap now.number now.seat found
+    → WhileWalking head meta field first new × (steps_left new.heap new.seat < steps_left now.heap now.seat)
+walks_on head meta field first now new step found sound while is stepped told =
+    let at = of_walk now.seat.place (due_step now.heap now.number now.seat) step is in
+    let near = step_nears now.heap now.number now.seat sound.limits (omega (arith, sound.within, sound.limits.seats_fit)) sound.fits step found new.seat at.1 stepped.seat_is in
+    let made = while.made ++ record { step = step; found = found } ∷ [] in
+    let tells = HasFound made head meta in
+    let loads : steps.Access (WalkLoad now.seat.reached) ≡ step =
+    same_step (sym (ap (λ (p : Place). option_map (λ (m : Move). m.step) (move_at now.heap now.number now.seat p)) at.0) ∙ at.1) in
+    let last : FoundIn made step found = Contains-append_right while.made (record { step = step; found = found } ∷ []) (record { step = step; found = found }) (0, omega arith, refl) in
+    let tell : tells (steps.Access (WalkLoad now.seat.reached)) found = inl (subst (λ (s : Step). FoundIn made s found) (sym loads) last) in
+    let way : WayAt (HasFound while.made head meta) head (row_of field) now.seat.links now.seat.reached (places.Access Walking) =
+    subst (WayAt (HasFound while.made head meta) head (row_of field) now.seat.links now.seat.reached) at.0 while.way in
+    let wider = way_by (HasFound while.made head meta) tells head (row_of field) now.seat.links now.seat.reached (places.Access Walking) (λ s w. more s w) way in
+    let next : new.seat ≡ with_entries (after_walk now.seat found) [] =
+    stepped.seat_is ∙ ap (λ (p : Place). seat_after_due now.seat (move_at now.heap now.number now.seat p) found) at.0 in (
+      record {
+        made = made;
+        makes = makes_append first now new while.made (record { step = step; found = found } ∷ []) while.makes (makes_one now new step found at.1 told stepped);
+        way = subst (λ (s : Seat). WayOf tells head (row_of field) s) (sym next) (walked tells head (row_of field) now.seat found wider.0 wider.1 wider.2 tell);
+        part_is = ap (λ (s : Seat). s.part) next ∙ part_stays now.seat found ∙ while.part_is;
+        room = omega (arith, while.room, near.1, stepped.room_stays);
+      },
+      subst (λ (h : Heap). steps_left h new.seat < steps_left now.heap now.seat) (sym stepped.heap_stays) near.0,
+    )
+  where
+    more : (s : Step) (w : ℕ) → HasFound while.made head meta s w → HasFound (while.made ++ record { step = step; found = found } ∷ []) head meta s w
+    more s w (inl here) = inl (Contains-append_left while.made (record { step = step; found = found } ∷ []) (record { step = s; found = w }) here)
+    more s w (inr first_) = inr first_
+
+-- once no link is to be loaded the seat is at the field
+module _ (head : ℕ) (meta : Meta) (field : ℕ) (first held : SeatHeld) (while : WhileWalking head meta field first held) (none : due_of_walk held.seat.place (due_step held.heap held.number held.seat) ≡ None) where
+  abbrev tells : Step → ℕ → Type 0
+  tells = HasFound while.made head meta
+
+  some_due : {step : Step} → due_step held.heap held.number held.seat ≡ None → due_step held.heap held.number held.seat ≡ Some step → ⊥
+  some_due a b = cc
+
+  ends_at : (place : Place) → held.seat.place ≡ place → WayAt tells head (row_of field) held.seat.links held.seat.reached place → LeadsTo tells (row_of field) head held.seat.reached × IsAtField place
+  ends_at (places.Access Walking) is way =
+      absurd (some_due (ap (λ (p : Place). due_of_walk p (due_step held.heap held.number held.seat)) (sym is) ∙ none)
+      (ap (λ (p : Place). option_map (λ (m : Move). m.step) (move_at held.heap held.number held.seat p)) is))
+  ends_at (places.Access Getting) is way = (way, tt)
+  ends_at (places.Access LoadingOld) is way = (way, tt)
+  ends_at (places.Access Swapping) is way = (way, tt)
+  ends_at _ is way = absurd way
+
+  pub walk_ends : LeadsTo (HasFound while.made head meta) (row_of field) head held.seat.reached × IsAtField held.seat.place
+  walk_ends = ends_at held.seat.place refl while.way
+
+  pub walk_room : 3 ≤ held.spare
+  walk_room = omega (arith, while.room, way_owes tells head (row_of field) held.seat.links held.seat.reached held.seat held.seat.place while.way)

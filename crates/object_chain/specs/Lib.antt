@@ -1,0 +1,4 @@
+pub mod Bearing
+pub mod Due
+pub mod Naming
+pub mod Walking

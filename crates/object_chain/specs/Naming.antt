@@ -1,0 +1,22 @@
+-- An object is named.
+use Rattle.std.specs.Prelude.{◌≡◌, ℕ, List, Some}
+use Rattle.heap_words.specs.Loaded.{head_of}
+use Rattle.heap_words.specs.Name.{name_in}
+use Rattle.heap_words.specs.declared.name.Name.{Name}
+use Rattle.core_machine.specs.declared.place.Access.TheVariants.{Naming}
+use Rattle.core_machine.specs.declared.place.Place.TheVariants as places
+use Rattle.core_machine.specs.declared.step.AccessStep.TheVariants.{NameLoad}
+use Rattle.core_machine.specs.declared.step.Step.TheVariants.{Access}
+use Rattle.heap_table.specs.Made.{Made, FoundIn}
+use Rattle.heap_table.specs.SeatHeld.{SeatHeld}
+
+-- the get in flight has found a reference to the object with this first fragment, and awaits its name
+pub record BeginsNaming (held : SeatHeld) (head : ℕ) : Type 0 where
+  pub place_is : held.seat.place ≡ places.Access Naming
+  pub head_is : head_of held.seat.loaded ≡ Some head
+
+-- one of these steps loaded the object's name, which is this one
+pub record IsNamed (made : List Made) (head : ℕ) (name : Name) : Type 0 where
+  pub word : ℕ
+  pub loaded : FoundIn made (Access (NameLoad head)) word
+  pub name_is : name ≡ name_in word

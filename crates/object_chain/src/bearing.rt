@@ -1,0 +1,54 @@
+ghost use Rattle.std.specs.Prelude.{◌≡◌, ◌+◌, ◌*◌, ◌≤◌, ◌++◌, List, [], ◌∷◌, length, slice_set, slice_index_or};
+ghost use Rattle.heap_model.specs.declared.command.Command.TheVariants.{New};
+ghost use Rattle.heap_model.specs.declared.entry.Entry.TheVariants.{Said};
+ghost use Rattle.heap_model.specs.declared.id.Id.TheVariants.{Made as MadeBy};
+ghost use Rattle.heap_model.specs.declared.reply.Reply.TheVariants.{Made as TellsMade};
+ghost use Rattle.core_machine.specs.Moves.{due_step};
+ghost use Rattle.core_machine.specs.calls.Making.{name_after, HasStored};
+ghost use Rattle.core_machine.specs.declared.place.Place.TheVariants.{Idle};
+ghost use Rattle.core_machine.specs.declared.seat.register.Register.TheVariants.{Object};
+ghost use Rattle.core_machine.specs.seat.Seat.{no_spot};
+ghost use Rattle.heap_table.specs.Made.{Made, FoundIn, MakesSteps, BySteps, IsSound};
+ghost use Rattle.object_chain.specs.Bearing.{BeginsBearing, IsBorn};
+ghost use Rattle.object_chain.specs.Due.{due_of_bearing as due_at_bearing};
+
+use core_machine::{Entries, Making, Place, Step};
+use heap_model::Id;
+use heap_table::Holder;
+
+/// The store or the birth that is due, until the object is born.
+fn due_of_bearing<L: Entries>(holder: &Holder<L>) -> Option<Step>
+    ensures due { result ≡ due_at_bearing holder.now.seat.place (due_step holder.now.heap holder.now.number holder.now.seat) }
+    ensures sound { IsSound holder.now }
+{
+    match holder.party().place() {
+        Place::Making(Making::Storing | Making::Bearing) => holder.due(),
+        _ => None,
+    }
+}
+
+/// Stores the words of the record that the call in flight makes, bears its fragments, and answers its id.
+pub fn bear_record<L: Entries>(holder: &mut Holder<L>, fragments: &[u16], fields: u16, d: u8) -> Id
+    requires begins { BeginsBearing holder.old fragments.now fields d }
+    requires room { 3 ≤ holder.old.spare }
+    ensures steps { (made : List Made) × MakesSteps holder.old holder.new made }
+    ensures stored { BySteps holder.old holder.new (λ made. HasStored (FoundIn made) (New d fields) (name_after holder.old.number holder.old.seat.made) no_spot fragments.now (4 * length fragments.now)) }
+    ensures born { BySteps holder.old holder.new (λ made. IsBorn made fragments.now) }
+    ensures id { result ≡ MadeBy holder.old.number holder.old.seat.made }
+    ensures counted { holder.new.seat.made ≡ holder.old.seat.made + 1 }
+    ensures register { holder.new.seat.registers ≡ slice_set holder.old.seat.registers d (Object (slice_index_or fragments.now 0 0) result) }
+    ensures reserve { holder.new.seat.reserve ≡ holder.old.seat.reserve }
+    ensures over { holder.new.seat.place ≡ Idle }
+    ensures told { holder.new.seat.mine ≡ holder.old.seat.mine ++ Said holder.old.number (New d fields) (TellsMade result) ∷ [] }
+{
+    let id = Id::Made {
+        seat: holder.number(),
+        count: holder.made(),
+    };
+    // What is true of every seat's data is known from here on.
+    let _ = holder.party();
+    while let Some(step) = due_of_bearing(holder) {
+        holder.step(&step);
+    }
+    id
+}
