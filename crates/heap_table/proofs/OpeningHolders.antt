@@ -18,6 +18,7 @@ use Rattle.core_machine.specs.seat.Seat.{Seat}
 use Rattle.core_machine.specs.table.Layout.{at, InTable, table_length}
 use Rattle.core_machine.proofs.machine_lemmas.OpeningMachine.{opening_machine}
 use Rattle.core_rule.proofs.runs.OpeningStands.{opening_stands, opening_seat_at}
+use Rattle.core_rule.specs.Told.{IsAsTold}
 use Rattle.heap_table.specs.Begun.{Same}
 use Rattle.heap_table.specs.CollectorHeld.{CollectorHeld, KeepsCollector, seats_in}
 use Rattle.heap_table.specs.Handing.{handing_view, handed_view}
@@ -30,7 +31,7 @@ use Rattle.heap_table.specs.declared.view.View.{View}
 use Rattle.heap_table.proofs.Folding.{none_later}
 use Rattle.heap_table.proofs.Handing.{handing_allowed}
 use Rattle.heap_table.proofs.Places.{none_full}
-use Rattle.heap_table.proofs.SeatSteps.{next_has_word}
+use Rattle.heap_table.proofs.SeatSteps.{next_has_word, seat_as_told}
 use Rattle.heap_table.proofs.Turns.{turn_has_word}
 
 -- the state of these words at the opening
@@ -74,6 +75,7 @@ module _ (heap : Heap) (words : List ℕ) (limits : IsHeap heap) (long : length 
       let is = opening_seat_at heap (opening_state heap words) number is_opening within in (
         next_has_word heap (opening_state heap words) stands.book number (opening_seat heap number) stands.stands there within is,
         subst (Fits heap) is ((opening_machine heap (opening_state heap words) limits is_opening).fit number there),
+        subst (IsAsTold heap number) is (seat_as_told heap (opening_state heap words) stands.book number stands.stands.rule within),
       )
 
   -- what the collector's holder keeps then
@@ -125,6 +127,7 @@ keeps_handed heap key shared mine me number seat opens limits same size none_ ke
   begun = Same is;
   fits = subst (Fits heap) (sym is) (opens number within).1;
   has_word = (opens number within).0;
+  own = (opens number within).2;
 }
 
 -- what holds of the holder as contracts see it holds of its parts

@@ -29,6 +29,8 @@ use Rattle.core_machine.specs.table.Operation.{address_of, operation_of, operati
 use Rattle.core_machine.proofs.moves.{move_stands, begin_stands}
 use Rattle.core_machine.proofs.moves.Collect.{inner_stands}
 use Rattle.core_machine.proofs.moves.Standing.{MoveStands}
+use Rattle.core_rule.specs.Told.{IsAsTold}
+use Rattle.core_rule.proofs.told.StoredWords.{store_tells}
 use Rattle.heap_table.specs.Begun.{MayHaveBegun, Same, Begun, BegunInner, next_seat, NextHasWord}
 use Rattle.heap_table.specs.Holds.{Holds}
 use Rattle.heap_table.specs.Quiet.{is_quiet}
@@ -120,6 +122,8 @@ module _ (shared : TableId) (key : Heap) (mine : TableId) (me : Me (Unit {0}) Vi
             leads = stored_leads heap number seat (next_move heap number seat) step word found due is (move_stands heap number seat keeps.limits few keeps.fits) tells.1.leads;
             fits = subst (Fits heap) same tells.1.fits;
             has_word = subst (NextHasWord heap number) same tells.1.has_word;
+            tells = store_tells heap number seat word word step is due;
+            own = subst (IsAsTold heap number) same tells.1.own;
           },
         )
       where
@@ -149,6 +153,7 @@ module _ (shared : TableId) (key : Heap) (mine : TableId) (me : Me (Unit {0}) Vi
     begun = Same is;
     fits = subst (Fits heap) (sym is) tells.1.fits;
     has_word = tells.1.has_word;
+    own = tells.1.own;
   }
 
   -- and after a begin
@@ -167,6 +172,7 @@ module _ (shared : TableId) (key : Heap) (mine : TableId) (me : Me (Unit {0}) Vi
         begun = Begun command (subst (λ (s : Seat). MayBegin s command) same may) (is ∙ ap (λ (s : Seat). after_begin heap s command) same);
         fits = subst (Fits heap) (sym is) (begin_stands heap number seat command keeps.limits keeps.fits may).fits;
         has_word = keeps.has_word;
+        own = keeps.own;
       }
 
   pub keeps_begun_inner : (inner : Inner) (next : Seat) → MayBeginInner heap number seat inner → next ≡ after_inner_begin seat inner → KeepsSeat shared key mine me heap number next
@@ -184,6 +190,7 @@ module _ (shared : TableId) (key : Heap) (mine : TableId) (me : Me (Unit {0}) Vi
         begun = BegunInner inner (subst (λ (s : Seat). MayBeginInner heap number s inner) same may) (is ∙ ap (λ (s : Seat). after_inner_begin s inner) same);
         fits = subst (Fits heap) (sym is) (inner_stands heap number seat inner keeps.fits may).fits;
         has_word = keeps.has_word;
+        own = keeps.own;
       }
 
 -- what holds of the holder as contracts see it holds of its parts

@@ -20,7 +20,12 @@ use Rattle.core_machine.specs.seat.Seat.{Seat, absent_seat}
 use Rattle.core_machine.proofs.machine_lemmas.Runs.{due_within_table}
 use Rattle.core_rule.specs.Book.{Book}
 use Rattle.core_rule.specs.Laws.{StandsFor}
+use Rattle.core_rule.specs.Found.{TellsFound, EachFoundIsTold}
+use Rattle.core_rule.specs.Rule.{Rule}
 use Rattle.core_rule.specs.Stands.{Stands}
+use Rattle.core_rule.specs.Told.{IsAsTold, EachSeatIsAsTold}
+use Rattle.core_rule.proofs.told.AsTold.{each_seat_is_as_told}
+use Rattle.core_rule.proofs.told.FoundWords.{each_found_is_told}
 use Rattle.core_rule.specs.TableLaws.{EachStepHasItsWord}
 use Rattle.core_rule.proofs.held.DueWords.{each_step_has_its_word}
 use Rattle.core_rule.proofs.runs.KeptRuns.{event_keeps}
@@ -61,6 +66,18 @@ next_has_word heap state book number old stands there within is seat begun =
     let next = begun_stands heap state book number old seat stands there is begun in
     subst (StepHasWord heap number) (get_or-set_same state.seats number seat absent_seat there)
     (step_has_word heap (with_seat state number seat) next.0 number next.1 within)
+
+-- and tells of the word found
+found_at_step : (heap : Heap) (state : State) (book : Book) (number : ℕ) → Stands heap state book → number < heap.seats → (step : Step) → due_step heap number (seat_at state number) ≡ Some step
+    → TellsFound heap number (seat_at state number) (found_by heap state step)
+unfolding EachFoundIsTold
+found_at_step heap state book number stands within step due =
+    subst (λ (o : Option Step). IfSome o (λ s. TellsFound heap number (seat_at state number) (found_by heap state s))) due (each_found_is_told heap state book number stands within)
+
+-- the seat's data are what its own list tells
+pub seat_as_told : (heap : Heap) (state : State) (book : Book) (number : ℕ) → Rule heap state book → number < heap.seats → IsAsTold heap number (seat_at state number)
+unfolding EachSeatIsAsTold
+seat_as_told heap state book number rule within = each_seat_is_as_told heap state book number rule within
 
 -- a word is read at its place
 pub at_is : (heap : Heap) (words : List ℕ) (a : Address) → at heap words a ≡ get_or words (index_of heap a) 0
@@ -192,6 +209,9 @@ module _ (heap : Heap) (number : ℕ) (old seat : Seat) (step : Step) (ahead : M
               (subst (λ (s : Seat). IfSome (next_move heap number s) (λ m. FoundPointsWithin heap (address_of m.step) (found_by heap (with_seat holds.state number seat) step))) here led);
           fits = subst (Fits heap) seat_now (stands.rule.machine.fit number there_now);
           has_word = next_has_word heap now kept.book number (next_seat heap number seat found) stands there_now its.within seat_now;
+          tells = subst (TellsFound heap number seat) is (subst (λ (s : Seat). TellsFound heap number s (found_by heap (with_seat holds.state number seat) step)) here
+              (found_at_step heap (with_seat holds.state number seat) begun.0 number begun.1 its.within step due_here));
+          own = subst (IsAsTold heap number) seat_now (seat_as_told heap now kept.book number stands.rule its.within);
         }
 
   pub seat_allows : (id : ℕ) → Allows (Holds heap) 0 id (seat_view number old, []) (index_of heap (address_of step)) (word_after step)

@@ -7,6 +7,7 @@ use Rattle.heap_model.specs.Heap.{IsHeap}
 use Rattle.core_machine.specs.seat.Fits.{Fits}
 use Rattle.core_machine.specs.seat.Seat.{Seat}
 use Rattle.core_machine.specs.table.Layout.{table_length}
+use Rattle.core_rule.specs.Told.{IsAsTold}
 use Rattle.heap_table.specs.Begun.{MayHaveBegun, NextHasWord, next_seat}
 use Rattle.heap_table.specs.Views.{seat_view}
 use Rattle.heap_table.specs.declared.view.View.{View}
@@ -32,6 +33,7 @@ pub record KeepsSeat (shared : TableId) (key : Heap) (mine : TableId) (me : Me (
   pub begun : MayHaveBegun heap number old seat
   pub fits : Fits heap seat
   pub has_word : NextHasWord heap number old
+  pub own : IsAsTold heap number old
 
 -- the seat made its due step, which found this word; else the holder is as it was, but for the room of new entries
 pub record IsStepped (old new : SeatHeld) (found : ℕ) : Type 0 where

@@ -105,12 +105,20 @@ fn two_threads_make_forty_records(rt: HostRuntime) -> Result<(), Fail> {
     let closed = run_two(&rt, rt.alloc(), heap)?.ok_or("a seat hasn't left")?;
     let logs = closed.logs();
     same(&rt, &logs.len(), &3, &"the logs");
-    let all: usize = logs.iter().map(|log| made(log.as_slice()).min(1000)).fold(0, |sum, n| sum.min(100_000) + n);
+    let all: usize = logs
+        .iter()
+        .map(|log| made(log.as_slice()).min(1000))
+        .fold(0, |sum, n| sum.min(100_000) + n);
     same(&rt, &all, &40, &"the records");
     let words = closed.words();
     same(&rt, &words.len(), &(19 + 65 * 8), &"the words");
     holds(&rt, words.len() > 19, &"the first group");
-    same(&rt, &(words[19] & 0xffff), &0xffff, &"the first group's taken bits");
+    same(
+        &rt,
+        &(words[19] & 0xffff),
+        &0xffff,
+        &"the first group's taken bits",
+    );
     same(&rt, &closed.folded(), &0, &"the phase");
     Ok(())
 }
