@@ -13,7 +13,7 @@ use Rattle.core_machine.specs.seat.Fits.{FitsPlace}
 use Rattle.core_machine.specs.seat.Making.{next_group_of, first_group_of, settled_place, after_gather, gather_next, after_give_back}
 use Rattle.core_machine.specs.seat.Seat.{Seat, need, with_entries}
 use Rattle.core_machine.specs.table.Fragments.{in_group, out_of_group, part_in, part_out, clear_in}
-use Rattle.core_machine.proofs.call_lemmas.Owes.{owes, owes_making, steps_left}
+use Rattle.core_machine.specs.calls.Owes.{owes, owes_making, steps_left}
 use Rattle.core_machine.proofs.seat_lemmas.Fitting.{goes_on_cases, returning_cases, settled_cases}
 use Rattle.heap_table.specs.Made.{Made, MakesSteps, IsSound}
 use Rattle.heap_table.specs.SeatHeld.{SeatHeld, IsStepped}
@@ -130,7 +130,7 @@ module _ (held : SeatHeld) (sound : IsSound held) (none : due_of_claims held.sea
   stored_of : (command : Command) → (IsArrayCall command → ⊥) → settled_place command ≡ Storing
   stored_of command other = settled_cases (λ m. m ≡ Storing) command (λ an_array. absurd (other an_array)) (λ e. refl)
 
-  ends_at : (place : Place) → held.seat.place ≡ place → StandsClaiming held.seat.command place → Rattle.core_machine.proofs.call_lemmas.Owes.owes_at held.seat place + 2 ≤ held.spare → EndsAt place
+  ends_at : (place : Place) → held.seat.place ≡ place → StandsClaiming held.seat.command place → Rattle.core_machine.specs.calls.Owes.owes_at held.seat place + 2 ≤ held.spare → EndsAt place
   ends_at (places.Making Gathering) is stands room =
       absurd (some_due (ap (λ (p : Place). due_of_claims p (due_step held.heap held.number held.seat)) (sym is) ∙ none) (ap (λ (p : Place). Rattle.std.specs.Prelude.option_map (λ (m : Rattle.core_machine.specs.Moves.Move). m.step) (move_at held.heap held.number held.seat p)) is))
     where
@@ -158,8 +158,8 @@ pub record WhileReturning (first now : SeatHeld) : Type 0 where
   pub room : owes now.seat + 2 ≤ now.spare
 
 returning_room : (seat : Seat) (place : Place) (spare : ℕ) → seat.place ≡ place → IsReturning place → length seat.hand + 3 ≤ spare → owes seat + 2 ≤ spare
-returning_room seat (places.Making Returning) spare is stands room = subst (λ (p : Place). Rattle.core_machine.proofs.call_lemmas.Owes.owes_at seat p + 2 ≤ spare) (sym is) (omega (arith, room))
-returning_room seat (places.Making Refusing) spare is stands room = subst (λ (p : Place). Rattle.core_machine.proofs.call_lemmas.Owes.owes_at seat p + 2 ≤ spare) (sym is) (omega (arith, room))
+returning_room seat (places.Making Returning) spare is stands room = subst (λ (p : Place). Rattle.core_machine.specs.calls.Owes.owes_at seat p + 2 ≤ spare) (sym is) (omega (arith, room))
+returning_room seat (places.Making Refusing) spare is stands room = subst (λ (p : Place). Rattle.core_machine.specs.calls.Owes.owes_at seat p + 2 ≤ spare) (sym is) (omega (arith, room))
 returning_room seat _ spare is stands room = absurd stands
 
 pub returns_begin : (held : SeatHeld) → IsReturning held.seat.place → length held.seat.hand + 3 ≤ held.spare → WhileReturning held held
@@ -193,7 +193,7 @@ returns_end first held sound while none = ends held.seat.place refl while.stands
     some_due : {step : Step} → due_step held.heap held.number held.seat ≡ None → due_step held.heap held.number held.seat ≡ Some step → ⊥
     some_due a b = cc
 
-    ends : (place : Place) → held.seat.place ≡ place → IsReturning place → Rattle.core_machine.proofs.call_lemmas.Owes.owes_at held.seat place + 2 ≤ held.spare
+    ends : (place : Place) → held.seat.place ≡ place → IsReturning place → Rattle.core_machine.specs.calls.Owes.owes_at held.seat place + 2 ≤ held.spare
         → (place ≡ places.Making Refusing) × (held.seat.given ≡ length first.seat.hand + first.seat.given) × (3 ≤ held.spare)
     ends (places.Making Returning) is stands room =
         absurd (some_due (ap (λ (p : Place). due_of_returns p (due_step held.heap held.number held.seat)) (sym is) ∙ none) (ap (λ (p : Place). Rattle.std.specs.Prelude.option_map (λ (m : Rattle.core_machine.specs.Moves.Move). m.step) (move_at held.heap held.number held.seat p)) is))

@@ -16,7 +16,7 @@ use Rattle.core_machine.specs.seat.Fits.{Fits}
 use Rattle.core_machine.specs.seat.Seat.{Seat}
 use Rattle.core_machine.specs.table.Layout.{at, index_of}
 use Rattle.core_machine.specs.table.Operation.{address_of}
-use Rattle.core_machine.proofs.call_lemmas.Owes.{owes, steps_left}
+use Rattle.core_machine.specs.calls.Owes.{owes, steps_left}
 use Rattle.core_machine.proofs.moves.{move_stands}
 use Rattle.core_machine.proofs.moves.Standing.{MoveStands}
 use Rattle.core_machine.proofs.own_stages.{own_leads}

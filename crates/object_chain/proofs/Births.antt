@@ -10,7 +10,7 @@ use Rattle.core_machine.specs.declared.place.Place.TheVariants as places
 use Rattle.core_machine.specs.declared.step.Step.{Step}
 use Rattle.core_machine.specs.seat.Making.{store_place}
 use Rattle.core_machine.specs.seat.Seat.{Seat}
-use Rattle.core_machine.proofs.call_lemmas.Owes.{owes, owes_at, steps_left}
+use Rattle.core_machine.specs.calls.Owes.{owes, owes_at, steps_left}
 use Rattle.core_machine.proofs.table_lemmas.Bits.{bool_tells}
 use Rattle.heap_table.specs.Made.{Made, MakesSteps, IsSound}
 use Rattle.heap_table.specs.SeatHeld.{SeatHeld, IsStepped}

@@ -22,7 +22,7 @@ use Rattle.core_machine.specs.seat.AccessMoves.{reply_entries_if}
 use Rattle.core_machine.specs.seat.Commands.{field_of}
 use Rattle.core_machine.specs.seat.FitsAccess.{NamesField}
 use Rattle.core_machine.specs.seat.Seat.{Seat, with_entries}
-use Rattle.core_machine.proofs.call_lemmas.Owes.{owes, owes_at, steps_left}
+use Rattle.core_machine.specs.calls.Owes.{owes, owes_at, steps_left}
 use Rattle.core_machine.proofs.seat_lemmas.FieldPlaces.{field_cases}
 use Rattle.heap_table.specs.Made.{Made, FoundIn, MakesSteps, IsSound}
 use Rattle.heap_table.specs.SeatHeld.{SeatHeld, IsStepped}

@@ -1,4 +1,4 @@
-use Rattle.core_machine.proofs.call_lemmas.Owes.{steps_left}
+use Rattle.core_machine.specs.calls.Owes.{steps_left}
 use Rattle.frag_claim.proofs.Claims.{WhileClaiming}
 use Rattle.frag_claim.proofs.gathering.claim_groups.Given as goal
 

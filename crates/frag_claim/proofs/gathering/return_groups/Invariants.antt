@@ -1,4 +1,4 @@
-use Rattle.core_machine.proofs.call_lemmas.Owes.{steps_left}
+use Rattle.core_machine.specs.calls.Owes.{steps_left}
 use Rattle.frag_claim.proofs.Claims.{WhileReturning}
 use Rattle.frag_claim.proofs.gathering.return_groups.Given as goal
 

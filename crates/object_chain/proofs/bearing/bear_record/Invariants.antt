@@ -1,4 +1,4 @@
-use Rattle.core_machine.proofs.call_lemmas.Owes.{steps_left}
+use Rattle.core_machine.specs.calls.Owes.{steps_left}
 use Rattle.object_chain.proofs.Births.{WhileBearing}
 use Rattle.object_chain.proofs.bearing.bear_record.Given as goal
 

@@ -1,4 +1,4 @@
-use Rattle.core_machine.proofs.call_lemmas.Owes.{steps_left}
+use Rattle.core_machine.specs.calls.Owes.{steps_left}
 use Rattle.object_chain.proofs.Links.{WhileWalking}
 use Rattle.object_chain.proofs.walking.walk.Given as goal
 
