@@ -2,3 +2,4 @@ pub mod LoneCalls
 pub mod LoneEntries
 pub mod LoneLemmas
 pub mod LoneLists
+pub mod Popped

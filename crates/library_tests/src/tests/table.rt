@@ -1,6 +1,7 @@
 //! The table that threads share: two seats work in threads of their own, and when all is closed what they have told goes together.
 
-ghost use Rattle.std.specs.Prelude.{◌≡◌, All, IfOk};
+ghost use Rattle.std.specs.Prelude.{◌≡◌, IfOk};
+ghost use Rattle.heap_model.specs.Heap.{IsHeap};
 ghost use Rattle.library_tests.specs.SameSeat.{IsSameSeat};
 
 use super::comparing::{holds, same};
@@ -70,16 +71,16 @@ fn fold(collector: &mut CollectorHolder, holder: Holder)
     }
 }
 
-/// Two seats of a heap make twenty records each, beside each other; then all is closed.
-fn run_two<R: Threads>(rt: &R, alloc: Global, heap: Heap) -> Result<Option<Closed>, Memory> {
-    let (mut holders, mut collector) = HeapTable::make::<Log, Log>(alloc, heap)?;
-    let Some(second) = holders.pop() else {
-        return Ok(None);
-    };
-    let Some(first) = holders.pop() else {
-        return Ok(None);
-    };
-    let (first, second) = join(
+/// Two seats make twenty records each, in a thread each.
+fn in_two_threads<R: Threads>(
+    rt: &R,
+    first: Holder,
+    second: Holder,
+) -> (Result<Holder, Memory>, Result<Holder, Memory>)
+    ensures first { IfOk result.0 (IsSameSeat first) }
+    ensures second { IfOk result.1 (IsSameSeat second) }
+{
+    join(
         rt,
         move || -> Result<Holder, Memory>
             ensures { IfOk result (IsSameSeat first) }
@@ -87,9 +88,25 @@ fn run_two<R: Threads>(rt: &R, alloc: Global, heap: Heap) -> Result<Option<Close
         move || -> Result<Holder, Memory>
             ensures { IfOk result (IsSameSeat second) }
         { make_records(second, 20) },
-    );
-    fold(&mut collector, first?);
-    fold(&mut collector, second?);
+    )
+}
+
+/// Two seats of a heap work so; then all is closed.
+fn run_two<R: Threads>(rt: &R, alloc: Global, heap: Heap) -> Result<Option<Closed>, Memory>
+    requires { IsHeap heap }
+{
+    let (mut holders, mut collector) = HeapTable::make::<Log, Log>(alloc, heap)?;
+    let Some(second) = holders.pop() else {
+        return Ok(None);
+    };
+    let Some(first) = holders.pop() else {
+        return Ok(None);
+    };
+    let (one, other) = in_two_threads(rt, first, second);
+    let one = one?;
+    let other = other?;
+    fold(&mut collector, one);
+    fold(&mut collector, other);
     if !collector.all_folded() {
         return Ok(None);
     }

@@ -1,0 +1,5 @@
+use Rattle.library_tests.specs.SameSeat.{IsSameSeat}
+use Rattle.library_tests.proofs.tests.table.make_records.Given as goal
+
+abbrev pub invariant-loop : goal.invariant-loop
+invariant-loop l = IsSameSeat l.fn.holder l.holder
