@@ -1,10 +1,11 @@
-ghost use Rattle.std.specs.Prelude.{◌≡◌, ℕ, ◌+◌, ◌<◌, ◌≤◌, ◌^◌, List, length, [], ◌∷◌, ◌++◌, OnOk, OnErr};
+ghost use Rattle.std.specs.Prelude.{◌≡◌, ℕ, ◌+◌, ◌-◌, ◌<◌, ◌≤◌, ◌^◌, List, length, [], ◌∷◌, ◌++◌, slice_get, OnOk, OnErr};
 
 use heap_model::{Entry, Memory};
 use std::alloc::Global;
 
 pub(crate) mod counted;
 pub(crate) mod kept;
+pub(crate) mod last;
 pub(crate) mod told;
 
 /// A log of a party's entries, to which the next is added. What it keeps of them in memory is its own.
@@ -45,4 +46,11 @@ pub trait CountsEntries: Entries {
     fn count(&self) -> usize
         ensures count { result ≡ length (Self.listed self.now) }
         ensures within { Self.left self.now + length (Self.listed self.now) < 2 ^ 64 };
+}
+
+/// A log that shows the entry that was added last.
+pub trait ShowsLast: Entries {
+    /// The last entry; none where there are none.
+    fn last(&self) -> Option<Entry>
+        ensures { result ≡ slice_get (Self.listed self.now) (length (Self.listed self.now) - 1) };
 }

@@ -1,6 +1,6 @@
-ghost use Rattle.std.specs.Prelude.{◌≡◌, ◌+◌, ◌<◌, ◌≤◌, ◌^◌, length, [], ◌∷◌, ◌++◌, OnOk, OnErr};
+ghost use Rattle.std.specs.Prelude.{◌≡◌, ◌+◌, ◌-◌, ◌<◌, ◌≤◌, ◌^◌, length, [], ◌∷◌, ◌++◌, slice_get, OnOk, OnErr};
 
-use crate::log::{CountsEntries, Entries};
+use crate::log::{CountsEntries, Entries, ShowsLast};
 use heap_model::{Entry, Memory};
 use std::alloc::Global;
 use std::marker::Model;
@@ -70,5 +70,11 @@ impl Entries for Log {
 impl CountsEntries for Log {
     fn count(&self) -> usize {
         self.entries.len()
+    }
+}
+
+impl ShowsLast for Log {
+    fn last(&self) -> Option<Entry> {
+        self.entries.last().copied()
     }
 }

@@ -1,6 +1,6 @@
-ghost use Rattle.std.specs.Prelude.{◌≡◌, ◌+◌, ◌<◌, ◌^◌, length};
+ghost use Rattle.std.specs.Prelude.{◌≡◌, ◌+◌, ◌-◌, ◌<◌, ◌^◌, length, slice_get};
 
-use crate::log::{CountsEntries, Entries};
+use crate::log::{CountsEntries, Entries, ShowsLast};
 use crate::place::Place;
 use crate::seat::SeatParty;
 use crate::seat::looks::Looks;
@@ -31,6 +31,15 @@ impl<L: CountsEntries> SeatParty<L> {
         ensures within { self.now.spare + length self.now.seat.mine < 2 ^ 64 }
     {
         self.mine.count()
+    }
+}
+
+impl<L: ShowsLast> SeatParty<L> {
+    /// The entry that was added last; none where there are none.
+    pub fn last(&self) -> Option<Entry>
+        ensures { result ≡ slice_get self.now.seat.mine (length self.now.seat.mine - 1) }
+    {
+        self.mine.last()
     }
 }
 
