@@ -1,1 +1,9 @@
+pub mod Answered
+pub mod Causes
+pub mod Entries
+pub mod Fields
+pub mod KeptOn
+pub mod Replied
 pub mod Running
+pub mod Since
+pub mod Whole

@@ -1,5 +1,5 @@
 -- A whole call of a seat, between whose steps others may step.
-use Rattle.std.specs.Prelude.{◌≡◌, ℕ, ◌++◌, List, [], ◌∷◌, length}
+use Rattle.std.specs.Prelude.{◌≡◌, ℕ, ◌+◌, ◌%◌, ◌^◌, ◌≤◌, ◌++◌, List, [], ◌∷◌, length}
 use Rattle.std.specs.List.{AllByRecursion}
 use Rattle.heap_model.specs.calls.SeatCalls.{ComesBefore}
 use Rattle.heap_model.specs.declared.command.Command.{Command}
@@ -19,6 +19,7 @@ use Rattle.core_rule.specs.Found.{TellsWord}
 use Rattle.heap_table.specs.Made.{Made, FoundIn, MakesSteps}
 use Rattle.heap_table.specs.SeatHeld.{SeatHeld}
 use Rattle.frag_claim.specs.Gathered.{IsExhausted}
+use Rattle.mutator_seat.specs.Resting.{Rests}
 
 -- the seat with the command in flight
 abbrev pub begun : SeatHeld → Command → SeatHeld
@@ -28,8 +29,9 @@ begun held command = record held { seat = after_begin held.heap held.seat comman
 abbrev pub ToldIn : SeatHeld → List Made → Step → ℕ → Type 0
 ToldIn old made step word = FoundIn made step word × TellsWord old.heap old.number old.seat step word
 
--- the seat made steps one after another from the command's begin on, and no call is in flight; its new entries are those of the command, the reply last, which stands on what the steps found
+-- the seat rested, made steps one after another from the command's begin on, and no call is in flight; its new entries are those of the command, the reply last, which stands on what the steps found
 pub record MakesCall (old new : SeatHeld) (command : Command) (reply : Reply) : Type 0 where
+  pub rested : Rests old
   pub made : List Made
   pub makes : MakesSteps (begun old command) new made
   pub over : new.seat.place ≡ Idle
@@ -38,12 +40,13 @@ pub record MakesCall (old new : SeatHeld) (command : Command) (reply : Reply) : 
   pub beside : AllByRecursion (IsBeside old.number) first
   pub comes : ComesBefore old.number (length old.seat.reserve) old.seat.answered command reply first
   pub stands : StandsOn (ToldIn old made) old.heap old.number command (kept_of old.seat) (kept_of new.seat) first reply
+  pub room : old.spare + length old.seat.mine ≤ new.spare + length new.seat.mine
 
 -- what these steps found for a reply that shows a phase or a refusal of space: the phase word; a claim at every group, and no more than that; the spine words in use
 abbrev pub IsCauseOf : List Made → SeatHeld → Reply → Type 0
 IsCauseOf made old (replies.Phase p) = FoundIn made PollLoad p
 IsCauseOf made old (replies.Full need found) = IsExhausted made old.heap.groups old.seat.reserve found
-IsCauseOf made old (replies.SpineFull need used) = FoundIn made (Spine (BudgetAdd need)) used
+IsCauseOf made old (replies.SpineFull need used) = (word : ℕ) × FoundIn made (Spine (BudgetAdd need)) word × (used ≡ word % 2 ^ 32)
 IsCauseOf made old _ = Unit {0}
 
 -- a reply that refuses leaves what the seat keeps as it was

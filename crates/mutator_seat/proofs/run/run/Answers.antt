@@ -1,4 +1,5 @@
-use Rattle.std.proofs.Common.{sym, ◌∙◌}
+use Rattle.std.proofs.Common.{◌≡◌, None, sym, ◌∙◌}
+use Rattle.core_machine.specs.Moves.{due_step}
 use Rattle.heap_table.proofs.MadeSteps.{no_more}
 use Rattle.mutator_seat.proofs.Running.{running_begins, running_on, room_to_step, idle_at}
 use Rattle.mutator_seat.proofs.run.run.Goals as goal
@@ -21,4 +22,5 @@ returns-clause-steps g c = (c.loop-step.invariant.made, c.loop-step.invariant.ma
 pub returns-clause-over : goal.returns-clause-over
 returns-clause-over g c =
     let held = c.loop-step.holder in
-    idle_at held.heap held.number held.seat held.seat.place (sym c.due.ensures ∙ no_more c.due.result c.in_default.not-Some)
+    let none : due_step held.heap held.number held.seat ≡ None = sym c.due.ensures ∙ no_more c.due.result c.in_default.not-Some in
+    idle_at held.heap held.number held.seat held.seat.place none
