@@ -13,7 +13,9 @@ use Rattle.core_machine.specs.seat.Seat.{Seat}
 use Rattle.core_machine.specs.table.Decode.{FoundPointsWithin}
 use Rattle.core_machine.specs.table.Layout.{HasWord}
 use Rattle.core_machine.specs.table.Operation.{address_of}
+use Rattle.core_rule.specs.Flight.{WhileAccess}
 use Rattle.core_rule.specs.Found.{TellsFound}
+use Rattle.core_rule.specs.Reached.{HasReached}
 use Rattle.core_rule.specs.Told.{IsAsTold}
 use Rattle.heap_table.specs.Begun.{next_seat, NextHasWord}
 use Rattle.heap_table.specs.Known.{CollectorKnown}
@@ -24,10 +26,12 @@ pub record ToldAtStep (heap : Heap) (number : ℕ) (seat : Seat) (found : ℕ) :
   pub leads : IfSome (next_move heap number seat) (λ move. FoundPointsWithin heap (address_of move.step) found)
   pub fits : Fits heap (next_seat heap number seat found)
   pub has_word : NextHasWord heap number (next_seat heap number seat found)
-  -- what the rule tells of the word found, and of what a call on an object has reached
+  -- what the rule tells of the word found, and of what a call on an object had reached before the step
   pub tells : TellsFound heap number seat found
   -- after the step the seat's data are what its own list tells
   pub own : IsAsTold heap number (next_seat heap number seat found)
+  -- and what a call on an object has reached then
+  pub comes : WhileAccess (HasReached heap number (next_seat heap number seat found)) (next_seat heap number seat found).place
 
 -- the collector after its due turn that found this word
 abbrev pub next_collector : Heap → Collector → ℕ → Collector
