@@ -29,6 +29,8 @@ use Rattle.core_machine.specs.table.Operation.{address_of, operation_of, operati
 use Rattle.core_machine.proofs.moves.{move_stands, begin_stands}
 use Rattle.core_machine.proofs.moves.Collect.{inner_stands}
 use Rattle.core_machine.proofs.moves.Standing.{MoveStands}
+use Rattle.core_rule.specs.Flight.{WhileAccess}
+use Rattle.core_rule.specs.Reached.{HasReached}
 use Rattle.core_rule.specs.Told.{IsAsTold}
 use Rattle.core_rule.proofs.told.StoredWords.{store_tells}
 use Rattle.heap_table.specs.Begun.{MayHaveBegun, Same, Begun, BegunInner, next_seat, NextHasWord}
@@ -124,6 +126,7 @@ module _ (shared : TableId) (key : Heap) (mine : TableId) (me : Me (Unit {0}) Vi
             has_word = subst (NextHasWord heap number) same tells.1.has_word;
             tells = store_tells heap number seat word word step is due;
             own = subst (IsAsTold heap number) same tells.1.own;
+            comes = subst (λ (s : Seat). WhileAccess (HasReached heap number s) s.place) same tells.1.comes;
           },
         )
       where
