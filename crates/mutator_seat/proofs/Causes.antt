@@ -1,5 +1,6 @@
 -- What a refusal leaves and what a reply shows, by what the call's steps found.
-use Rattle.std.proofs.Common.{◌≡◌, ℕ, ◌+◌, ◌%◌, ◌<◌, ◌≤◌, List, [], refl, sym, ap, subst, ◌∙◌, arith}
+use Rattle.std.proofs.Common.{◌≡◌, ℕ, ◌+◌, ◌%◌, ◌<◌, ◌≤◌, List, [], refl, sym, ap, subst, ◌∙◌, mod-eq_of_lt, arith}
+use Rattle.heap_model.specs.Needs.{spine_need_of}
 use Rattle.heap_model.specs.declared.command.Command.{Command}
 use Rattle.heap_model.specs.declared.entry.Entry.{Entry}
 use Rattle.heap_model.specs.declared.reply.Reply.{Reply}
@@ -7,6 +8,8 @@ use Rattle.heap_model.specs.declared.reply.Reply.TheVariants as replies
 use Rattle.core_machine.specs.calls.Claims.{ClaimsGroup}
 use Rattle.core_machine.specs.calls.Kept.{Kept, kept_of}
 use Rattle.core_machine.specs.calls.Replies.{StandsOn, IsFull}
+use Rattle.core_machine.specs.declared.step.SpineStep.TheVariants.{BudgetAdd}
+use Rattle.core_machine.specs.declared.step.Step.TheVariants.{Spine}
 use Rattle.core_machine.specs.machine.Calls.{KeepsOwn, IsPlaceRefusal}
 use Rattle.core_machine.specs.seat.Local.{local_registers}
 use Rattle.core_machine.specs.seat.Seat.{Seat}
@@ -55,9 +58,14 @@ module _ (old new : SeatHeld) (command : Command) (made : List Made) (first : Li
     found_is = is.found_is;
   }
 
+  -- the spine words shown are the word that was found
+  shown_whole : (need used : ℕ) → Stands (replies.SpineFull need used) → FoundIn made (Spine (BudgetAdd need)) used
+  shown_whole need used is =
+      let whole : is.word ≡ used = sym (is.used_is ∙ mod-eq_of_lt is.told.1) in
+      subst (λ (n : ℕ). FoundIn made (Spine (BudgetAdd n)) used) (sym is.shown_is) (subst (λ (n : ℕ). FoundIn made (Spine (BudgetAdd (spine_need_of command))) n) whole is.told.0)
+
   pub cause_of : IsSound old → (reply : Reply) → Stands reply → IsCauseOf made old reply
   cause_of sound (replies.Phase p) is = is.told.0
   cause_of sound (replies.Full need found) is = exhausted sound need found is
-  cause_of sound (replies.SpineFull need used) is =
-      (is.word, subst (λ (n : ℕ). FoundIn made (Rattle.core_machine.specs.declared.step.Step.TheVariants.Spine (Rattle.core_machine.specs.declared.step.SpineStep.TheVariants.BudgetAdd n)) is.word) (sym is.shown_is) is.told.0, is.used_is)
+  cause_of sound (replies.SpineFull need used) is = shown_whole need used is
   cause_of sound _ is = tt

@@ -1,5 +1,5 @@
 -- What a whole call comes to by the seat's own entries.
-use Rattle.std.proofs.Common.{◌≡◌, ℕ, ◌+◌, ◌*◌, ◌<◌, ◌≤◌, List, [], ◌∷◌, ◌++◌, length, sum, Result, Ok, Err, refl, sym, ap, subst, ◌∙◌, arith}
+use Rattle.std.proofs.Common.{◌≡◌, ℕ, ◌+◌, ◌*◌, ◌<◌, ◌≤◌, List, [], ◌∷◌, ◌++◌, length, sum, Result, Ok, Err, refl, sym, ap, subst, ◌∙◌, mod-eq_of_lt, arith}
 use Rattle.std.specs.Prelude.{IfOk, IfErr}
 use Rattle.heap_model.specs.Needs.{need_of, array_fragments, array_words, record_fragments}
 use Rattle.heap_model.specs.account.PhaseCounts.{last_answer}
@@ -128,7 +128,9 @@ array_made old new d cells (Err refusal) call = tt
 
 array_refused : (old new : SeatHeld) (d cells : ℕ) (refusal : SpaceRefusal) → MakesCall old new (commands.Array d cells) (array_reply (Err refusal)) → LacksSpace (seat_state old) (seat_state new) cells refusal
 array_refused old new d cells (spaces.Full need found) call = call_lacks old new (commands.Array d cells) (replies.Full need found) call need found refl tt
-array_refused old new d cells (spaces.SpineFull need used) call = ?
+array_refused old new d cells (spaces.SpineFull need used) call =
+    let stands = call.stands in
+    (stands.shown_is, omega (arith, stands.too_many, stands.used_is ∙ mod-eq_of_lt stands.told.1))
 
 pub array_lacks : (old new : SeatHeld) (d cells : ℕ) (result : Result Id SpaceRefusal) → MakesCall old new (commands.Array d cells) (array_reply result)
     → IfErr result (LacksSpace (seat_state old) (seat_state new) cells)

@@ -178,10 +178,10 @@ module _ {T : Type 0} (reply_of : Result T PlaceRefusal → Reply) (none : reply
   pub none_exactly : {P : Type 0} (result : Result T PlaceRefusal) → (reply_of result ≡ replies.NoObject) ↔ P → (result ≡ Err refusals.NoObject) ↔ P
   none_exactly result is = (λ e. is.0 ((tells_none result).0 e), λ p. (tells_none result).1 (is.1 p))
 
-  pub past_exactly : {P : Node → Type 0} (own : Option Node) (result : Result T PlaceRefusal) → IfSome own (λ object. (reply_of result ≡ replies.NoField) ↔ P object)
+  pub past_exactly : (P : Node → Type 0) (own : Option Node) (result : Result T PlaceRefusal) → IfSome own (λ object. (reply_of result ≡ replies.NoField) ↔ P object)
       → IfSome own (λ object. (result ≡ Err refusals.NoField) ↔ P object)
-  past_exactly None result is = tt
-  past_exactly (Some object) result is = (λ e. is.0 ((tells_past result).0 e), λ p. (tells_past result).1 (is.1 p))
+  past_exactly P None result is = tt
+  past_exactly P (Some object) result is = (λ e. is.0 ((tells_past result).0 e), λ p. (tells_past result).1 (is.1 p))
 
 got_other : (cell : Value × ℕ) → (get_reply (Ok cell) ≢ replies.NoObject) × (get_reply (Ok cell) ≢ replies.NoField)
 got_other cell = (λ e. cc, λ e. cc)
@@ -195,7 +195,7 @@ module _ (old new : SeatHeld) (d r i : ℕ) (result : Result (Value × ℕ) Plac
   get_none = none_exactly get_reply refl refl got_other result (refused_without old new (commands.Get d r i) (get_reply result) call tt)
 
   pub get_past : IfSome (own_object (seat_state old) r) (λ object. (result ≡ Err refusals.NoField) ↔ (length object.cells ≤ i))
-  get_past = past_exactly get_reply refl refl got_other (own_object (seat_state old) r) result (refused_past old new (commands.Get d r i) (get_reply result) call tt tt)
+  get_past = past_exactly get_reply refl refl got_other (λ object. length object.cells ≤ i) (own_object (seat_state old) r) result (refused_past old new (commands.Get d r i) (get_reply result) call tt tt)
 
 -- of a set
 module _ (old new : SeatHeld) (r i v : ℕ) (result : Result ℕ PlaceRefusal) (call : MakesCall old new (commands.Set r i v) (set_reply result)) where
@@ -203,7 +203,7 @@ module _ (old new : SeatHeld) (r i v : ℕ) (result : Result ℕ PlaceRefusal) (
   set_none = none_exactly set_reply refl refl set_other result (refused_without old new (commands.Set r i v) (set_reply result) call tt)
 
   pub set_past : IfSome (own_object (seat_state old) r) (λ object. (result ≡ Err refusals.NoField) ↔ (length object.cells ≤ i))
-  set_past = past_exactly set_reply refl refl set_other (own_object (seat_state old) r) result (refused_past old new (commands.Set r i v) (set_reply result) call tt tt)
+  set_past = past_exactly set_reply refl refl set_other (λ object. length object.cells ≤ i) (own_object (seat_state old) r) result (refused_past old new (commands.Set r i v) (set_reply result) call tt tt)
 
 -- of a len
 module _ (old new : SeatHeld) (r : ℕ) where

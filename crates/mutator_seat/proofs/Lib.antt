@@ -2,6 +2,7 @@ pub mod Answered
 pub mod Causes
 pub mod Entries
 pub mod Fields
+pub mod Inner
 pub mod KeptOn
 pub mod Replied
 pub mod Running

@@ -6,7 +6,7 @@ use Rattle.heap_model.specs.declared.entry.Entry.{Entry}
 use Rattle.heap_model.specs.declared.heap.Heap.{Heap}
 use Rattle.heap_model.specs.declared.reply.Reply.{Reply}
 use Rattle.heap_model.specs.declared.reply.Reply.TheVariants as replies
-use Rattle.core_machine.specs.calls.Kept.{Kept}
+use Rattle.core_machine.specs.calls.Kept.{Kept, kept_of}
 use Rattle.core_machine.specs.calls.Replies.{AnswersLocally, IsDoneBy, StandsOn}
 use Rattle.core_machine.specs.declared.seat.register.Register.{Register}
 use Rattle.core_machine.specs.declared.step.Step.{Step}
@@ -14,6 +14,8 @@ use Rattle.core_machine.specs.seat.Commands.{MakesObject, IsArrayCall}
 use Rattle.core_machine.specs.seat.FitsAccess.{IsGet, IsSet, NamesField}
 use Rattle.core_machine.specs.seat.Local.{answer_of, local_reply_of}
 use Rattle.core_machine.specs.seat.Registers.{register_in, value_of, is_same_value}
+use Rattle.heap_table.specs.SeatHeld.{SeatHeld}
+use Rattle.mutator_seat.specs.Calls.{ToldIn, MakesCall}
 use Rattle.mutator_seat.specs.Replies.{TellsPhase, AnswersRecord, AnswersArray, AnswersGet, AnswersSet, AnswersSame, AnswersLen, IsDone}
 
 -- the reply is of a kind that the command can give
@@ -95,3 +97,28 @@ reply_to tells heap number command before kept first replies.NoObject is = local
 reply_to tells heap number command before kept first replies.NoField is = field_reply command is.names
 reply_to tells heap number command before kept first (replies.Full need found) is = made_reply command (replies.Full need found) is.an_object tt tt
 reply_to tells heap number command before kept first (replies.SpineFull need used) is = array_reply command (replies.SpineFull need used) is.an_array tt
+
+pub replies_to : (old new : SeatHeld) (command : Command) (reply : Reply) → MakesCall old new command reply → IsReplyTo command reply
+replies_to old new command reply call = reply_to (ToldIn old call.made) old.heap old.number command (kept_of old.seat) (kept_of new.seat) call.first reply call.stands
+
+-- a command that is only done
+abbrev IsOnlyDone : Command → Type 0
+IsOnlyDone (commands.Num d n) = Unit {0}
+IsOnlyDone (commands.Nil d) = Unit {0}
+IsOnlyDone (commands.Copy d r) = Unit {0}
+IsOnlyDone commands.Leave = Unit {0}
+IsOnlyDone _ = ⊥
+
+done_of : (command : Command) (reply : Reply) → IsOnlyDone command → IsReplyTo command reply → IsDone reply
+done_of (commands.Num d n) reply only is = is
+done_of (commands.Nil d) reply only is = is
+done_of (commands.Copy d r) reply only is = is
+done_of commands.Leave reply only is = is
+done_of _ reply only is = absurd only
+
+reply_done : (reply : Reply) → IsDone reply → reply ≡ replies.Done
+reply_done replies.Done is = refl
+reply_done _ is = absurd is
+
+pub is_done : (old new : SeatHeld) (command : Command) (reply : Reply) → IsOnlyDone command → MakesCall old new command reply → MakesCall old new command replies.Done
+is_done old new command reply only call = subst (MakesCall old new command) (reply_done reply (done_of command reply only (replies_to old new command reply call))) call

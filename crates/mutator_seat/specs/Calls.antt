@@ -1,5 +1,5 @@
 -- A whole call of a seat, between whose steps others may step.
-use Rattle.std.specs.Prelude.{◌≡◌, ℕ, ◌+◌, ◌%◌, ◌^◌, ◌≤◌, ◌++◌, List, [], ◌∷◌, length}
+use Rattle.std.specs.Prelude.{◌≡◌, ℕ, ◌+◌, ◌≤◌, ◌++◌, List, [], ◌∷◌, length}
 use Rattle.std.specs.List.{AllByRecursion}
 use Rattle.heap_model.specs.calls.SeatCalls.{ComesBefore}
 use Rattle.heap_model.specs.declared.command.Command.{Command}
@@ -46,7 +46,7 @@ pub record MakesCall (old new : SeatHeld) (command : Command) (reply : Reply) : 
 abbrev pub IsCauseOf : List Made → SeatHeld → Reply → Type 0
 IsCauseOf made old (replies.Phase p) = FoundIn made PollLoad p
 IsCauseOf made old (replies.Full need found) = IsExhausted made old.heap.groups old.seat.reserve found
-IsCauseOf made old (replies.SpineFull need used) = (word : ℕ) × FoundIn made (Spine (BudgetAdd need)) word × (used ≡ word % 2 ^ 32)
+IsCauseOf made old (replies.SpineFull need used) = FoundIn made (Spine (BudgetAdd need)) used
 IsCauseOf made old _ = Unit {0}
 
 -- a reply that refuses leaves what the seat keeps as it was

@@ -7,6 +7,7 @@ use heap_table::Holder;
 use std::marker::Model;
 
 mod calls;
+mod collecting;
 mod commands;
 
 /// One seat of a table, through which one mutator works.
