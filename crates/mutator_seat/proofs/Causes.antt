@@ -1,5 +1,5 @@
 -- What a refusal leaves and what a reply shows, by what the call's steps found.
-use Rattle.std.proofs.Common.{◌≡◌, ℕ, ◌+◌, ◌%◌, ◌<◌, ◌≤◌, List, [], refl, sym, ap, subst, ◌∙◌, mod-eq_of_lt, arith}
+use Rattle.std.proofs.Common.{◌≡◌, ℕ, ◌+◌, ◌%◌, List, refl, sym, ap, subst, ◌∙◌, mod-eq_of_lt, arith}
 use Rattle.heap_model.specs.Needs.{spine_need_of}
 use Rattle.heap_model.specs.declared.command.Command.{Command}
 use Rattle.heap_model.specs.declared.entry.Entry.{Entry}
@@ -11,7 +11,6 @@ use Rattle.core_machine.specs.calls.Replies.{StandsOn, IsFull}
 use Rattle.core_machine.specs.declared.step.SpineStep.TheVariants.{BudgetAdd}
 use Rattle.core_machine.specs.declared.step.Step.TheVariants.{Spine}
 use Rattle.core_machine.specs.machine.Calls.{KeepsOwn, IsPlaceRefusal}
-use Rattle.core_machine.specs.seat.Local.{local_registers}
 use Rattle.core_machine.specs.seat.Seat.{Seat}
 use Rattle.core_machine.proofs.call_lemmas.GoingOn.{every_group}
 use Rattle.core_machine.proofs.call_lemmas.RepliesAlone.{local_refused}

@@ -1,12 +1,11 @@
 -- What a whole call comes to by the seat's own entries.
-use Rattle.std.proofs.Common.{◌≡◌, ℕ, ◌+◌, ◌*◌, ◌<◌, ◌≤◌, List, [], ◌∷◌, ◌++◌, length, sum, Result, Ok, Err, refl, sym, ap, subst, ◌∙◌, mod-eq_of_lt, arith}
+use Rattle.std.proofs.Common.{◌≡◌, ℕ, ◌+◌, List, [], ◌∷◌, ◌++◌, length, sum, Result, Ok, Err, refl, sym, ap, subst, ◌∙◌, mod-eq_of_lt, arith}
 use Rattle.std.specs.Prelude.{IfOk, IfErr}
 use Rattle.heap_model.specs.Needs.{need_of, array_fragments, array_words, record_fragments}
 use Rattle.heap_model.specs.account.PhaseCounts.{last_answer}
 use Rattle.heap_model.specs.account.Space.{taken_of, spent_of}
 use Rattle.heap_model.specs.calls.SeatCalls.{HasNumber, IsReady, ClaimsBefore, ComesBefore, Adds, takes_of, gives_of}
 use Rattle.heap_model.specs.calls.SeatReplies.{record_reply, array_reply, next_id, LacksFragments, LacksSpace, KeepsNothing}
-use Rattle.heap_model.specs.calls.SeatState.{own_graph_seat}
 use Rattle.heap_model.specs.declared.command.Command.{Command}
 use Rattle.heap_model.specs.declared.command.Command.TheVariants as commands
 use Rattle.heap_model.specs.declared.entry.Entry.{Entry}

@@ -1,12 +1,10 @@
 -- When a call on an object is refused, and what it tells of one of the seat's own.
-use Rattle.std.proofs.Common.{◌≡◌, ◌≢◌, ℕ, ◌<◌, ◌≤◌, ◌⊎◌, Bool, true, false, List, Option, Some, None, Result, Ok, Err, length, refl, sym, ap, subst, ◌∙◌, inl, inr, arith}
+use Rattle.std.proofs.Common.{◌≡◌, ◌≢◌, ℕ, ◌<◌, ◌≤◌, Bool, true, false, Option, Some, None, Result, Ok, Err, length, refl, sym, ap, subst, ◌∙◌, inl, inr, arith}
 use Rattle.std.specs.Prelude.{◌↔◌, IfSome, IsTrue, IsErr}
-use Rattle.heap_words.specs.Loaded.{length_of}
 use Rattle.heap_model.specs.calls.SeatReplies.{get_reply, set_reply, same_reply, len_reply}
 use Rattle.heap_model.specs.calls.SeatState.{held_value, IsNoObject, HoldsNoObject, own_object}
 use Rattle.heap_model.specs.declared.command.Command.{Command}
 use Rattle.heap_model.specs.declared.command.Command.TheVariants as commands
-use Rattle.heap_model.specs.declared.entry.Entry.{Entry}
 use Rattle.heap_model.specs.declared.id.Value.{Value}
 use Rattle.heap_model.specs.declared.id.Value.TheVariants as values
 use Rattle.heap_model.specs.declared.refusal.NoObject.{NoObject}

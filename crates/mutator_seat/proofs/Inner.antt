@@ -1,14 +1,13 @@
 -- An inner call of a seat's collect, by the steps that it has made.
-use Rattle.std.proofs.Common.{◌≡◌, ℕ, ◌+◌, ◌<◌, ◌≤◌, List, [], ◌∷◌, ◌++◌, length, Option, Some, None, refl, sym, ap, subst, ◌∙◌, inl, inr, append-nil, append_assoc, arith}
+use Rattle.std.proofs.Common.{◌≡◌, ℕ, ◌+◌, ◌<◌, ◌≤◌, List, [], ◌∷◌, ◌++◌, length, Option, Some, refl, sym, ap, subst, ◌∙◌, inl, inr, append-nil, append_assoc, arith}
 use Rattle.std.specs.List.{All}
 use Rattle.std.proofs.lemmas.List.Elements.{All-append, All-nil, All-push}
 use Rattle.heap_model.specs.Heap.{IsHeap}
-use Rattle.heap_model.specs.Limits.{stamp_limit}
 use Rattle.heap_model.specs.calls.SeatLaws.{IsOwn}
 use Rattle.heap_model.specs.declared.calls.collect.Inner.{Inner}
 use Rattle.heap_model.specs.declared.calls.collect.Inner.TheVariants.{Look, Answer, Behind, Note}
 use Rattle.heap_model.specs.declared.entry.Entry.{Entry}
-use Rattle.heap_model.specs.declared.entry.Entry.TheVariants.{Said, Answers}
+use Rattle.heap_model.specs.declared.entry.Entry.TheVariants.{Answers}
 use Rattle.heap_model.specs.declared.heap.Heap.{Heap}
 use Rattle.core_machine.specs.calls.InnerStage.{IsInnerOver, OwnInnerStage}
 use Rattle.core_machine.specs.calls.Kept.{Kept, kept_of}
@@ -16,7 +15,7 @@ use Rattle.core_machine.specs.calls.Owes.{owes}
 use Rattle.core_machine.specs.declared.place.Place.TheVariants.{Idle}
 use Rattle.core_machine.specs.declared.step.Step.{Step}
 use Rattle.core_machine.specs.machine.Machine.{MayBeginInner, after_inner_begin}
-use Rattle.core_machine.specs.Moves.{Move, next_move, due_step, seat_after, seat_after_due}
+use Rattle.core_machine.specs.Moves.{Move, due_step, seat_after, seat_after_due}
 use Rattle.core_machine.specs.seat.Fits.{Fits}
 use Rattle.core_machine.specs.seat.Looks.{MayMake}
 use Rattle.core_machine.specs.seat.Seat.{Seat}
@@ -37,8 +36,7 @@ module _ (heap : Heap) (number : ℕ) (inner : Inner) (old : Seat) (tells : Step
       → (more : List Entry) × OwnInnerStage tells number inner old (next_seat heap number seat found) (told ++ more)
   inner_on seat told step found fits due tell stage =
       let move = due_move heap number seat step due in
-      let here : seat_after move.0 found ≡ next_seat heap number seat found = sym (ap (λ (m : Option Move). seat_after_due seat m found) move.1) in
-      (
+      let here : seat_after move.0 found ≡ next_seat heap number seat found = sym (ap (λ (m : Option Move). seat_after_due seat m found) move.1) in (
         move.0.adds found,
         subst (λ (s : Seat). OwnInnerStage tells number inner old s (told ++ move.0.adds found)) here
             (inner_leads tells heap number inner old seat told move.0 found limits few fits move.1 (subst (λ (s : Step). tells s found) (sym move.2) tell) stage),

@@ -1,5 +1,5 @@
 -- What the rule tells at each step of a call it tells by what the seat had when the call began.
-use Rattle.std.proofs.Common.{suc, ◌≡◌, ℕ, ◌+◌, ◌<◌, Bool, List, [], ◌∷◌, ◌++◌, Option, Some, None, refl, sym, ap, subst, ◌∙◌, inl, inr, append-nil, append_assoc}
+use Rattle.std.proofs.Common.{◌≡◌, ℕ, ◌<◌, List, [], ◌∷◌, ◌++◌, Option, Some, None, sym, ap, subst, ◌∙◌, inl, inr, append-nil, append_assoc}
 use Rattle.std.specs.Prelude.{IfSome, option_map}
 use Rattle.core_machine.proofs.table_lemmas.Bits.{bool_tells}
 use Rattle.heap_model.specs.Heap.{IsHeap}
@@ -20,8 +20,7 @@ use Rattle.core_machine.specs.declared.place.Leaving.{Leaving}
 use Rattle.core_machine.specs.declared.place.Leaving.TheVariants as leaving
 use Rattle.core_machine.specs.declared.seat.register.Register.{Register}
 use Rattle.core_machine.specs.declared.step.Step.{Step}
-use Rattle.core_machine.specs.declared.step.Step.TheVariants as steps
-use Rattle.core_machine.specs.Moves.{Move, move_at, next_move, due_step, bearing_move, last_birth_move, birth_move, is_last_birth, refusal_step}
+use Rattle.core_machine.specs.Moves.{Move, move_at, next_move, bearing_move, is_last_birth, refusal_step}
 use Rattle.core_machine.specs.calls.Kept.{Kept, kept_of, IsUntold}
 use Rattle.core_machine.specs.calls.OwnStage.{StageAt, OwnStage}
 use Rattle.core_machine.specs.seat.Fits.{Fits}

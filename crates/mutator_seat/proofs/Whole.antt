@@ -1,5 +1,5 @@
 -- A call of a seat, from what its holder was to what it is after the steps.
-use Rattle.std.proofs.Common.{◌≡◌, ℕ, ◌+◌, ◌≤◌, List, Some, None, refl, sym, ap, subst, ◌∙◌}
+use Rattle.std.proofs.Common.{◌≡◌, ◌+◌, ◌≤◌, List, Some, None, sym, ap, subst, ◌∙◌}
 use Rattle.heap_model.specs.calls.SeatCalls.{IsReady}
 use Rattle.heap_model.specs.declared.command.Command.{Command}
 use Rattle.heap_model.specs.declared.reply.Reply.{Reply}

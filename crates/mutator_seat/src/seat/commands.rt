@@ -2,7 +2,9 @@ use crate::answers::{array_of, cell_of, equal_of, length_of, phase_of, record_of
 use crate::seat::Seat;
 use core_machine::ShowsLast;
 use heap_model::limits::STAMP_LIMIT;
-use heap_model::{Command, Full, Id, Memory, NoObject, PlaceRefusal, SeatCalls, SpaceRefusal, Value};
+use heap_model::{
+    Command, Full, Id, Memory, NoObject, PlaceRefusal, SeatCalls, SpaceRefusal, Value,
+};
 
 impl<L: ShowsLast> SeatCalls for Seat<L> {
     ghost use Rattle.mutator_seat.specs.Resting.{seat_state};

@@ -1,6 +1,5 @@
 use Rattle.std.proofs.Common.{sym, subst}
 use Rattle.heap_model.specs.declared.command.Command.TheVariants.{Get}
-use Rattle.heap_model.specs.declared.reply.Reply.{Reply}
 use Rattle.heap_model.specs.calls.SeatReplies.{get_reply}
 use Rattle.mutator_seat.specs.Calls.{MakesCall}
 use Rattle.mutator_seat.proofs.Entries.{call_adds}
