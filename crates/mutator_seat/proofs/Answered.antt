@@ -24,6 +24,8 @@ use Rattle.heap_table.specs.Made.{Made, MakesSteps, IsSound}
 use Rattle.heap_table.specs.SeatHeld.{SeatHeld}
 use Rattle.mutator_seat.specs.Calls.{begun, ToldIn, MakesCall}
 use Rattle.mutator_seat.specs.Resting.{Rests}
+use Rattle.mutator_seat.proofs.Causes.{refused_keeps, cause_of}
+use Rattle.mutator_seat.proofs.KeptOn.{counts_so}
 use Rattle.mutator_seat.proofs.Since.{stage_since}
 
 module _ (old : SeatHeld) (command : Command) (rests : Rests old) (may : MayBegin old.seat command) where
@@ -70,6 +72,9 @@ module _ (old : SeatHeld) (command : Command) (rests : Rests old) (may : MayBegi
       comes = comes_before old.number (kept_of old.seat) command answered.reply answered.first answered.comes near;
       stands = answered.stands;
       room = omega (arith, makes.room_stays, ap (length {A = Entry}) stands.kept);
+      cause = cause_of old new command made answered.first sound answered.reply answered.stands;
+      refused = refused_keeps old new command made answered.first answered.reply answered.stands;
+      waits_stay = (counts_so tells old.heap old.number (kept_of old.seat) (kept_of new.seat) answered.first command answered.reply answered.stands).waits;
     }
 
     last_told : last_reply_of new.seat.mine ≡ Some answered.reply
@@ -88,11 +93,3 @@ module _ (old : SeatHeld) (command : Command) (rests : Rests old) (may : MayBegi
       where
         differ : (a : Reply) → Some a ≡ None → ⊥
         differ a e = cc
-
-    -- it stands on what these steps found
-    pub call_stands : (reply : Reply) → last_reply_of new.seat.mine ≡ Some reply
-        → (first : List Entry) × StandsOn tells old.heap old.number command (kept_of old.seat) (kept_of new.seat) first reply
-    call_stands reply is = (answered.first, subst (StandsOn tells old.heap old.number command (kept_of old.seat) (kept_of new.seat) answered.first) (same answered.reply reply (sym last_told ∙ is)) answered.stands)
-      where
-        same : (a b : Reply) → Some a ≡ Some b → a ≡ b
-        same a b e = cc

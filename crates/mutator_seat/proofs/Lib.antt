@@ -4,6 +4,7 @@ pub mod Entries
 pub mod Fields
 pub mod Inner
 pub mod KeptOn
+pub mod Opened
 pub mod Replied
 pub mod Running
 pub mod Since

@@ -1,5 +1,5 @@
 -- A call in flight is made to its end, step by step.
-use Rattle.std.proofs.Common.{◌≡◌, ◌+◌, ◌<◌, ◌≤◌, ℕ, List, [], ◌∷◌, ◌++◌, Some, None, refl, sym, ap, subst, arith}
+use Rattle.std.proofs.Common.{◌≡◌, ◌+◌, ◌<◌, ◌≤◌, ℕ, List, [], ◌∷◌, ◌++◌, Option, Some, None, refl, sym, ap, subst, ◌∙◌, arith}
 use Rattle.std.specs.Prelude.{option_map}
 use Rattle.heap_model.specs.declared.heap.Heap.{Heap}
 use Rattle.core_machine.specs.Moves.{Move, move_at, due_step}
@@ -12,7 +12,7 @@ use Rattle.core_machine.specs.seat.Seat.{Seat}
 use Rattle.heap_table.specs.Made.{Made, MakesSteps, IsSound}
 use Rattle.heap_table.specs.SeatHeld.{SeatHeld, IsStepped}
 use Rattle.heap_table.specs.Told.{ToldAtStep}
-use Rattle.heap_table.proofs.MadeSteps.{makes_none, makes_append, makes_one, step_nears}
+use Rattle.heap_table.proofs.MadeSteps.{makes_none, makes_append, makes_one, no_more, step_nears}
 
 -- while the call is made: its steps so far, and room for what it owes
 pub record WhileRunning (first now : SeatHeld) : Type 0 where
@@ -50,7 +50,7 @@ running_on first now new step found while due stepped told =
     )
 
 -- once none is due no call is in flight
-pub idle_at : (heap : Heap) (number : ℕ) (seat : Seat) (place : Place) → option_map (λ (m : Move). m.step) (move_at heap number seat place) ≡ None → place ≡ places.Idle
+idle_at : (heap : Heap) (number : ℕ) (seat : Seat) (place : Place) → option_map (λ (m : Move). m.step) (move_at heap number seat place) ≡ None → place ≡ places.Idle
 idle_at heap number seat places.Idle e = refl
 idle_at heap number seat (places.Making place) e = cc
 idle_at heap number seat places.Local e = cc
@@ -58,3 +58,6 @@ idle_at heap number seat (places.Access place) e = cc
 idle_at heap number seat (places.Polling place) e = cc
 idle_at heap number seat (places.Collecting place) e = cc
 idle_at heap number seat (places.Leaving place) e = cc
+
+pub idle_then : (held : SeatHeld) (due : Option Step) → due ≡ due_step held.heap held.number held.seat → ((step : Step) → due ≡ Some step → ⊥) → held.seat.place ≡ places.Idle
+idle_then held due is none = idle_at held.heap held.number held.seat held.seat.place (sym is ∙ no_more due none)

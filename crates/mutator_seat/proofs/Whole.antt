@@ -3,7 +3,6 @@ use Rattle.std.proofs.Common.{◌≡◌, ◌+◌, ◌≤◌, List, Some, None, s
 use Rattle.heap_model.specs.calls.SeatCalls.{IsReady}
 use Rattle.heap_model.specs.declared.command.Command.{Command}
 use Rattle.heap_model.specs.declared.reply.Reply.{Reply}
-use Rattle.core_machine.specs.calls.Kept.{kept_of}
 use Rattle.core_machine.specs.calls.Owes.{owes}
 use Rattle.core_machine.specs.declared.place.Place.TheVariants.{Idle}
 use Rattle.core_machine.specs.machine.Calls.{last_reply_of}
@@ -12,12 +11,11 @@ use Rattle.core_machine.specs.seat.Commands.{IsServed}
 use Rattle.core_rule.specs.Told.{IsAsTold}
 use Rattle.heap_table.specs.Made.{Made, MakesSteps, IsSound}
 use Rattle.heap_table.specs.SeatHeld.{SeatHeld}
-use Rattle.mutator_seat.specs.Calls.{begun, ToldIn, MakesCall, IsCauseOf, KeepsWhereRefused}
+use Rattle.mutator_seat.specs.Calls.{begun, MakesCall}
 use Rattle.mutator_seat.specs.Resting.{seat_state, Rests}
-use Rattle.mutator_seat.proofs.Answered.{begun_sound, begun_room, call_replied, call_replies, call_stands}
-use Rattle.mutator_seat.proofs.Causes.{refused_keeps, cause_of}
+use Rattle.mutator_seat.proofs.Answered.{begun_sound, begun_room, call_replied, call_replies}
 use Rattle.mutator_seat.proofs.Entries.{ready_begins}
-use Rattle.mutator_seat.proofs.KeptOn.{counts_so, rests_again}
+use Rattle.mutator_seat.proofs.KeptOn.{rests_again}
 
 module _ (inside value : SeatHeld) (command : Command) (view : inside ≡ value) (rests : Rests inside) (ready : IsReady (seat_state value) command) (served : IsServed command) where
   rested : Rests value
@@ -49,17 +47,6 @@ module _ (inside value : SeatHeld) (command : Command) (view : inside ≡ value)
       module _ (reply : Reply) (last : last_reply_of new.seat.mine ≡ Some reply) where
         pub made_whole : MakesCall value new command reply
         made_whole = call_replied value command rested may new steps.0 makes over reply last
-
-        pub caused : (made : List Made) → MakesSteps (begun value command) new made → IsCauseOf made value reply
-        caused made makes =
-            let stands = call_stands value command rested may new made makes over reply last in
-            cause_of value new command made stands.0 rested.sound reply stands.1
-
-        pub kept_refused : KeepsWhereRefused value new reply
-        kept_refused = refused_keeps value new command made_whole.made made_whole.first reply made_whole.stands
-
-        pub waits_stay : new.seat.looks.waits ≡ value.seat.looks.waits
-        waits_stay = (counts_so (ToldIn value made_whole.made) value.heap value.number (kept_of value.seat) (kept_of new.seat) made_whole.first command reply made_whole.stands).waits
 
         pub rests_then : IsSound new → (new.seat.place ≡ Idle → IsAsTold new.heap new.number new.seat) → Rests new
         rests_then sound told = rests_again value new command reply may made_whole sound (told over)

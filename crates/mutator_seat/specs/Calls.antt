@@ -29,19 +29,6 @@ begun held command = record held { seat = after_begin held.heap held.seat comman
 abbrev pub ToldIn : SeatHeld → List Made → Step → ℕ → Type 0
 ToldIn old made step word = FoundIn made step word × TellsWord old.heap old.number old.seat step word
 
--- the seat rested, made steps one after another from the command's begin on, and no call is in flight; its new entries are those of the command, the reply last, which stands on what the steps found
-pub record MakesCall (old new : SeatHeld) (command : Command) (reply : Reply) : Type 0 where
-  pub rested : Rests old
-  pub made : List Made
-  pub makes : MakesSteps (begun old command) new made
-  pub over : new.seat.place ≡ Idle
-  pub first : List Entry
-  pub told : new.seat.mine ≡ old.seat.mine ++ (first ++ Said old.number command reply ∷ [])
-  pub beside : AllByRecursion (IsBeside old.number) first
-  pub comes : ComesBefore old.number (length old.seat.reserve) old.seat.answered command reply first
-  pub stands : StandsOn (ToldIn old made) old.heap old.number command (kept_of old.seat) (kept_of new.seat) first reply
-  pub room : old.spare + length old.seat.mine ≤ new.spare + length new.seat.mine
-
 -- what these steps found for a reply that shows a phase or a refusal of space: the phase word; a claim at every group, and no more than that; the spine words in use
 abbrev pub IsCauseOf : List Made → SeatHeld → Reply → Type 0
 IsCauseOf made old (replies.Phase p) = FoundIn made PollLoad p
@@ -56,3 +43,19 @@ KeepsWhereRefused old new (replies.SpineFull need used) = KeepsOwn old.seat new.
 KeepsWhereRefused old new replies.NoObject = KeepsOwn old.seat new.seat
 KeepsWhereRefused old new replies.NoField = KeepsOwn old.seat new.seat
 KeepsWhereRefused old new _ = Unit {0}
+
+-- the seat rested, made steps one after another from the command's begin on, and no call is in flight; its new entries are those of the command, the reply last, which stands on what the steps found
+pub record MakesCall (old new : SeatHeld) (command : Command) (reply : Reply) : Type 0 where
+  pub rested : Rests old
+  pub made : List Made
+  pub makes : MakesSteps (begun old command) new made
+  pub over : new.seat.place ≡ Idle
+  pub first : List Entry
+  pub told : new.seat.mine ≡ old.seat.mine ++ (first ++ Said old.number command reply ∷ [])
+  pub beside : AllByRecursion (IsBeside old.number) first
+  pub comes : ComesBefore old.number (length old.seat.reserve) old.seat.answered command reply first
+  pub stands : StandsOn (ToldIn old made) old.heap old.number command (kept_of old.seat) (kept_of new.seat) first reply
+  pub room : old.spare + length old.seat.mine ≤ new.spare + length new.seat.mine
+  pub cause : IsCauseOf made old reply
+  pub refused : KeepsWhereRefused old new reply
+  pub waits_stay : new.seat.looks.waits ≡ old.seat.looks.waits

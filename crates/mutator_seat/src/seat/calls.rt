@@ -1,8 +1,6 @@
-ghost use Rattle.std.specs.Prelude.{◌≡◌};
 ghost use Rattle.heap_model.specs.calls.SeatCalls.{IsReady};
 ghost use Rattle.core_machine.specs.seat.Commands.{IsServed};
-ghost use Rattle.heap_table.specs.Made.{BySteps};
-ghost use Rattle.mutator_seat.specs.Calls.{begun, MakesCall, IsCauseOf, KeepsWhereRefused};
+ghost use Rattle.mutator_seat.specs.Calls.{MakesCall};
 ghost use Rattle.mutator_seat.specs.Resting.{seat_state};
 
 use crate::run::{last_reply, run};
@@ -15,10 +13,7 @@ impl<L: ShowsLast> Seat<L> {
     pub fn call(&mut self, command: &Command) -> Reply
         requires ready { IsReady (seat_state self.old) command.now }
         requires served { IsServed command.now }
-        ensures made { MakesCall self.old self.new command.now result }
-        ensures cause { BySteps (begun self.old command.now) self.new (λ made. IsCauseOf made self.old result) }
-        ensures refused { KeepsWhereRefused self.old self.new result }
-        ensures waits { self.new.seat.looks.waits ≡ self.old.seat.looks.waits }
+        ensures { MakesCall self.old self.new command.now result }
     {
         self.holder.begin(*command);
         run(&mut self.holder);

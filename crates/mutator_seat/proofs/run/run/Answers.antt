@@ -1,7 +1,5 @@
-use Rattle.std.proofs.Common.{◌≡◌, None, sym, ◌∙◌}
-use Rattle.core_machine.specs.Moves.{due_step}
-use Rattle.heap_table.proofs.MadeSteps.{no_more}
-use Rattle.mutator_seat.proofs.Running.{running_begins, running_on, room_to_step, idle_at}
+use Rattle.std.proofs.Common.{sym, ◌∙◌}
+use Rattle.mutator_seat.proofs.Running.{running_begins, running_on, room_to_step, idle_then}
 use Rattle.mutator_seat.proofs.run.run.Goals as goal
 
 pub loop-step-init : goal.loop-step-init
@@ -20,7 +18,4 @@ pub returns-clause-steps : goal.returns-clause-steps
 returns-clause-steps g c = (c.loop-step.invariant.made, c.loop-step.invariant.makes)
 
 pub returns-clause-over : goal.returns-clause-over
-returns-clause-over g c =
-    let held = c.loop-step.holder in
-    let none : due_step held.heap held.number held.seat ≡ None = sym c.due.ensures ∙ no_more c.due.result c.in_default.not-Some in
-    idle_at held.heap held.number held.seat held.seat.place none
+returns-clause-over g c = idle_then c.loop-step.holder c.due.result c.due.ensures c.in_default.not-Some

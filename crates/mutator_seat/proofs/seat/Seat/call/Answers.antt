@@ -1,7 +1,7 @@
 use Rattle.std.proofs.Common.{sym, ap, ◌∙◌}
 use Rattle.core_machine.specs.machine.Calls.{last_reply_of}
 use Rattle.core_machine.specs.seat.Seat.{Seat}
-use Rattle.mutator_seat.proofs.Whole.{may_begin, first_sound, first_room, replies_some, made_whole, caused, kept_refused, waits_stay, rests_then}
+use Rattle.mutator_seat.proofs.Whole.{may_begin, first_sound, first_room, replies_some, made_whole, rests_then}
 use Rattle.mutator_seat.proofs.seat.Seat.call.Goals as goal
 
 pub begin-requires : goal.begin-requires
@@ -20,24 +20,9 @@ unreachable-requires g c =
     replies_some c.self.inside.holder c.args.self.now c.args.command.now c.self.view_is c.self.invariant c.requires.ready c.requires.served c.begin.new.self c.begin.ensures
     c.run.new.holder c.run.ensures.steps c.run.ensures.over (ap (λ (s : Seat). last_reply_of s.mine) (sym c.party.ensures.seat) ∙ sym c.last_reply.ensures ∙ c.in-None.is)
 
-pub returns-clause-made : goal.returns-clause-made
-returns-clause-made g c =
+pub returns : goal.returns
+returns g c =
     made_whole c.self.inside.holder c.args.self.now c.args.command.now c.self.view_is c.self.invariant c.requires.ready c.requires.served c.begin.new.self c.begin.ensures
-    c.run.new.holder c.run.ensures.steps c.run.ensures.over c.in-Some.reply (ap (λ (s : Seat). last_reply_of s.mine) (sym c.party.ensures.seat) ∙ sym c.last_reply.ensures ∙ c.in-Some.is)
-
-pub returns-clause-cause : goal.returns-clause-cause
-returns-clause-cause g c =
-    caused c.self.inside.holder c.args.self.now c.args.command.now c.self.view_is c.self.invariant c.requires.ready c.requires.served c.begin.new.self c.begin.ensures
-    c.run.new.holder c.run.ensures.steps c.run.ensures.over c.in-Some.reply (ap (λ (s : Seat). last_reply_of s.mine) (sym c.party.ensures.seat) ∙ sym c.last_reply.ensures ∙ c.in-Some.is)
-
-pub returns-clause-refused : goal.returns-clause-refused
-returns-clause-refused g c =
-    kept_refused c.self.inside.holder c.args.self.now c.args.command.now c.self.view_is c.self.invariant c.requires.ready c.requires.served c.begin.new.self c.begin.ensures
-    c.run.new.holder c.run.ensures.steps c.run.ensures.over c.in-Some.reply (ap (λ (s : Seat). last_reply_of s.mine) (sym c.party.ensures.seat) ∙ sym c.last_reply.ensures ∙ c.in-Some.is)
-
-pub returns-clause-waits : goal.returns-clause-waits
-returns-clause-waits g c =
-    waits_stay c.self.inside.holder c.args.self.now c.args.command.now c.self.view_is c.self.invariant c.requires.ready c.requires.served c.begin.new.self c.begin.ensures
     c.run.new.holder c.run.ensures.steps c.run.ensures.over c.in-Some.reply (ap (λ (s : Seat). last_reply_of s.mine) (sym c.party.ensures.seat) ∙ sym c.last_reply.ensures ∙ c.in-Some.is)
 
 pub invariant_of-self : goal.invariant_of-self
