@@ -2,13 +2,17 @@
 use Rattle.std.proofs.Common.{◌≡◌, ℕ, ◌+◌, ◌<◌, ◌≤◌, List, [], ◌∷◌, ◌++◌, length, Option, Some, refl, sym, ap, subst, ◌∙◌, inl, inr, append-nil, append_assoc, arith}
 use Rattle.std.specs.List.{All}
 use Rattle.std.proofs.lemmas.List.Elements.{All-append, All-nil, All-push}
+use Rattle.std.proofs.lemmas.List.Sums.{fold-append}
 use Rattle.heap_model.specs.Heap.{IsHeap}
 use Rattle.heap_model.specs.calls.SeatLaws.{IsOwn}
 use Rattle.heap_model.specs.declared.calls.collect.Inner.{Inner}
 use Rattle.heap_model.specs.declared.calls.collect.Inner.TheVariants.{Look, Answer, Behind, Note}
 use Rattle.heap_model.specs.declared.entry.Entry.{Entry}
 use Rattle.heap_model.specs.declared.entry.Entry.TheVariants.{Answers}
+use Rattle.heap_model.specs.calls.SeatState.{own_graph}
 use Rattle.heap_model.specs.declared.heap.Heap.{Heap}
+use Rattle.heap_model.specs.graph.Graph.{Graph, opening}
+use Rattle.heap_model.specs.graph.Growth.{after_entry, graph_after}
 use Rattle.core_machine.specs.calls.InnerStage.{IsInnerOver, OwnInnerStage}
 use Rattle.core_machine.specs.calls.Kept.{Kept, kept_of}
 use Rattle.core_machine.specs.calls.Owes.{owes}
@@ -70,6 +74,16 @@ inner_own tells number before kept told Answer is = (
 inner_own tells number before kept told (Behind other) is = (none_own number told is.none_told, ap (λ (k : Kept). k.sets) is.kept_is)
 inner_own tells number before kept told (Note reply) is = (one_own number told _ (refl, tt) is.told_is, ap (λ (k : Kept). k.sets) is.kept_is)
 
+-- it changes no graph
+one_quiet : (g : Graph) (told : List Entry) (entry : Entry) → told ≡ entry ∷ [] → after_entry g entry ≡ g → graph_after g told ≡ g
+one_quiet g told entry is quiet = ap (graph_after g) is ∙ quiet
+
+inner_quiet : (tells : Step → ℕ → Type 0) (number : ℕ) (before kept : Kept) (told : List Entry) (inner : Inner) (g : Graph) → IsInnerOver tells number before kept told inner → graph_after g told ≡ g
+inner_quiet tells number before kept told Look g is = ap (graph_after g) is.none_told
+inner_quiet tells number before kept told Answer g is = elim is.told_is as (λ _. graph_after g told ≡ g) [ inl none ↦ ap (graph_after g) none.1 | inr one ↦ one_quiet g told (Answers number is.phase) one.1 refl ]
+inner_quiet tells number before kept told (Behind other) g is = ap (graph_after g) is.none_told
+inner_quiet tells number before kept told (Note reply) g is = one_quiet g told _ is.told_is refl
+
 module _ (inside value : SeatHeld) (inner : Inner) (view : inside ≡ value) (rests : Rests inside) (ready : MayCollect (seat_state value)) (makes : MayMake value.heap value.number value.seat.looks inner) where
   rested : Rests value
   rested = subst Rests view rests
@@ -117,6 +131,9 @@ module _ (inside value : SeatHeld) (inner : Inner) (view : inside ≡ value) (re
         mine = ends.1.mine;
         comes = over_then;
         room = omega (arith, makes_on.room_stays, ap (length {A = Entry}) stands.kept);
+        graph_stays = ap (λ (h : Heap). graph_after (opening h) new.seat.mine) makes_on.heap_stays ∙ ap (graph_after (opening value.heap)) ends.1.mine
+            ∙ fold-append after_entry (opening value.heap) value.seat.mine ends.0
+            ∙ inner_quiet (FoundIn steps.0) value.number (kept_of value.seat) (kept_of new.seat) ends.0 inner (own_graph (seat_state value)) over_then;
       }
 
       pub inner_rests : IsSound new → (new.seat.place ≡ Idle → IsAsTold new.heap new.number new.seat) → Rests new

@@ -1,6 +1,6 @@
 -- An inner call of a collect, between whose steps others may step.
 use Rattle.std.specs.Prelude.{◌≡◌, ℕ, ◌+◌, ◌≤◌, ◌==◌, nat_lt, false, if◌then◌else◌, ◌++◌, List, [], ◌∷◌, length, Option, Some, None}
-use Rattle.heap_model.specs.calls.SeatState.{SeatState, own_graph_seat}
+use Rattle.heap_model.specs.calls.SeatState.{SeatState, own_graph, own_graph_seat}
 use Rattle.heap_model.specs.declared.calls.collect.Inner.{Inner}
 use Rattle.heap_model.specs.declared.entry.Entry.{Entry}
 use Rattle.heap_model.specs.declared.entry.Entry.TheVariants.{Answers}
@@ -13,7 +13,7 @@ use Rattle.core_machine.specs.machine.Machine.{after_inner_begin}
 use Rattle.core_machine.specs.declared.seat.looks.FoundBehind.{FoundBehind}
 use Rattle.heap_table.specs.Made.{Made, FoundIn, MakesSteps}
 use Rattle.heap_table.specs.SeatHeld.{SeatHeld}
-use Rattle.mutator_seat.specs.Resting.{Rests}
+use Rattle.mutator_seat.specs.Resting.{seat_state, Rests}
 
 -- the seat hasn't left, and has room for what an inner call tells
 pub record MayCollect (seat : SeatState) : Type 0 where
@@ -34,6 +34,8 @@ pub record MakesInner (old new : SeatHeld) (inner : Inner) : Type 0 where
   pub mine : new.seat.mine ≡ old.seat.mine ++ told
   pub comes : IsInnerOver (FoundIn made) old.number (kept_of old.seat) (kept_of new.seat) told inner
   pub room : old.spare + length old.seat.mine ≤ new.spare + length new.seat.mine
+  -- what the seat's own list tells of registers, objects and sets stays
+  pub graph_stays : own_graph (seat_state new) ≡ own_graph (seat_state old)
 
 -- by steps that the inner call has made it is so
 abbrev pub ByInner : SeatHeld → SeatHeld → Inner → (List Made → Type 0) → Type 0
