@@ -18,7 +18,7 @@ use Rattle.core_rule.proofs.graph.Numbering.{id_tells}
 abbrev Tells : Value → Value → Type 0
 Tells u v = ((is_same_value u v ≡ true) × (u ≡ v)) ⊎ ((is_same_value u v ≡ false) × (u ≢ v))
 
-same_tells : (u v : Value) → Tells u v
+pub same_tells : (u v : Value) → Tells u v
 same_tells values.Nil values.Nil = inl (refl, refl)
 same_tells values.Nil (values.Number m) = inr (refl, λ e. cc)
 same_tells values.Nil (values.Object b) = inr (refl, λ e. cc)

@@ -1,0 +1,134 @@
+-- An inner call of a seat's collect, by the steps that it has made.
+use Rattle.std.proofs.Common.{◌≡◌, ℕ, ◌+◌, ◌<◌, ◌≤◌, List, [], ◌∷◌, ◌++◌, length, Option, Some, refl, sym, ap, subst, ◌∙◌, inl, inr, append-nil, append_assoc, arith}
+use Rattle.std.specs.List.{All}
+use Rattle.std.proofs.lemmas.List.Elements.{All-append, All-nil, All-push}
+use Rattle.heap_model.specs.Heap.{IsHeap}
+use Rattle.heap_model.specs.calls.SeatLaws.{IsOwn}
+use Rattle.heap_model.specs.declared.calls.collect.Inner.{Inner}
+use Rattle.heap_model.specs.declared.calls.collect.Inner.TheVariants.{Look, Answer, Behind, Note}
+use Rattle.heap_model.specs.declared.entry.Entry.{Entry}
+use Rattle.heap_model.specs.declared.entry.Entry.TheVariants.{Answers}
+use Rattle.heap_model.specs.declared.heap.Heap.{Heap}
+use Rattle.core_machine.specs.calls.InnerStage.{IsInnerOver, OwnInnerStage}
+use Rattle.core_machine.specs.calls.Kept.{Kept, kept_of}
+use Rattle.core_machine.specs.calls.Owes.{owes}
+use Rattle.core_machine.specs.declared.place.Place.TheVariants.{Idle}
+use Rattle.core_machine.specs.declared.step.Step.{Step}
+use Rattle.core_machine.specs.machine.Machine.{MayBeginInner, after_inner_begin}
+use Rattle.core_machine.specs.Moves.{Move, due_step, seat_after, seat_after_due}
+use Rattle.core_machine.specs.seat.Fits.{Fits}
+use Rattle.core_machine.specs.seat.Looks.{MayMake}
+use Rattle.core_machine.specs.seat.Seat.{Seat}
+use Rattle.core_machine.proofs.moves.{due_move}
+use Rattle.core_machine.proofs.moves.Collect.{InnerStands, inner_stands}
+use Rattle.core_machine.proofs.own_stages.Inner.{inner_leads, inner_begins, inner_ended}
+use Rattle.core_rule.specs.Told.{IsAsTold}
+use Rattle.heap_table.specs.Begun.{next_seat}
+use Rattle.heap_table.specs.Made.{Made, FoundIn, LeadsTo, MakesSteps, IsSound}
+use Rattle.heap_table.specs.SeatHeld.{SeatHeld}
+use Rattle.heap_table.proofs.MadeSteps.{found_first, found_more}
+use Rattle.mutator_seat.specs.InnerCalls.{MayCollect, begun_inner, MakesInner}
+use Rattle.mutator_seat.specs.Resting.{seat_state, Rests}
+
+-- an inner call that stands so stands after all these steps as it is to
+module _ (heap : Heap) (number : ℕ) (inner : Inner) (old : Seat) (tells : Step → ℕ → Type 0) (limits : IsHeap heap) (few : number < 16) where
+  inner_on : (seat : Seat) (told : List Entry) (step : Step) (found : ℕ) → Fits heap seat → due_step heap number seat ≡ Some step → tells step found → OwnInnerStage tells number inner old seat told
+      → (more : List Entry) × OwnInnerStage tells number inner old (next_seat heap number seat found) (told ++ more)
+  inner_on seat told step found fits due tell stage =
+      let move = due_move heap number seat step due in
+      let here : seat_after move.0 found ≡ next_seat heap number seat found = sym (ap (λ (m : Option Move). seat_after_due seat m found) move.1) in (
+        move.0.adds found,
+        subst (λ (s : Seat). OwnInnerStage tells number inner old s (told ++ move.0.adds found)) here
+            (inner_leads tells heap number inner old seat told move.0 found limits few fits move.1 (subst (λ (s : Step). tells s found) (sym move.2) tell) stage),
+      )
+
+  inner_along : (made : List Made) (seat new : Seat) (told : List Entry) → Fits heap seat → LeadsTo heap number seat made new → ((step : Step) (word : ℕ) → FoundIn made step word → tells step word)
+      → OwnInnerStage tells number inner old seat told → (more : List Entry) × OwnInnerStage tells number inner old new (told ++ more)
+  inner_along [] seat new told fits leads tell stage =
+      ([], subst (λ (t : List Entry). OwnInnerStage tells number inner old new t) (sym (append-nil told)) (subst (λ (s : Seat). OwnInnerStage tells number inner old s told) (sym leads) stage))
+  inner_along (m ∷ made) seat new told fits leads tell stage =
+      let on = inner_on seat told m.step m.found fits leads.0 (tell m.step m.found (found_first made m)) stage in
+      let rest = inner_along made (next_seat heap number seat m.found) new (told ++ on.0) leads.1.fits leads.2 (λ step word there. tell step word (found_more made m step word there)) on.1 in
+      (on.0 ++ rest.0, subst (λ (t : List Entry). OwnInnerStage tells number inner old new t) (append_assoc told on.0 rest.0) rest.1)
+
+-- what an inner call tells is the seat's own, and it does no set
+abbrev TellsOwn : ℕ → Kept → Kept → List Entry → Type 0
+TellsOwn number before kept told = All (IsOwn number) told × (kept.sets ≡ before.sets)
+
+none_own : (number : ℕ) (told : List Entry) → told ≡ [] → All (IsOwn number) told
+none_own number told none = subst (All (IsOwn number)) (sym none) (All-nil (IsOwn number))
+
+one_own : (number : ℕ) (told : List Entry) (entry : Entry) → IsOwn number entry → told ≡ entry ∷ [] → All (IsOwn number) told
+one_own number told entry own is = subst (All (IsOwn number)) (sym is) (All-push (IsOwn number) [] entry (All-nil (IsOwn number)) own)
+
+inner_own : (tells : Step → ℕ → Type 0) (number : ℕ) (before kept : Kept) (told : List Entry) (inner : Inner) → IsInnerOver tells number before kept told inner → TellsOwn number before kept told
+inner_own tells number before kept told Look is = (none_own number told is.none_told, ap (λ (k : Kept). k.sets) is.kept_is)
+inner_own tells number before kept told Answer is = (
+  elim is.told_is as (λ _. All (IsOwn number) told) [ inl none ↦ none_own number told none.1 | inr one ↦ one_own number told (Answers number is.phase) refl one.1 ],
+  ap (λ (k : Kept). k.sets) is.kept_is,
+)
+inner_own tells number before kept told (Behind other) is = (none_own number told is.none_told, ap (λ (k : Kept). k.sets) is.kept_is)
+inner_own tells number before kept told (Note reply) is = (one_own number told _ (refl, tt) is.told_is, ap (λ (k : Kept). k.sets) is.kept_is)
+
+module _ (inside value : SeatHeld) (inner : Inner) (view : inside ≡ value) (rests : Rests inside) (ready : MayCollect (seat_state value)) (makes : MayMake value.heap value.number value.seat.looks inner) where
+  rested : Rests value
+  rested = subst Rests view rests
+
+  may : MayBeginInner value.heap value.number value.seat inner
+  may = record { idle = rested.between.idle; present = rested.told.left ∙ ready.present; makes = makes }
+
+  pub may_begin_inner : MayBeginInner inside.heap inside.number inside.seat inner
+  may_begin_inner = subst (λ (h : SeatHeld). MayBeginInner h.heap h.number h.seat inner) (sym view) may
+
+  stands : InnerStands value.heap value.number value.seat (after_inner_begin value.seat inner)
+  stands = inner_stands value.heap value.number value.seat inner rested.sound.fits may
+
+  module _ (first : SeatHeld) (is : first ≡ begun_inner inside inner) where
+    begun_is : first ≡ begun_inner value inner
+    begun_is = is ∙ ap (λ (h : SeatHeld). begun_inner h inner) view
+
+    pub inner_sound : IsSound first
+    inner_sound = subst IsSound (sym begun_is) (record { limits = rested.sound.limits; within = rested.sound.within; fits = stands.fits })
+
+    pub inner_room : owes first.seat + 2 ≤ first.spare
+    inner_room = subst (λ (h : SeatHeld). owes h.seat + 2 ≤ h.spare) (sym begun_is) (enough (owes (begun_inner value inner).seat) value.spare stands.owed ready.room)
+      where
+        enough : (owed spare : ℕ) → owed ≤ 2 → 4 ≤ spare → owed + 2 ≤ spare
+        enough owed spare a b = omega arith
+
+    module _ (new : SeatHeld) (steps : (made : List Made) × MakesSteps first new made) (over : new.seat.place ≡ Idle) where
+      makes_on : MakesSteps (begun_inner value inner) new steps.0
+      makes_on = subst (λ (h : SeatHeld). MakesSteps h new steps.0) begun_is steps.1
+
+      ends : (told : List Entry) × OwnInnerStage (FoundIn steps.0) value.number inner value.seat new.seat told
+      ends = inner_along value.heap value.number inner value.seat (FoundIn steps.0) rested.sound.limits (omega (arith, rested.sound.within, rested.sound.limits.seats_fit)) steps.0 (begun_inner value inner).seat new.seat []
+          stands.fits makes_on.leads (λ step word found. found) (inner_begins (FoundIn steps.0) value.number value.seat inner)
+
+      over_then : IsInnerOver (FoundIn steps.0) value.number (kept_of value.seat) (kept_of new.seat) ends.0 inner
+      over_then = inner_ended (FoundIn steps.0) value.number inner value.seat new.seat ends.0 ends.1 over
+
+      pub inner_made : MakesInner value new inner
+      inner_made = record {
+        rested = rested;
+        made = steps.0;
+        makes = makes_on;
+        over = over;
+        told = ends.0;
+        mine = ends.1.mine;
+        comes = over_then;
+        room = omega (arith, makes_on.room_stays, ap (length {A = Entry}) stands.kept);
+      }
+
+      pub inner_rests : IsSound new → (new.seat.place ≡ Idle → IsAsTold new.heap new.number new.seat) → Rests new
+      inner_rests sound told =
+          let own = inner_own (FoundIn steps.0) value.number (kept_of value.seat) (kept_of new.seat) ends.0 inner over_then in
+          record {
+            between = record {
+              idle = over;
+              own = subst (λ (n : ℕ). All (IsOwn n) new.seat.mine) (sym makes_on.number_stays)
+                  (subst (All (IsOwn value.number)) (sym ends.1.mine) (All-append (IsOwn value.number) value.seat.mine ends.0 rested.between.own own.0));
+              stamps = omega (arith, own.1, rested.between.stamps);
+            };
+            sound = sound;
+            told = told over;
+          }

@@ -1,0 +1,11 @@
+pub mod Answered
+pub mod Causes
+pub mod Entries
+pub mod Fields
+pub mod Inner
+pub mod KeptOn
+pub mod Opened
+pub mod Replied
+pub mod Running
+pub mod Since
+pub mod Whole

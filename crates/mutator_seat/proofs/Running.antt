@@ -1,0 +1,63 @@
+-- A call in flight is made to its end, step by step.
+use Rattle.std.proofs.Common.{◌≡◌, ◌+◌, ◌<◌, ◌≤◌, ℕ, List, [], ◌∷◌, ◌++◌, Option, Some, None, refl, sym, ap, subst, ◌∙◌, arith}
+use Rattle.std.specs.Prelude.{option_map}
+use Rattle.heap_model.specs.declared.heap.Heap.{Heap}
+use Rattle.core_machine.specs.Moves.{Move, move_at, due_step}
+use Rattle.core_machine.specs.calls.Owes.{owes, steps_left}
+use Rattle.core_machine.specs.declared.place.Place.{Place}
+use Rattle.core_machine.specs.declared.place.Place.TheVariants as places
+use Rattle.core_machine.specs.declared.step.Step.{Step}
+use Rattle.core_machine.specs.seat.Fits.{Fits}
+use Rattle.core_machine.specs.seat.Seat.{Seat}
+use Rattle.heap_table.specs.Made.{Made, MakesSteps, IsSound}
+use Rattle.heap_table.specs.SeatHeld.{SeatHeld, IsStepped}
+use Rattle.heap_table.specs.Told.{ToldAtStep}
+use Rattle.heap_table.proofs.MadeSteps.{makes_none, makes_append, makes_one, no_more, step_nears}
+
+-- while the call is made: its steps so far, and room for what it owes
+pub record WhileRunning (first now : SeatHeld) : Type 0 where
+  pub made : List Made
+  pub makes : MakesSteps first now made
+  pub sound : IsSound now
+  pub room : owes now.seat + 2 ≤ now.spare
+
+pub running_begins : (held : SeatHeld) → IsSound held → owes held.seat + 2 ≤ held.spare → WhileRunning held held
+running_begins held sound room = record { made = []; makes = makes_none held; sound = sound; room = room }
+
+pub room_to_step : (first now : SeatHeld) → WhileRunning first now → 2 ≤ now.spare
+room_to_step first now while = omega (arith, while.room)
+
+-- the heap and the number stay, and the data fit together after the step
+sound_stepped : (now new : SeatHeld) (found : ℕ) → IsSound now → IsStepped now new found → ToldAtStep now.heap now.number now.seat found → IsSound new
+sound_stepped now new found sound stepped told = record {
+  limits = subst Rattle.heap_model.specs.Heap.IsHeap (sym stepped.heap_stays) sound.limits;
+  within = omega (arith, sound.within, stepped.number_stays, ap (λ (h : Heap). h.seats) stepped.heap_stays);
+  fits = subst (λ (h : Heap). Fits h new.seat) (sym stepped.heap_stays) (subst (Fits now.heap) (sym stepped.seat_is) told.fits);
+}
+
+pub running_on : (first now new : SeatHeld) (step : Step) (found : ℕ) → WhileRunning first now → due_step now.heap now.number now.seat ≡ Some step → IsStepped now new found
+    → ToldAtStep now.heap now.number now.seat found → WhileRunning first new × (steps_left new.heap new.seat < steps_left now.heap now.seat)
+running_on first now new step found while due stepped told =
+    let sound = while.sound in
+    let near = step_nears now.heap now.number now.seat sound.limits (omega (arith, sound.within, sound.limits.seats_fit)) sound.fits step found new.seat due stepped.seat_is in (
+      record {
+        made = while.made ++ record { step = step; found = found } ∷ [];
+        makes = makes_append first now new while.made (record { step = step; found = found } ∷ []) while.makes (makes_one now new step found due told stepped);
+        sound = sound_stepped now new found sound stepped told;
+        room = omega (arith, while.room, near.1, stepped.room_stays);
+      },
+      subst (λ (h : Heap). steps_left h new.seat < steps_left now.heap now.seat) (sym stepped.heap_stays) near.0,
+    )
+
+-- once none is due no call is in flight
+idle_at : (heap : Heap) (number : ℕ) (seat : Seat) (place : Place) → option_map (λ (m : Move). m.step) (move_at heap number seat place) ≡ None → place ≡ places.Idle
+idle_at heap number seat places.Idle e = refl
+idle_at heap number seat (places.Making place) e = cc
+idle_at heap number seat places.Local e = cc
+idle_at heap number seat (places.Access place) e = cc
+idle_at heap number seat (places.Polling place) e = cc
+idle_at heap number seat (places.Collecting place) e = cc
+idle_at heap number seat (places.Leaving place) e = cc
+
+pub idle_then : (held : SeatHeld) (due : Option Step) → due ≡ due_step held.heap held.number held.seat → ((step : Step) → due ≡ Some step → ⊥) → held.seat.place ≡ places.Idle
+idle_then held due is none = idle_at held.heap held.number held.seat held.seat.place (sym is ∙ no_more due none)

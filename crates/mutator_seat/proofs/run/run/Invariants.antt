@@ -1,0 +1,9 @@
+use Rattle.core_machine.specs.calls.Owes.{steps_left}
+use Rattle.mutator_seat.proofs.Running.{WhileRunning}
+use Rattle.mutator_seat.proofs.run.run.Given as goal
+
+abbrev pub invariant-loop-step : goal.invariant-loop-step
+invariant-loop-step g l = WhileRunning l.fn.holder l.holder
+
+abbrev pub decreases-loop-step : goal.decreases-loop-step
+decreases-loop-step g l = steps_left l.holder.heap l.holder.seat

@@ -1,0 +1,62 @@
+-- An inner call of a collect, between whose steps others may step.
+use Rattle.std.specs.Prelude.{◌≡◌, ℕ, ◌+◌, ◌≤◌, ◌==◌, nat_lt, false, if◌then◌else◌, ◌++◌, List, [], ◌∷◌, length, Option, Some, None}
+use Rattle.heap_model.specs.calls.SeatState.{SeatState, own_graph_seat}
+use Rattle.heap_model.specs.declared.calls.collect.Inner.{Inner}
+use Rattle.heap_model.specs.declared.entry.Entry.{Entry}
+use Rattle.heap_model.specs.declared.entry.Entry.TheVariants.{Answers}
+use Rattle.core_machine.specs.calls.InnerStage.{IsInnerOver}
+use Rattle.core_machine.specs.calls.Kept.{kept_of}
+use Rattle.core_machine.specs.declared.place.Place.TheVariants.{Idle}
+use Rattle.core_machine.specs.declared.step.Step.TheVariants.{PollLoad, Turning}
+use Rattle.core_machine.specs.declared.step.TurningStep.TheVariants.{LookLoad}
+use Rattle.core_machine.specs.machine.Machine.{after_inner_begin}
+use Rattle.core_machine.specs.declared.seat.looks.FoundBehind.{FoundBehind}
+use Rattle.heap_table.specs.Made.{Made, FoundIn, MakesSteps}
+use Rattle.heap_table.specs.SeatHeld.{SeatHeld}
+use Rattle.mutator_seat.specs.Resting.{Rests}
+
+-- the seat hasn't left, and has room for what an inner call tells
+pub record MayCollect (seat : SeatState) : Type 0 where
+  pub present : (own_graph_seat seat).left ≡ false
+  pub room : 4 ≤ seat.spare
+
+-- the seat with the inner call in flight
+abbrev pub begun_inner : SeatHeld → Inner → SeatHeld
+begun_inner held inner = record held { seat = after_inner_begin held.seat inner }
+
+-- the seat rested, made steps one after another from the inner call's begin on, and no call is in flight; it keeps and tells what the inner call comes to by what they found
+pub record MakesInner (old new : SeatHeld) (inner : Inner) : Type 0 where
+  pub rested : Rests old
+  pub made : List Made
+  pub makes : MakesSteps (begun_inner old inner) new made
+  pub over : new.seat.place ≡ Idle
+  pub told : List Entry
+  pub mine : new.seat.mine ≡ old.seat.mine ++ told
+  pub comes : IsInnerOver (FoundIn made) old.number (kept_of old.seat) (kept_of new.seat) told inner
+  pub room : old.spare + length old.seat.mine ≤ new.spare + length new.seat.mine
+
+-- by steps that the inner call has made it is so
+abbrev pub ByInner : SeatHeld → SeatHeld → Inner → (List Made → Type 0) → Type 0
+ByInner old new inner Holds = (made : List Made) × MakesSteps (begun_inner old inner) new made × Holds made
+
+-- what is told of a phase by a seat that has answered it now
+abbrev pub newly_answered : ℕ → ℕ → ℕ → List Entry
+newly_answered number last phase = if phase == last then [] else Answers number phase ∷ []
+
+-- the phase and then the other seat's word were found, and where that is below the phase the two are shown
+pub record ShowsBehind (made : List Made) (other : ℕ) (shown : Option (ℕ × ℕ)) : Type 0 where
+  pub phase : ℕ
+  pub loaded : FoundIn made PollLoad phase
+  pub word : ℕ
+  pub loaded_then : FoundIn made (Turning (LookLoad other)) word
+  pub shown_is : shown ≡ (if nat_lt word phase then Some (word, phase) else None)
+
+-- what is shown of who was found behind
+abbrev pub shown_of : Option FoundBehind → Option (ℕ × ℕ)
+shown_of None = None
+shown_of (Some found) = Some (found.answered, found.phase)
+
+-- who was found behind, where this was shown of the seat
+abbrev pub behind_of : ℕ → Option (ℕ × ℕ) → Option FoundBehind
+behind_of other None = None
+behind_of other (Some shown) = Some (record { seat = other; answered = shown.0; phase = shown.1 })

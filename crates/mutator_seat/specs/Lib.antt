@@ -1,0 +1,4 @@
+pub mod Calls
+pub mod InnerCalls
+pub mod Replies
+pub mod Resting

@@ -1,0 +1,25 @@
+-- A seat between two calls, and what the trait of a seat's calls sees of it.
+use Rattle.std.specs.Prelude.{◌≡◌, ◌<◌, All}
+use Rattle.heap_model.specs.Limits.{stamp_limit}
+use Rattle.heap_model.specs.calls.SeatLaws.{IsOwn}
+use Rattle.heap_model.specs.calls.SeatState.{SeatState}
+use Rattle.core_machine.specs.declared.place.Place.TheVariants.{Idle}
+use Rattle.core_rule.specs.Told.{IsAsTold}
+use Rattle.heap_table.specs.Made.{IsSound}
+use Rattle.heap_table.specs.SeatHeld.{SeatHeld}
+
+-- what the trait sees: the heap, the seat's number and entries, and for how many more there is room
+abbrev pub seat_state : SeatHeld → SeatState
+seat_state held = record { heap = held.heap; number = held.number; mine = held.seat.mine; spare = held.spare }
+
+-- no call is in flight, each entry of the seat is its own, and it has done fewer sets than there are stamps: so it is with each seat of a heap that opens
+pub record IsBetweenCalls (held : SeatHeld) : Type 0 where
+  pub idle : held.seat.place ≡ Idle
+  pub own : All (IsOwn held.number) held.seat.mine
+  pub stamps : held.seat.sets < stamp_limit
+
+-- and its data fit together, and are what its own list tells
+pub record Rests (held : SeatHeld) : Type 0 where
+  pub between : IsBetweenCalls held
+  pub sound : IsSound held
+  pub told : IsAsTold held.heap held.number held.seat

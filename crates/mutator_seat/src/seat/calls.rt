@@ -1,0 +1,25 @@
+ghost use Rattle.heap_model.specs.calls.SeatCalls.{IsReady};
+ghost use Rattle.core_machine.specs.seat.Commands.{IsServed};
+ghost use Rattle.mutator_seat.specs.Calls.{MakesCall};
+ghost use Rattle.mutator_seat.specs.Resting.{seat_state};
+
+use crate::run::{last_reply, run};
+use crate::seat::Seat;
+use core_machine::ShowsLast;
+use heap_model::{Command, Reply};
+
+impl<L: ShowsLast> Seat<L> {
+    /// Makes a whole call, step by step, while others may step between any two, and answers its reply.
+    pub fn call(&mut self, command: &Command) -> Reply
+        requires ready { IsReady (seat_state self.old) command.now }
+        requires served { IsServed command.now }
+        ensures { MakesCall self.old self.new command.now result }
+    {
+        self.holder.begin(*command);
+        run(&mut self.holder);
+        match last_reply(self.holder.party()) {
+            Some(reply) => reply,
+            None => unreachable!(),
+        }
+    }
+}
