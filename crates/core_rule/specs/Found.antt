@@ -1,5 +1,5 @@
 -- What the rule tells of the word that a seat's due step finds.
-use Rattle.std.specs.Prelude.{◌≡◌, ℕ, ◌+◌, ◌<◌, ◌≤◌, ◌⊎◌, if◌then◌else◌, length, Some, None, IfSome}
+use Rattle.std.specs.Prelude.{◌≡◌, ℕ, ◌+◌, ◌^◌, ◌<◌, ◌≤◌, ◌⊎◌, if◌then◌else◌, length, Some, None, IfSome}
 use Rattle.heap_words.specs.declared.phase.TheConstants.{LEFT}
 use Rattle.heap_words.specs.Loaded.{length_of, array_length_of}
 use Rattle.heap_model.specs.calls.SeatState.{own_object}
@@ -7,7 +7,8 @@ use Rattle.heap_model.specs.declared.heap.Heap.{Heap}
 use Rattle.heap_model.specs.graph.Graph.{Node}
 use Rattle.core_machine.specs.declared.step.AccessStep.TheVariants.{WalkLoad}
 use Rattle.core_machine.specs.declared.step.Step.{Step}
-use Rattle.core_machine.specs.declared.step.Step.TheVariants.{PollLoad, Access, Turning}
+use Rattle.core_machine.specs.declared.step.SpineStep.TheVariants.{BudgetAdd}
+use Rattle.core_machine.specs.declared.step.Step.TheVariants.{PollLoad, Access, Spine, Turning}
 use Rattle.core_machine.specs.declared.step.TurningStep.TheVariants.{LookLoad}
 use Rattle.core_machine.specs.machine.Machine.{State, seat_at, found_by}
 use Rattle.core_machine.specs.Moves.{due_step}
@@ -42,14 +43,15 @@ abbrev pub TellsMeta : Heap → ℕ → Seat → ℕ → ℕ → Type 0
 TellsMeta heap number seat fragment found =
     (r : ℕ) → register_head (register_in seat.registers r) ≡ Some fragment → IfSome (own_object (own_state heap number seat) r) (λ object. IsMetaOf object found)
 
--- what is told of the word that a step of a seat has found
+-- what is told of the word that a step of a seat has found; a budget word has thirty-two bits, so a refusal shows it whole
 abbrev pub TellsWord : Heap → ℕ → Seat → Step → ℕ → Type 0
 TellsWord heap number seat PollLoad found = IsAnsweredOrNext seat.answered found
 TellsWord heap number seat (Access (WalkLoad fragment)) found = TellsMeta heap number seat fragment found
+TellsWord heap number seat (Spine (BudgetAdd words)) found = found < 2 ^ 32
 TellsWord heap number seat (Turning (LookLoad other)) found = TellsAnswer seat found
 TellsWord heap number seat _ found = Unit {0}
 
--- what is told at a seat's due step that found this word: of the word, and of what a call on an object has reached
+-- what is told at a seat's due step that found this word: of the word, and of what a call on an object has reached before it
 pub record TellsFound (heap : Heap) (number : ℕ) (seat : Seat) (found : ℕ) : Type 0 where
   pub word : IfSome (due_step heap number seat) (λ step. TellsWord heap number seat step found)
   pub reached : WhileAccess (ReachesInBook heap number seat found) seat.place

@@ -1,5 +1,6 @@
 -- Which object's fragment a call has reached on its way to a field, by a book.
-use Rattle.std.specs.Prelude.{◌≡◌, ℕ, ◌+◌, ◌<◌, true, length, IfSome}
+use Rattle.std.specs.Prelude.{◌≡◌, ℕ, ◌+◌, ◌<◌, true, length, Some, IfSome}
+use Rattle.heap_words.specs.Loaded.{head_of}
 use Rattle.heap_model.specs.account.Cycles.{graph_of}
 use Rattle.heap_model.specs.declared.heap.Heap.{Heap}
 use Rattle.heap_model.specs.declared.id.Value.TheVariants as values
@@ -10,12 +11,15 @@ use Rattle.core_machine.specs.declared.place.Access.TheVariants.{LoadingMeta, Wa
 use Rattle.core_machine.specs.declared.seat.register.Register.TheVariants.{Object}
 use Rattle.core_machine.specs.machine.Machine.{State, seat_at, found_by}
 use Rattle.core_machine.specs.Moves.{due_step}
-use Rattle.core_machine.specs.seat.Commands.{object_of, field_of}
+use Rattle.core_machine.specs.seat.Commands.{object_of, field_of, target_of}
 use Rattle.core_machine.specs.seat.Registers.{register_in}
 use Rattle.core_machine.specs.seat.Seat.{Seat}
+use Rattle.core_machine.specs.table.Decode.{id_of}
 use Rattle.core_rule.specs.Book.{Book, fragment_at, id_at}
-use Rattle.core_rule.specs.Objects.{node_at}
+use Rattle.core_rule.specs.Flight.{WhileAccess}
+use Rattle.core_rule.specs.Objects.{IsKept, node_at}
 use Rattle.core_rule.specs.Owners.{Kept}
+use Rattle.core_rule.specs.Rule.{Rule}
 use Rattle.core_rule.specs.Stands.{Stands}
 use Rattle.core_rule.specs.Ways.{row_in, field_part}
 
@@ -60,6 +64,14 @@ pub record ReachesRow (heap : Heap) (book : Book) (number : ℕ) (seat : Seat) (
 abbrev pub IsFieldPlace : Heap → Book → ℕ → Seat → Type 0
 IsFieldPlace heap book number seat = ReachesRow heap book number seat 0
 
+-- the get in flight has loaded a reference to this kept object, which is what its register holds by the history's graph
+pub record AwaitsName (heap : Heap) (book : Book) (number : ℕ) (seat : Seat) : Type 0 where
+  pub object : ℕ
+  pub below : object < length book.made
+  pub kept : IsKept book.owner book.fragments object
+  pub loads : head_of seat.loaded ≡ Some (fragment_at (book.fragments object) 0)
+  pub held : register_value (graph_of heap book.history) number (target_of seat.command) ≡ values.Object (id_at book.made object)
+
 -- what the call has reached at each place of access
 abbrev pub ReachesOwn : Heap → Book → ℕ → Seat → Access → Type 0
 ReachesOwn heap book number seat LoadingMeta = ReachesObject heap book number seat
@@ -67,17 +79,32 @@ ReachesOwn heap book number seat Walking = ReachesRow heap book number seat seat
 ReachesOwn heap book number seat Locating = ReachesArray heap book number seat
 ReachesOwn heap book number seat Indexing = ReachesArray heap book number seat
 ReachesOwn heap book number seat Getting = IsFieldPlace heap book number seat
-ReachesOwn heap book number seat Naming = Unit {0}
+ReachesOwn heap book number seat Naming = AwaitsName heap book number seat
 ReachesOwn heap book number seat LoadingOld = IsFieldPlace heap book number seat
 ReachesOwn heap book number seat ShadingOld = IsFieldPlace heap book number seat
 ReachesOwn heap book number seat ShadingNew = IsFieldPlace heap book number seat
 ReachesOwn heap book number seat Swapping = IsFieldPlace heap book number seat
 
--- some book stands for a state in which the seat is this one and its due step finds this word, and there the call has reached this at the place
-pub record ReachesInBook (heap : Heap) (number : ℕ) (seat : Seat) (found : ℕ) (place : Access) : Type 0 where
+-- in any state for which a book stands each call on an object has reached its own at its place
+unfoldable pub EachReachesOwn : Type 0
+EachReachesOwn = (heap : Heap) (state : State) (book : Book) (number : ℕ) → Rule heap state book → number < heap.seats
+    → WhileAccess (ReachesOwn heap book number (seat_at state number)) (seat_at state number).place
+
+-- some book stands for a state in which the seat is this one, and there the call has reached this at the place
+pub record HasReached (heap : Heap) (number : ℕ) (seat : Seat) (place : Access) : Type 0 where
   pub state : State
   pub book : Book
   pub stands : Stands heap state book
   pub here : seat_at state number ≡ seat
-  pub finds : IfSome (due_step heap number seat) (λ step. found ≡ found_by heap state step)
   pub reaches : ReachesOwn heap book number seat place
+
+-- where a name is awaited the word found is that of the object
+abbrev pub NamesReached : (heap : Heap) (book : Book) (number : ℕ) (seat : Seat) (found : ℕ) (place : Access) → ReachesOwn heap book number seat place → Type 0
+NamesReached heap book number seat found Naming awaits = id_of found ≡ id_at book.made awaits.object
+NamesReached heap book number seat found _ reaches = Unit {0}
+
+-- so it is where the seat's due step finds this word
+pub record ReachesInBook (heap : Heap) (number : ℕ) (seat : Seat) (found : ℕ) (place : Access) : Type 0 where
+  pub there : HasReached heap number seat place
+  pub finds : IfSome (due_step heap number seat) (λ step. found ≡ found_by heap there.state step)
+  pub names : NamesReached heap there.book number seat found place there.reaches

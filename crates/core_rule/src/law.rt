@@ -3,6 +3,7 @@ ghost use Rattle.core_rule.specs.Finds.{WaitsAreFinds, EachEventIsFollowed};
 ghost use Rattle.core_rule.specs.LoneLaws.{EachLoneRefusalIsRight};
 ghost use Rattle.core_rule.specs.HeldLaws.{EachHeldIsTaken, NoClaimTakesHeld, NoFreeTakesHeld, EachHeldIsMarked, NoPlaceTakesHeld, NoCopyTakesHeld, EachStoreIsOwn, EachSpineStoreIsOwn, EachCopyStoreIsOwn};
 ghost use Rattle.core_rule.specs.Found.{EachFoundIsTold};
+ghost use Rattle.core_rule.specs.Reached.{EachReachesOwn};
 ghost use Rattle.core_rule.specs.Told.{EachSeatIsAsTold};
 ghost use Rattle.core_rule.specs.TableLaws.{EachStepHasItsWord, EachTurnHasItsWord};
 ghost use Rattle.core_rule.specs.TurnsLeft.{EachTurnLeavesFewer};
@@ -33,6 +34,7 @@ pub fn law_every_run()
     ensures turn_words { EachTurnHasItsWord }
     ensures own { EachSeatIsAsTold }
     ensures found { EachFoundIsTold }
+    ensures reached { EachReachesOwn }
     ensures fewer { EachTurnLeavesFewer }
     ensures finds { WaitsAreFinds }
     ensures looks { EachEventIsFollowed }

@@ -6,6 +6,7 @@ use mathlib.Core.Option.{some, some-injective}
 use Rattle.std.proofs.lemmas.List.{length-set}
 use Rattle.atomic_table.specs.Seated.{TableId}
 use Rattle.atomic_table.specs.Table.{Me, Allows, Joins}
+use Rattle.heap_model.specs.calls.CollectorCalls.{ComesTo}
 use Rattle.heap_model.specs.declared.heap.Heap.{Heap}
 use Rattle.core_machine.specs.collector.Collector.{Collector, next_turn}
 use Rattle.core_machine.specs.collector.FitsTurns.{CollectorFits}
@@ -24,12 +25,12 @@ use Rattle.heap_table.specs.Handing.{with_folded, folding_view}
 use Rattle.heap_table.specs.Holds.{Holds}
 use Rattle.heap_table.specs.Known.{CollectorKnown}
 use Rattle.heap_table.specs.Quiet.{is_quiet}
-use Rattle.heap_table.specs.Told.{next_collector, next_known, TurnHasWord, ToldAtTurn, Tells, TellsStored}
+use Rattle.heap_table.specs.Told.{next_collector, next_known, Shows, TurnHasWord, ToldAtTurn, Tells, TellsStored}
 use Rattle.heap_table.specs.Views.{seat_view, collector_view, known_by}
 use Rattle.heap_table.specs.declared.view.View.{View}
 use Rattle.heap_table.specs.declared.view.View.TheVariants.{Spent}
 use Rattle.heap_table.proofs.Folding.{folding_allowed}
-use Rattle.heap_table.proofs.Quiet.{quiet_collector, store_is_quiet}
+use Rattle.heap_table.proofs.Quiet.{quiet_collector, quiet_answer, store_is_quiet}
 use Rattle.heap_table.proofs.Turns.{turn_allows, may_turn}
 
 -- what is told at the due turn of the collector whose view this is
@@ -66,13 +67,16 @@ module _ (shared : TableId) (key : Heap) (mine : TableId) (me : Me (Unit {0}) Vi
     stored_at Load is = tt
     stored_at (Store word) is = λ found after tells.
         let stores : operation_of (next_turn heap known.collector).step ≡ Store word = ap operation_of due ∙ is in
-        let same = quiet_collector heap known.collector found word (store_is_quiet (next_turn heap known.collector).step word stores) in
+        let quiet = store_is_quiet (next_turn heap known.collector).step word stores in
+        let same = quiet_collector heap known.collector found word quiet in
         let stands = turn_stands heap known.collector keeps.token.limits known_fits in (
           tells.0 ∙ ap (λ (c : Collector). (collector_view (record known { collector = c }), me.1)) same,
           record {
             leads = subst (λ (o : Operation). FoundPointsWithin heap (address_of (next_turn heap known.collector).step) (operation_result o found)) stores (stands.step.leads found tells.1.leads);
             fits = subst (CollectorFits heap) same tells.1.fits;
             has_word = subst (TurnHasWord heap) same tells.1.has_word;
+            comes_to = λ old new shown shown_after. subst (ComesTo old new) (quiet_answer heap known.collector found word quiet)
+                (tells.1.comes_to old new shown (subst (Shows new) (sym same) shown_after));
           },
         )
     stored_at (Exchange word) is = tt

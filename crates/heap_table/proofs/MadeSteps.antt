@@ -20,6 +20,8 @@ use Rattle.core_machine.specs.calls.Owes.{owes, steps_left}
 use Rattle.core_machine.proofs.moves.{move_stands}
 use Rattle.core_machine.proofs.moves.Standing.{MoveStands}
 use Rattle.core_machine.proofs.own_stages.{own_leads}
+use Rattle.core_rule.specs.Flight.{WhileAccess}
+use Rattle.core_rule.specs.Reached.{HasReached}
 use Rattle.heap_table.specs.Begun.{next_seat}
 use Rattle.heap_table.specs.Made.{Made, FoundIn, LeadsTo, MakesSteps}
 use Rattle.heap_table.specs.SeatHeld.{SeatHeld, IsStepped}
@@ -57,6 +59,13 @@ makes_one old new step found due told stepped = record {
   leads = (due, told, stepped.seat_is);
   room_stays = stepped.room_stays;
 }
+
+-- to what it has led a call on an object
+pub comes_to : (old new : SeatHeld) (found : ℕ) → IsStepped old new found → ToldAtStep old.heap old.number old.seat found → WhileAccess (HasReached new.heap new.number new.seat) new.seat.place
+comes_to old new found stepped told =
+    subst (λ (h : Heap). WhileAccess (HasReached h new.number new.seat) new.seat.place) (sym stepped.heap_stays)
+    (subst (λ (n : ℕ). WhileAccess (HasReached old.heap n new.seat) new.seat.place) (sym stepped.number_stays)
+    (subst (λ (s : Seat). WhileAccess (HasReached old.heap old.number s) s.place) (sym stepped.seat_is) told.comes))
 
 -- each of the steps is one of these and those
 pub found_more : (made : List Made) (m : Made) (step : Step) (word : ℕ) → FoundIn made step word → FoundIn (m ∷ made) step word

@@ -167,3 +167,13 @@ turned_same heap collector n m stages.Advancing = λ e. refl
 pub quiet_collector : (heap : Heap) (collector : Collector) (n m : ℕ) → is_quiet (next_turn heap collector).step ≡ true
     → next_collector heap collector n ≡ next_collector heap collector m
 quiet_collector heap collector n m quiet = turned_same heap collector n m collector.stage quiet
+
+-- and its answer is
+answered_same : (heap : Heap) (collector : Collector) (n m : ℕ) (stage : Stage) → is_quiet (turn_at heap collector stage).step ≡ true
+    → (turn_at heap collector stage).answer n ≡ (turn_at heap collector stage).answer m
+answered_same heap collector n m stages.Looking e = cc
+answered_same heap collector n m _ e = refl
+
+pub quiet_answer : (heap : Heap) (collector : Collector) (n m : ℕ) → is_quiet (next_turn heap collector).step ≡ true
+    → (next_turn heap collector).answer n ≡ (next_turn heap collector).answer m
+quiet_answer heap collector n m quiet = answered_same heap collector n m collector.stage quiet

@@ -29,6 +29,8 @@ use Rattle.core_machine.specs.table.Operation.{address_of, operation_of, operati
 use Rattle.core_machine.proofs.moves.{move_stands, begin_stands}
 use Rattle.core_machine.proofs.moves.Collect.{inner_stands}
 use Rattle.core_machine.proofs.moves.Standing.{MoveStands}
+use Rattle.core_rule.specs.Flight.{WhileAccess}
+use Rattle.core_rule.specs.Reached.{HasReached}
 use Rattle.core_rule.specs.Told.{IsAsTold}
 use Rattle.core_rule.proofs.told.StoredWords.{store_tells}
 use Rattle.heap_table.specs.Begun.{MayHaveBegun, Same, Begun, BegunInner, next_seat, NextHasWord}
@@ -124,6 +126,7 @@ module _ (shared : TableId) (key : Heap) (mine : TableId) (me : Me (Unit {0}) Vi
             has_word = subst (NextHasWord heap number) same tells.1.has_word;
             tells = store_tells heap number seat word word step is due;
             own = subst (IsAsTold heap number) same tells.1.own;
+            comes = subst (λ (s : Seat). WhileAccess (HasReached heap number s) s.place) same tells.1.comes;
           },
         )
       where
@@ -137,6 +140,10 @@ module _ (shared : TableId) (key : Heap) (mine : TableId) (me : Me (Unit {0}) Vi
 
     pub step_stored : TellsStored (operation_of step) SeatTells
     step_stored = stored_at (operation_of step) refl
+
+  -- without a call in flight the seat has what its own list tells
+  pub idle_told : seat.place ≡ Idle → IsAsTold heap number seat
+  idle_told idle = subst (IsAsTold heap number) (sym (idle_same heap number keeps.old seat keeps.begun idle)) keeps.own
 
   -- what it keeps after the step
   pub keeps_stepped : (mine' : TableId) (me' : Me (Unit {0}) View) (next : Seat) (found : ℕ) → mine' ≡ mine → SeatTells found me' → next ≡ next_seat heap number seat found
@@ -202,6 +209,9 @@ may_of whole value command is may = subst (λ (h : SeatHeld). MayBegin h.seat co
 
 pub may_inner_of : (whole value : SeatHeld) (inner : Inner) → whole ≡ value → MayBeginInner value.heap value.number value.seat inner → MayBeginInner whole.heap whole.number whole.seat inner
 may_inner_of whole value inner is may = subst (λ (h : SeatHeld). MayBeginInner h.heap h.number h.seat inner) (sym is) may
+
+pub told_of : (whole value : SeatHeld) → whole ≡ value → (whole.seat.place ≡ Idle → IsAsTold whole.heap whole.number whole.seat) → value.seat.place ≡ Idle → IsAsTold value.heap value.number value.seat
+told_of whole value is told = subst (λ (h : SeatHeld). h.seat.place ≡ Idle → IsAsTold h.heap h.number h.seat) is told
 
 -- after a quiet step no found word matters
 pub quietly_stepped : (old new : SeatHeld) (step : Step) (found : ℕ) → due_step old.heap old.number old.seat ≡ Some step → is_quiet step ≡ true → IsStepped old new found → IsStepped old new 0

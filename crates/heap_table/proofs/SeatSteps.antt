@@ -8,6 +8,8 @@ use lib.ListN.{get_elem?}
 use Rattle.atomic_table.specs.Table.{State as Table, Allows, keeps}
 use Rattle.atomic_table.proofs.Lists.{set_here, set_else}
 use Rattle.heap_model.specs.declared.heap.Heap.{Heap}
+use Rattle.core_machine.specs.declared.place.Place.{Place}
+use Rattle.core_machine.specs.declared.place.Place.TheVariants as places
 use Rattle.core_machine.specs.declared.step.Step.{Step}
 use Rattle.core_machine.specs.declared.table.address.Address.{Address}
 use Rattle.core_machine.specs.table.Layout.{index_of, at, put}
@@ -20,12 +22,15 @@ use Rattle.core_machine.specs.seat.Seat.{Seat, absent_seat}
 use Rattle.core_machine.proofs.machine_lemmas.Runs.{due_within_table}
 use Rattle.core_rule.specs.Book.{Book}
 use Rattle.core_rule.specs.Laws.{StandsFor}
+use Rattle.core_rule.specs.Flight.{WhileAccess}
 use Rattle.core_rule.specs.Found.{TellsFound, EachFoundIsTold}
+use Rattle.core_rule.specs.Reached.{ReachesOwn, EachReachesOwn, HasReached}
 use Rattle.core_rule.specs.Rule.{Rule}
 use Rattle.core_rule.specs.Stands.{Stands}
 use Rattle.core_rule.specs.Told.{IsAsTold, EachSeatIsAsTold}
 use Rattle.core_rule.proofs.told.AsTold.{each_seat_is_as_told}
 use Rattle.core_rule.proofs.told.FoundWords.{each_found_is_told}
+use Rattle.core_rule.proofs.told.ReachedFields.{each_reaches_own}
 use Rattle.core_rule.specs.TableLaws.{EachStepHasItsWord}
 use Rattle.core_rule.proofs.held.DueWords.{each_step_has_its_word}
 use Rattle.core_rule.proofs.runs.KeptRuns.{event_keeps}
@@ -78,6 +83,17 @@ found_at_step heap state book number stands within step due =
 pub seat_as_told : (heap : Heap) (state : State) (book : Book) (number : ℕ) → Rule heap state book → number < heap.seats → IsAsTold heap number (seat_at state number)
 unfolding EachSeatIsAsTold
 seat_as_told heap state book number rule within = each_seat_is_as_told heap state book number rule within
+
+-- and a call on an object has reached its own
+reached_so : (heap : Heap) (state : State) (book : Book) (number : ℕ) (seat : Seat) (place : Place) → Stands heap state book → seat_at state number ≡ seat
+    → WhileAccess (ReachesOwn heap book number seat) place → WhileAccess (HasReached heap number seat) place
+reached_so heap state book number seat (places.Access place) stands here reaches = record { state = state; book = book; stands = stands; here = here; reaches = reaches }
+reached_so heap state book number seat place stands here reaches = tt
+
+seat_has_reached : (heap : Heap) (state : State) (book : Book) (number : ℕ) → Stands heap state book → number < heap.seats → WhileAccess (HasReached heap number (seat_at state number)) (seat_at state number).place
+unfolding EachReachesOwn
+seat_has_reached heap state book number stands within =
+    reached_so heap state book number (seat_at state number) (seat_at state number).place stands refl (each_reaches_own heap state book number stands.rule within)
 
 -- a word is read at its place
 pub at_is : (heap : Heap) (words : List ℕ) (a : Address) → at heap words a ≡ get_or words (index_of heap a) 0
@@ -212,6 +228,7 @@ module _ (heap : Heap) (number : ℕ) (old seat : Seat) (step : Step) (ahead : M
           tells = subst (TellsFound heap number seat) is (subst (λ (s : Seat). TellsFound heap number s (found_by heap (with_seat holds.state number seat) step)) here
               (found_at_step heap (with_seat holds.state number seat) begun.0 number begun.1 its.within step due_here));
           own = subst (IsAsTold heap number) seat_now (seat_as_told heap now kept.book number stands.rule its.within);
+          comes = subst (λ (s : Seat). WhileAccess (HasReached heap number s) s.place) seat_now (seat_has_reached heap now kept.book number stands its.within);
         }
 
   pub seat_allows : (id : ℕ) → Allows (Holds heap) 0 id (seat_view number old, []) (index_of heap (address_of step)) (word_after step)

@@ -1,5 +1,5 @@
 -- The collector's due turn is allowed by the rule: one lemma for every kind of turn.
-use Rattle.std.proofs.Common.{suc, ◌≡◌, ℕ, ◌-◌, ◌<◌, ◌≤◌, ◌^◌, true, false, List, [], ◌∷◌, ◌++◌, length, get_or, set, refl, sym, ap, subst, ◌∙◌, arith}
+use Rattle.std.proofs.Common.{suc, ◌≡◌, ℕ, ◌-◌, ◌<◌, ◌≤◌, ◌^◌, true, false, List, [], ◌∷◌, ◌++◌, length, filter, get_or, set, refl, sym, ap, subst, ◌∙◌, arith}
 use Rattle.std.specs.List.{AllByRecursion}
 use Rattle.std.proofs.lemmas.List.{length-set}
 use mathlib.Core.Option.{Option as Found}
@@ -9,6 +9,8 @@ use Rattle.atomic_table.proofs.Lists.{set_here, set_else}
 use Rattle.heap_model.specs.declared.entry.Entry.{Entry}
 use Rattle.heap_model.specs.declared.heap.Heap.{Heap}
 use Rattle.heap_model.specs.account.Noting.{is_collectors as is_collectors_entry}
+use Rattle.heap_model.specs.account.PhaseCounts.{phase}
+use Rattle.heap_model.specs.calls.CollectorCalls.{ComesTo}
 use Rattle.core_machine.specs.declared.collector.stage.Stage.{Stage}
 use Rattle.core_machine.specs.declared.collector.stage.Stage.TheVariants as stages
 use Rattle.core_machine.specs.declared.step.Step.{Step}
@@ -18,19 +20,19 @@ use Rattle.core_machine.specs.table.Decode.{FoundPointsWithin}
 use Rattle.core_machine.specs.table.Operation.{address_of, word_after}
 use Rattle.core_machine.specs.collector.Collector.{Collector, next_turn, turn_at}
 use Rattle.core_machine.specs.collector.FitsTurns.{CollectorFits}
-use Rattle.core_machine.specs.machine.Machine.{State, seat_at, found_by, Turns, state_after, state_after_turn, entries}
+use Rattle.core_machine.specs.machine.Machine.{State, seat_at, found_by, Turns, Can, state_after, state_after_turn, entries}
 use Rattle.core_machine.proofs.collector_lemmas.{turn_stands}
 use Rattle.core_rule.specs.Book.{Book}
-use Rattle.core_rule.specs.Laws.{StandsFor}
+use Rattle.core_rule.specs.Laws.{IsToldBy, StandsFor}
 use Rattle.core_rule.specs.Stands.{Stands}
 use Rattle.core_rule.specs.TableLaws.{EachTurnHasItsWord}
 use Rattle.core_rule.proofs.held.DueWords.{each_turn_has_its_word}
-use Rattle.core_rule.proofs.runs.ComingTurns.{turn_collects}
+use Rattle.core_rule.proofs.runs.ComingTurns.{each_turn_comes_to, turn_collects}
 use Rattle.core_rule.proofs.runs.KeptRuns.{event_keeps}
 use Rattle.heap_table.specs.Folded.{IsFolded, AllFolded, SeatsBefore}
 use Rattle.heap_table.specs.Holds.{IsSeatOf, Holds}
 use Rattle.heap_table.specs.Known.{CollectorKnown}
-use Rattle.heap_table.specs.Told.{next_collector, next_known, TurnHasWord, ToldAtTurn, Tells}
+use Rattle.heap_table.specs.Told.{next_collector, next_known, TurnComesTo, TurnHasWord, ToldAtTurn, Tells}
 use Rattle.heap_table.specs.Views.{collector_view}
 use Rattle.heap_table.specs.declared.view.View.{View}
 use Rattle.heap_table.proofs.Knowers.{IsCollectors, is_collectors}
@@ -97,8 +99,11 @@ module _ (heap : Heap) (known : CollectorKnown) (step : Step) (due : (next_turn 
         ∙ ap (λ (l : List ℕ). record holds.state { words = l; collector = next_collector heap known.collector found })
         (put_is heap holds.state.words (address_of step) (word_after step found) ∙ ap (λ (l : List ℕ). set l (index_of heap (address_of step)) (word_after step found)) holds.is.words_are)
 
+    can : Can heap holds.state Turns
+    can = rw collector_is may
+
     kept : StandsFor heap (state_after heap holds.state Turns) holds.book.history (entries heap holds.state Turns)
-    kept = event_keeps heap holds.state holds.book Turns holds.stands (rw collector_is may)
+    kept = event_keeps heap holds.state holds.book Turns holds.stands can
 
     stands : Stands heap now kept.book
     stands = subst (λ (s : State). Stands heap s kept.book) state_is kept.stands
@@ -136,6 +141,28 @@ module _ (heap : Heap) (known : CollectorKnown) (step : Step) (due : (next_turn 
           (turn_collects heap holds.state) kept.grown;
     }
 
+    -- the turn's answer by the state is that by the own data
+    answer_is : (next_turn heap holds.state.collector).answer (found_by heap holds.state (next_turn heap holds.state.collector).step) ≡ (next_turn heap known.collector).answer found
+    answer_is =
+        ap (λ (c : Collector). (next_turn heap c).answer (found_by heap holds.state (next_turn heap c).step)) collector_is
+        ∙ ap (λ (s : Step). (next_turn heap known.collector).answer (found_by heap holds.state s)) due
+        ∙ ap (λ (n : ℕ). (next_turn heap known.collector).answer n) finds
+
+    -- so it comes to what a turn may come to, since the book's history tells the collector's entries and phase, before it and after it
+    comes_to : TurnComesTo heap known.collector found
+    comes_to old new shown shown_after =
+        let here = holds.stands.rule.collector_stands in
+        let there = stands.rule.collector_stands in
+        let before : IsToldBy holds.book.history old = record {
+          log_told = shown.log_is ∙ ap (λ (c : Collector). c.log) (sym collector_is) ∙ here.log;
+          phase_told = shown.phase_is ∙ ap (λ (c : Collector). c.phase) (sym collector_is) ∙ here.phase_told;
+        } in
+        let after : IsToldBy (holds.book.history ++ entries heap holds.state Turns) new = record {
+          log_told = shown_after.log_is ∙ there.log ∙ ap (filter is_collectors_entry) kept.grown;
+          phase_told = shown_after.phase_is ∙ there.phase_told ∙ ap phase kept.grown;
+        } in
+        subst (ComesTo old new) answer_is (each_turn_comes_to event_keeps heap holds.state holds.book old new holds.stands can before after).1
+
     -- and tells what it tells of the word found
     pub told_turned : ToldAtTurn heap known.collector found
     told_turned = record {
@@ -145,6 +172,7 @@ module _ (heap : Heap) (known : CollectorKnown) (step : Step) (due : (next_turn 
           (subst (λ (s : Step). InTable heap (address_of s)) due (turn_stands heap known.collector holds.stands.rule.machine.limits (subst (CollectorFits heap) collector_is holds.stands.rule.machine.collector_fit)).step.in_table)));
       fits = stands.rule.machine.collector_fit;
       has_word = turn_has_word heap now kept.book stands;
+      comes_to = comes_to;
     }
 
   pub turn_allows : (id : ℕ) → Allows (Holds heap) 0 id (collector_view known, []) (index_of heap (address_of step)) (word_after step)

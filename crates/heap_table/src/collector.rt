@@ -118,9 +118,10 @@ impl<L: Entries, C: CountsEntries> CollectorHolder<L, C> {
         self.heap
     }
 
-    /// The phase.
+    /// The phase. Each one has its entry.
     pub fn phase(&self) -> u64
-        ensures { result ≡ self.now.known.collector.phase }
+        ensures phase { result ≡ self.now.known.collector.phase }
+        ensures logged { result ≤ length self.now.known.collector.log }
     {
         self.party.phase()
     }

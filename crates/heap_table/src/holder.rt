@@ -1,7 +1,9 @@
 ghost use Rattle.std.specs.Prelude.{◌≡◌, ◌+◌, ◌<◌, ◌≤◌, ◌^◌, Some, [], true, length, OnOk, OnErr, ◌↔◌, IsTrue};
 ghost use Rattle.std.specs.Arc.{arc_value};
 ghost use Rattle.core_machine.specs.Moves.{due_step};
+ghost use Rattle.core_machine.specs.declared.place.Place.TheVariants.{Idle};
 ghost use Rattle.core_machine.specs.machine.Machine.{MayBegin, MayBeginInner, after_begin, after_inner_begin};
+ghost use Rattle.core_rule.specs.Told.{IsAsTold};
 ghost use Rattle.heap_table.specs.Quiet.{is_quiet};
 ghost use Rattle.heap_table.specs.Made.{IsSound};
 ghost use Rattle.heap_table.specs.SeatHeld.{KeepsSeat, IsStepped};
@@ -104,6 +106,7 @@ impl<L: Entries> Holder<L> {
     pub fn party(&self) -> &SeatParty<L>
         ensures seat { result.now.seat ≡ self.now.seat }
         ensures sound { IsSound self.now }
+        ensures own { self.now.seat.place ≡ Idle → IsAsTold self.now.heap self.now.number self.now.seat }
     {
         &self.party
     }

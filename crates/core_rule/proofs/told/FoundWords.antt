@@ -1,6 +1,6 @@
 -- What the rule tells of the word that a seat's due step finds.
 use Rattle.std.specs.Prelude.{IfSome, if◌then◌else◌, option_map}
-use Rattle.std.proofs.Common.{◌≡◌, ◌≢◌, ℕ, ◌<◌, Bool, true, false, [], Option, Some, filter, refl, sym, ◌∙◌, subst}
+use Rattle.std.proofs.Common.{◌≡◌, ◌≢◌, ℕ, ◌<◌, Bool, true, false, [], Option, Some, filter, refl, sym, ◌∙◌, subst, arith}
 use Rattle.heap_model.specs.account.Cycles.{graph_of}
 use Rattle.heap_model.specs.account.Effects.{is_of}
 use Rattle.heap_model.specs.declared.command.Command.{Command}
@@ -13,7 +13,7 @@ use Rattle.core_machine.specs.declared.place.Collecting.TheVariants as collectin
 use Rattle.core_machine.specs.declared.place.Leaving.{Leaving}
 use Rattle.core_machine.specs.declared.place.Leaving.TheVariants.{Emptying, Parting}
 use Rattle.core_machine.specs.declared.place.Making.{Making}
-use Rattle.core_machine.specs.declared.place.Making.TheVariants.{Refusing, Bearing}
+use Rattle.core_machine.specs.declared.place.Making.TheVariants.{Granting, Refusing, Bearing}
 use Rattle.core_machine.specs.declared.place.Place.{Place}
 use Rattle.core_machine.specs.declared.place.Place.TheVariants as places
 use Rattle.core_machine.specs.declared.place.Polling.{Polling}
@@ -28,7 +28,6 @@ use Rattle.core_rule.specs.Book.{Book}
 use Rattle.core_rule.specs.Counts.{Awaits}
 use Rattle.core_rule.specs.Found.{TellsWord, TellsFound, EachFoundIsTold}
 use Rattle.core_rule.specs.Looks.{WhileCollecting, CollectingStands}
-use Rattle.core_rule.specs.Reached.{ReachesInBook}
 use Rattle.core_rule.specs.Registers.{IsAwaited}
 use Rattle.core_rule.specs.Rule.{Rule}
 use Rattle.core_rule.specs.Stands.{Stands}
@@ -36,7 +35,8 @@ use Rattle.core_rule.proofs.entries.AtRest.{in_flight, none_awaited}
 use Rattle.core_rule.proofs.entries.SeatLists.{all_told}
 use Rattle.core_rule.proofs.told.NearPhases.{phase_told, answer_told}
 use Rattle.core_rule.proofs.told.OwnMetas.{if_some, metas_told}
-use Rattle.core_rule.proofs.told.ReachedFields.{reaches_own}
+use Rattle.core_rule.proofs.spines.BudgetSteps.{budget_small}
+use Rattle.core_rule.proofs.told.ReachedFields.{reaches_in_book}
 
 module _ (heap : Heap) (state : State) (book : Book) (number : ℕ) (stands : Stands heap state book) (here : number < heap.seats) where
   abbrev rule : Rule heap state book
@@ -62,6 +62,7 @@ module _ (heap : Heap) (state : State) (book : Book) (number : ℕ) (stands : St
     borne false = tt
 
     made_at : (place : Making) → TellsAt (making_move heap number seat place).step
+    made_at Granting = omega (arith, budget_small heap state book rule.machine rule.space.budgets)
     made_at Refusing = refused seat.command
     made_at Bearing = borne (is_last_birth seat)
     made_at place = tt
@@ -113,8 +114,7 @@ module _ (heap : Heap) (state : State) (book : Book) (number : ℕ) (stands : St
   found_told : (step : Step) → due_step heap number seat ≡ Some step → TellsFound heap number seat (found_by heap state step)
   found_told step due = record {
     word = rw due at_step;
-    reached = reaches_own heap state book number rule here (ReachesInBook heap number seat (found_by heap state step))
-        (λ place reaches. record { state = state; book = book; stands = stands; here = refl; finds = rw due refl; reaches = reaches });
+    reached = reaches_in_book heap state book number rule here step due stands;
   }
     where
       at_step : TellsWord heap number seat step (found_by heap state step)

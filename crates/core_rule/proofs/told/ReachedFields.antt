@@ -1,30 +1,42 @@
 -- What a call has reached is of the object that its register holds.
-use Rattle.std.specs.Prelude.{if◌then◌else◌}
-use Rattle.std.proofs.Common.{◌≡◌, ℕ, ◌%◌, ◌<◌, refl, sym, ap, ◌∙◌, subst, arith}
+use Rattle.std.specs.Prelude.{if◌then◌else◌, option_map, unwrap_or}
+use Rattle.std.proofs.Common.{◌≡◌, ℕ, ◌%◌, ◌<◌, Option, Some, refl, sym, ap, ◌∙◌, subst, arith}
 use Rattle.heap_model.specs.account.Cycles.{graph_of}
 use Rattle.heap_model.specs.declared.heap.Heap.{Heap}
+use Rattle.heap_model.specs.declared.id.Value.TheVariants as values
 use Rattle.heap_model.specs.graph.Graph.{Graph, Node}
 use Rattle.core_machine.specs.declared.place.Access.{Access}
 use Rattle.core_machine.specs.declared.place.Access.TheVariants.{LoadingMeta, Walking, Locating, Indexing, Getting, Naming, LoadingOld, ShadingOld, ShadingNew, Swapping}
 use Rattle.core_machine.specs.declared.place.Place.{Place}
 use Rattle.core_machine.specs.declared.place.Place.TheVariants as places
-use Rattle.core_machine.specs.machine.Machine.{State, seat_at}
+use Rattle.core_machine.specs.declared.step.AccessStep.TheVariants.{NameLoad}
+use Rattle.core_machine.specs.declared.step.Step.{Step}
+use Rattle.core_machine.specs.declared.step.Step.TheVariants as steps
+use Rattle.core_machine.specs.declared.table.address.Address.TheVariants.{Word}
+use Rattle.core_machine.specs.machine.Machine.{State, seat_at, found_by}
+use Rattle.core_machine.specs.Moves.{Move, move_at, due_step}
 use Rattle.core_machine.specs.seat.Access.{part_of}
+use Rattle.core_machine.specs.seat.AccessMoves.{loaded_head_of}
 use Rattle.core_machine.specs.seat.Commands.{field_of}
 use Rattle.core_machine.specs.seat.Fits.{FitsWay}
 use Rattle.core_machine.specs.seat.FitsAccess.{FitsAccess}
 use Rattle.core_machine.specs.seat.Seat.{Seat}
-use Rattle.core_rule.specs.Book.{Book, fragment_at}
+use Rattle.core_machine.specs.table.Decode.{id_of}
+use Rattle.core_machine.specs.table.Layout.{at}
+use Rattle.core_rule.specs.Book.{Book, fragment_at, id_at, object_number}
+use Rattle.core_rule.specs.Counts.{Awaits, IsAwaitingName}
 use Rattle.core_rule.specs.Flight.{WhileAccess}
 use Rattle.core_rule.specs.Objects.{node_at}
 use Rattle.core_rule.specs.Registers.{IsAwaited}
 use Rattle.core_rule.specs.Rule.{Rule}
 use Rattle.core_rule.specs.Owners.{Kept}
-use Rattle.core_rule.specs.Reached.{IsOnObject, ReachesObject, ReachesArray, ReachesRow, IsFieldPlace, ReachesOwn}
+use Rattle.core_rule.specs.Reached.{IsOnObject, ReachesObject, ReachesArray, ReachesRow, IsFieldPlace, AwaitsName, ReachesOwn, EachReachesOwn, NamesReached, ReachesInBook}
+use Rattle.core_rule.specs.Stands.{Stands}
 use Rattle.core_rule.specs.Ways.{AccessStands, WayStands, Finds, Locates, SetsOut, OnWay}
 use Rattle.core_rule.proofs.entries.AtRest.{seat_fits, none_awaited}
+use Rattle.core_rule.proofs.graph.Numbering.{id_at-number_of}
 use Rattle.core_rule.proofs.ways.AtObject.{way_object}
-use Rattle.core_rule.proofs.ways.KeptWords.{row_ahead}
+use Rattle.core_rule.proofs.ways.KeptWords.{row_ahead, name_found}
 
 module _ (heap : Heap) (state : State) (book : Book) (number : ℕ) (rule : Rule heap state book) (here : number < heap.seats) where
   abbrev seat : Seat
@@ -75,23 +87,65 @@ module _ (heap : Heap) (state : State) (book : Book) (number : ℕ) (rule : Rule
   at_field : (place : Access) → seat.place ≡ places.Access place → ((d r : ℕ) → ¬ IsAwaited (places.Access place) d r) → seat.links ≡ 0 → Finds nodes book.made book.owner book.fragments seat → IsFieldPlace heap book number seat
   at_field place is free arrived finds = subst (ReachesRow heap book number seat) arrived (at_row place is free finds)
 
+  -- the object whose name is awaited
+  at_name : seat.place ≡ places.Access Naming → AwaitsName heap book number seat
+  at_name is =
+      let list = (rule.seats_stand number here).told.list in
+      let awaits : IsAwaitingName g book.made book.owner book.fragments number seat list.awaited =
+      subst (λ (p : Place). Awaits g book.made book.owner book.fragments number seat p list.awaited) is list.awaits in
+      record {
+        object = object_number book.made awaits.id;
+        below = awaits.kept.0;
+        kept = awaits.kept.1;
+        loads = awaits.loads;
+        held = awaits.held ∙ ap values.Object (sym (id_at-number_of book.made awaits.id awaits.kept.0));
+      }
+
   reaches_in : (place : Access) → seat.place ≡ places.Access place → FitsAccess seat place → AccessStands nodes book.made book.owner book.fragments seat place → ReachesOwn heap book number seat place
   reaches_in LoadingMeta is fits way = at_object is way
   reaches_in Walking is fits way = at_row Walking is (λ d r e. e) way
   reaches_in Locating is fits way = at_array Locating is (λ d r e. e) way
   reaches_in Indexing is fits way = at_array Indexing is (λ d r e. e) way
   reaches_in Getting is fits way = at_field Getting is (λ d r e. e) fits.0.2.arrived way
-  reaches_in Naming is fits way = tt
+  reaches_in Naming is fits way = at_name is
   reaches_in LoadingOld is fits way = at_field LoadingOld is (λ d r e. e) fits.0.2.arrived way
   reaches_in ShadingOld is fits way = at_field ShadingOld is (λ d r e. e) fits.0.2.arrived way.0
   reaches_in ShadingNew is fits way = at_field ShadingNew is (λ d r e. e) fits.0.2.arrived way.0
   reaches_in Swapping is fits way = at_field Swapping is (λ d r e. e) fits.0.2.arrived way.0
 
   reaches_at : (P : Access → Type 0) (place : Place) → seat.place ≡ place → FitsWay seat place → WayStands nodes book.made book.owner book.fragments seat place
-      → ((reaching : Access) → ReachesOwn heap book number seat reaching → P reaching) → WhileAccess P place
-  reaches_at P (places.Access place) is fits way goes = goes place (reaches_in place is fits way)
+      → ((reaching : Access) → seat.place ≡ places.Access reaching → ReachesOwn heap book number seat reaching → P reaching) → WhileAccess P place
+  reaches_at P (places.Access place) is fits way goes = goes place is (reaches_in place is fits way)
   reaches_at P place is fits way goes = tt
 
   -- so it is at the seat's place, and so what follows
-  pub reaches_own : (P : Access → Type 0) → ((reaching : Access) → ReachesOwn heap book number seat reaching → P reaching) → WhileAccess P seat.place
-  reaches_own P goes = reaches_at P seat.place refl (seat_fits rule number here).way_at_place (rule.seats_stand number here).names.way goes
+  reaches_so : (P : Access → Type 0) → ((reaching : Access) → seat.place ≡ places.Access reaching → ReachesOwn heap book number seat reaching → P reaching) → WhileAccess P seat.place
+  reaches_so P goes = reaches_at P seat.place refl (seat_fits rule number here).way_at_place (rule.seats_stand number here).names.way goes
+
+  pub reaches_own : WhileAccess (ReachesOwn heap book number seat) seat.place
+  reaches_own = reaches_so (ReachesOwn heap book number seat) (λ reaching is reaches. reaches)
+
+  -- the word that the load of a name finds is the object's name
+  named_by : (awaits : AwaitsName heap book number seat) → id_of (at heap state.words (Word (loaded_head_of seat) 1)) ≡ id_at book.made awaits.object
+  named_by awaits =
+      ap (λ (o : Option ℕ). id_of (at heap state.words (Word (unwrap_or o 0) 1))) awaits.loads
+      ∙ name_found heap state.words g book.made book.owner book.fragments rule.machine.limits rule.heap_stands.control_words rule.heap_stands.ids rule.heap_stands.objects awaits.object awaits.below awaits.kept
+
+  module _ (step : Step) (due : due_step heap number seat ≡ Some step) where
+    names_at : (place : Access) → seat.place ≡ places.Access place → (reaches : ReachesOwn heap book number seat place) → NamesReached heap book number seat (found_by heap state step) place reaches
+    names_at Naming is awaits =
+        let same : steps.Access (NameLoad (loaded_head_of seat)) ≡ step = cc (sym (ap (λ (p : Place). option_map (λ (m : Move). m.step) (move_at heap number seat p)) is) ∙ due) in
+        ap (λ (s : Step). id_of (found_by heap state s)) (sym same) ∙ named_by awaits
+    names_at _ is reaches = tt
+
+    -- and by the book so it is where the seat's due step finds its word
+    pub reaches_in_book : Stands heap state book → WhileAccess (ReachesInBook heap number seat (found_by heap state step)) seat.place
+    reaches_in_book stands = reaches_so (ReachesInBook heap number seat (found_by heap state step)) (λ reaching is reaches. record {
+      there = record { state = state; book = book; stands = stands; here = refl; reaches = reaches };
+      finds = rw due refl;
+      names = names_at reaching is reaches;
+    })
+
+pub each_reaches_own : EachReachesOwn
+unfolding EachReachesOwn
+each_reaches_own heap state book number rule here = reaches_own heap state book number rule here

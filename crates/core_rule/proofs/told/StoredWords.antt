@@ -8,6 +8,7 @@ use Rattle.core_machine.specs.declared.place.Place.{Place}
 use Rattle.core_machine.specs.declared.place.Place.TheVariants as places
 use Rattle.core_machine.specs.declared.step.AccessStep.TheVariants.{WalkLoad}
 use Rattle.core_machine.specs.declared.step.operation.Operation.TheVariants.{Store}
+use Rattle.core_machine.specs.declared.step.SpineStep.TheVariants.{BudgetAdd}
 use Rattle.core_machine.specs.declared.step.Step.{Step}
 use Rattle.core_machine.specs.declared.step.Step.TheVariants as steps
 use Rattle.core_machine.specs.declared.step.TurningStep.TheVariants.{LookLoad}
@@ -22,6 +23,7 @@ module _ (heap : Heap) (number : ℕ) (seat : Seat) (stored word : ℕ) where
   none_loaded : (step : Step) → operation_of step ≡ Store stored → TellsWord heap number seat step word
   none_loaded steps.PollLoad stores = absurd (cc stores)
   none_loaded (steps.Access (WalkLoad fragment)) stores = absurd (cc stores)
+  none_loaded (steps.Spine (BudgetAdd words)) stores = absurd (cc stores)
   none_loaded (steps.Turning (LookLoad other)) stores = absurd (cc stores)
   none_loaded step stores = tt
 

@@ -19,6 +19,7 @@ use Rattle.core_rule.proofs.spines.IdleBudgets.{words_are_used}
 use Rattle.core_rule.proofs.steps.Steps.{each_step_keeps, each_begin_keeps, each_inner_keeps, each_turn_keeps}
 use Rattle.core_rule.proofs.told.AsTold.{each_seat_is_as_told}
 use Rattle.core_rule.proofs.told.FoundWords.{each_found_is_told}
+use Rattle.core_rule.proofs.told.ReachedFields.{each_reaches_own}
 use Rattle.core_rule.proofs.turns.{each_turn_leaves_fewer}
 use Rattle.core_rule.proofs.law.law_every_run.Goals as goal
 
@@ -102,3 +103,6 @@ returns-clause-own c = each_seat_is_as_told
 
 pub returns-clause-found : goal.returns-clause-found
 returns-clause-found c = each_found_is_told
+
+pub returns-clause-reached : goal.returns-clause-reached
+returns-clause-reached c = each_reaches_own
