@@ -1,5 +1,5 @@
 -- The steps by which spine words are granted, or turned down and taken back.
-use Rattle.std.proofs.Common.{◌≡◌, ℕ, ◌+◌, ◌%◌, ◌^◌, ◌<◌, ◌≤◌, true, false, Bool, List, [], ◌∷◌, Some, refl, sym, ap, subst, ◌∙◌, append-nil, arith}
+use Rattle.std.proofs.Common.{◌≡◌, ℕ, ◌+◌, ◌<◌, ◌≤◌, true, false, Bool, List, [], ◌∷◌, Some, refl, sym, ap, subst, ◌∙◌, append-nil, arith}
 use Rattle.std.specs.Prelude.{option_map}
 use Rattle.heap_model.specs.declared.command.Command.{Command}
 use Rattle.heap_model.specs.declared.command.Command.TheVariants as commands
@@ -83,7 +83,7 @@ module _ (old mid : SeatHeld) (words found : ℕ) (begins : BeginsGranting old w
       (λ grants e. absurd (differ (sym e ∙ gathers_on old.heap old.seat))) (withdraws true is)
 
   pub turned_down_steps : (new : SeatHeld) (found_then : ℕ) (full : SpineFull) → is_withdrawing mid.seat.place ≡ true → IsStepped mid new found_then → ToldAtStep mid.heap mid.number mid.seat found_then
-      → full.need ≡ words → full.used ≡ found % 2 ^ 32 → (made : List Made) × MakesSteps old new made × IsTurnedDown made old.heap full
+      → full.need ≡ words → full.used ≡ found → (made : List Made) × MakesSteps old new made × IsTurnedDown made old.heap full
   turned_down_steps new found_then full is stepped_then told_then need_is used_is =
       let takes_back : Made = record { step = Spine (BudgetTakeBack words); found = found_then } in
       let many = too_many is in
@@ -93,10 +93,9 @@ module _ (old mid : SeatHeld) (words found : ℕ) (begins : BeginsGranting old w
         made,
         makes_append old mid new (asks ∷ []) (takes_back ∷ []) makes_asked (makes_one mid new (Spine (BudgetTakeBack words)) found_then due told_then stepped_then),
         record {
-          word = found;
-          asked = subst (λ (n : ℕ). FoundIn made (Spine (BudgetAdd n)) found) (sym need_is) (found_first (takes_back ∷ []) asks);
-          used_is = used_is;
-          too_many = omega (arith, many.0, begins.words_are, need_is);
+          asked = subst (λ (n : ℕ). FoundIn made (Spine (BudgetAdd full.need)) n) (sym used_is)
+              (subst (λ (n : ℕ). FoundIn made (Spine (BudgetAdd n)) found) (sym need_is) (found_first (takes_back ∷ []) asks));
+          too_many = omega (arith, many.0, begins.words_are, need_is, used_is);
           taken_back = subst (λ (n : ℕ). WasMade (FoundIn made) (Spine (BudgetTakeBack n))) (sym need_is)
               (found_then, found_more (takes_back ∷ []) asks (Spine (BudgetTakeBack words)) found_then (found_first [] takes_back));
         },

@@ -1,5 +1,5 @@
 -- Spine words are asked for, granted or turned down, and taken back.
-use Rattle.std.specs.Prelude.{◌≡◌, ℕ, ◌+◌, ◌%◌, ◌^◌, ◌<◌, Bool, true, false, List}
+use Rattle.std.specs.Prelude.{◌≡◌, ℕ, ◌+◌, ◌<◌, Bool, true, false, List}
 use Rattle.heap_model.specs.declared.heap.Heap.{Heap}
 use Rattle.core_machine.specs.calls.Kept.{WasMade}
 use Rattle.core_machine.specs.declared.place.Making.TheVariants.{Granting, Withdrawing, Refusing}
@@ -29,10 +29,8 @@ abbrev pub is_withdrawing : Place → Bool
 is_withdrawing (places.Making Withdrawing) = true
 is_withdrawing _ = false
 
--- one of these steps asked for the words that were needed, and found so many to be granted or asked for, beside which they are too many; another took them back
+-- one of these steps asked for the words that were needed, and found so many used as is shown, beside which they are too many; another took them back
 pub record IsTurnedDown (made : List Made) (heap : Heap) (full : SpineFull) : Type 0 where
-  pub word : ℕ
-  pub asked : FoundIn made (Spine (BudgetAdd full.need)) word
-  pub used_is : full.used ≡ word % 2 ^ 32
-  pub too_many : heap.spine < word + full.need
+  pub asked : FoundIn made (Spine (BudgetAdd full.need)) full.used
+  pub too_many : heap.spine < full.used + full.need
   pub taken_back : WasMade (FoundIn made) (Spine (BudgetTakeBack full.need))

@@ -56,7 +56,7 @@ pub fn take_budget<L: Entries>(holder: &mut Holder<L>, words: u16) -> Result<Bud
     holder.step(&Step::Spine(SpineStep::BudgetTakeBack { words }));
     Err(SpineFull {
         need: u32::from(words),
-        used: (used % (1 << 32)) as u32,
+        used: used as u32,
     })
 }
 

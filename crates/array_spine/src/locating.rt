@@ -1,5 +1,6 @@
 ghost use Rattle.std.specs.Prelude.{◌≡◌, ◌%◌, ◌≤◌, List};
 ghost use Rattle.heap_table.specs.Made.{Made, MakesSteps};
+ghost use Rattle.object_chain.specs.FieldPlace.{IsPlaceOfField};
 ghost use Rattle.object_chain.specs.Walking.{IsAtField};
 ghost use Rattle.array_spine.specs.Locating.{BeginsLocating, IsNamedBySpine};
 
@@ -16,6 +17,7 @@ pub fn cell_at<L: Entries>(holder: &mut Holder<L>, sentinel: u16, index: u16) ->
     ensures part { result.part ≡ index % 4 }
     ensures reached { (holder.new.seat.reached ≡ result.fragment) × (holder.new.seat.part ≡ result.part) }
     ensures past { IsAtField holder.new.seat.place }
+    ensures field { IsPlaceOfField holder.new sentinel index result.fragment result.part }
     ensures room { 3 ≤ holder.new.spare }
 {
     let spine = Spot::told(holder.step(&Step::Spine(SpineStep::AddressLoad { sentinel })));
