@@ -9,6 +9,7 @@ use Rattle.core_machine.specs.seat.Seat.{Seat}
 use Rattle.core_machine.specs.table.Layout.{table_length}
 use Rattle.core_rule.specs.Told.{IsAsTold}
 use Rattle.heap_table.specs.Begun.{MayHaveBegun, NextHasWord, next_seat}
+use Rattle.heap_table.specs.Told.{ToldAtStep}
 use Rattle.heap_table.specs.Views.{seat_view}
 use Rattle.heap_table.specs.declared.view.View.{View}
 
@@ -47,4 +48,5 @@ pub record IsStepped (old new : SeatHeld) (found : ℕ) : Type 0 where
 pub record FindsFree (old new : SeatHeld) (free : ℕ) : Type 0 where
   pub found : ℕ
   pub stepped : IsStepped old new found
+  pub told : ToldAtStep old.heap old.number old.seat found
   pub free_is : free ≡ 2 ^ 16 - 1 - found % 2 ^ 16

@@ -1,4 +1,5 @@
 pub mod Births
 pub mod Born
+pub mod FieldPlaces
 pub mod Links
 pub mod Named

@@ -19,17 +19,23 @@ use Rattle.core_machine.specs.declared.step.Step.{Step}
 use Rattle.core_machine.specs.declared.step.Step.TheVariants as steps
 use Rattle.core_machine.specs.seat.Access.{row_of, part_of, at_access, with_field_place, field_place_of, way_place_of, after_link, after_walk, after_length, after_meta, meta_reply_of}
 use Rattle.core_machine.specs.seat.AccessMoves.{reply_entries_if}
-use Rattle.core_machine.specs.seat.Commands.{field_of}
+use Rattle.core_machine.specs.declared.seat.register.Register.{Register}
+use Rattle.core_machine.specs.seat.Commands.{object_of, field_of}
+use Rattle.core_machine.specs.seat.Registers.{register_in, register_head}
 use Rattle.core_machine.specs.seat.FitsAccess.{NamesField}
 use Rattle.core_machine.specs.seat.Seat.{Seat, with_entries}
 use Rattle.core_machine.specs.calls.Owes.{owes, owes_at, steps_left}
 use Rattle.core_machine.proofs.seat_lemmas.FieldPlaces.{field_cases}
+use Rattle.core_rule.specs.Flight.{WhileAccess}
+use Rattle.core_rule.specs.Reached.{HasReached}
 use Rattle.heap_table.specs.Made.{Made, FoundIn, MakesSteps, IsSound}
 use Rattle.heap_table.specs.SeatHeld.{SeatHeld, IsStepped}
 use Rattle.heap_table.specs.Told.{ToldAtStep}
-use Rattle.heap_table.proofs.MadeSteps.{makes_none, makes_append, makes_one, step_nears}
+use Rattle.heap_table.proofs.MadeSteps.{makes_none, makes_append, makes_one, comes_to, step_nears}
 use Rattle.object_chain.specs.Due.{due_of_walk}
+use Rattle.object_chain.specs.FieldPlace.{IsPlaceOfField}
 use Rattle.object_chain.specs.Walking.{BeginsWalking, HasFound, IsAtField}
+use Rattle.object_chain.proofs.FieldPlaces.{HoldsHead, loads_head, place_of_field}
 
 -- what is told of each word by fewer is told by more
 leads_by : (few more : Step → ℕ → Type 0) (links head reached : ℕ) → ((step : Step) (word : ℕ) → few step word → more step word) → LeadsTo few links head reached → LeadsTo more links head reached
@@ -80,9 +86,19 @@ module _ (tells : Step → ℕ → Type 0) (head rows : ℕ) where
         | inr some ↦ rw some.0 (on_way (after_link seat found) (suc passed) (omega (arith, all, some.1)) (seat.reached, found, leads, tell, refl))
       ]
 
--- walking leaves the field's part
-part_stays : (seat : Seat) (found : ℕ) → (after_walk seat found).part ≡ seat.part
-part_stays seat found = elim (eqb_tells seat.links 0) as (λ _. (after_walk seat found).part ≡ seat.part) [ inl none ↦ rw none.0 refl | inr some ↦ rw some.0 refl ]
+-- the call is the same, and its field's part
+abbrev SameCall : Seat → Seat → Type 0
+SameCall old new = (new.part ≡ old.part) × (new.registers ≡ old.registers) × (new.command ≡ old.command)
+
+walking_stays : (seat : Seat) (found : ℕ) → SameCall seat (after_walk seat found)
+walking_stays seat found = elim (eqb_tells seat.links 0) as (λ _. SameCall seat (after_walk seat found)) [ inl none ↦ rw none.0 (refl, refl, refl) | inr some ↦ rw some.0 (refl, refl, refl) ]
+
+stays_by : (old walked_to new : Seat) → new ≡ with_entries walked_to [] → SameCall old walked_to → SameCall old new
+stays_by old walked_to new is same = (ap (λ (s : Seat). s.part) is ∙ same.0, ap (λ (s : Seat). s.registers) is ∙ same.1, ap (λ (s : Seat). s.command) is ∙ same.2)
+
+holds_on : (old new : Seat) (head : ℕ) → SameCall old new → HoldsHead old head → HoldsHead new head
+holds_on old new head same holds =
+    ap (λ (l : List Register). register_head (register_in l (object_of new.command))) same.1 ∙ ap (λ (c : Command). register_head (register_in old.registers (object_of c))) same.2 ∙ holds
 
 -- a field that the object has is not refused
 none_refused : (command : Command) (word : ℕ) → NamesField command → field_of command < length_of word → meta_reply_of command word ≡ None
@@ -96,6 +112,9 @@ pub record WhileWalking (head : ℕ) (meta : Meta) (field : ℕ) (first now : Se
   pub makes : MakesSteps first now made
   pub way : WayOf (HasFound made head meta) head (row_of field) now.seat
   pub part_is : now.seat.part ≡ part_of field
+  pub holds : HoldsHead now.seat head
+  pub field_is : field_of now.seat.command ≡ field
+  pub comes : WhileAccess (HasReached now.heap now.number now.seat) now.seat.place
   pub room : owes now.seat + 2 ≤ now.spare
 
 -- each place of it owes one entry
@@ -117,11 +136,15 @@ walk_begins held head meta field begins room =
     let tell : tells (steps.Access (WalkLoad start.reached)) begins.word = inr (ap (λ (n : ℕ). steps.Access (WalkLoad n)) begins.head_is, begins.tells) in
     let way : WayOf tells head (row_of field) (after_walk start begins.word) = walked tells head (row_of field) start begins.word 0 (omega (arith, rows)) begins.head_is tell in
     let here : WayOf tells head (row_of field) held.seat = subst (λ (s : Seat). WayOf tells head (row_of field) s) (sym is) way in
+    let same = stays_by start (after_walk start begins.word) held.seat is (walking_stays start begins.word) in
     record {
       made = [];
       makes = makes_none held;
       way = here;
-      part_is = ap (λ (s : Seat). s.part) is ∙ part_stays start begins.word ∙ ap part_of begins.field_is;
+      part_is = same.0 ∙ ap part_of begins.field_is;
+      holds = holds_on start held.seat head same (subst (HoldsHead before) begins.head_is (loads_head held.heap held.number before begins.word begins.loading begins.told));
+      field_is = ap field_of same.2 ∙ begins.field_is;
+      comes = subst (λ (s : Seat). WhileAccess (HasReached held.heap held.number s) s.place) (sym begins.goes_on) begins.told.comes;
       room = omega (arith, room, way_owes tells head (row_of field) held.seat.links held.seat.reached held.seat held.seat.place here);
     }
 
@@ -148,12 +171,16 @@ walks_on head meta field first now new step found sound while is stepped told =
     subst (WayAt (HasFound while.made head meta) head (row_of field) now.seat.links now.seat.reached) at.0 while.way in
     let wider = way_by (HasFound while.made head meta) tells head (row_of field) now.seat.links now.seat.reached (places.Access Walking) (λ s w. more s w) way in
     let next : new.seat ≡ with_entries (after_walk now.seat found) [] =
-    stepped.seat_is ∙ ap (λ (p : Place). seat_after_due now.seat (move_at now.heap now.number now.seat p) found) at.0 in (
+    stepped.seat_is ∙ ap (λ (p : Place). seat_after_due now.seat (move_at now.heap now.number now.seat p) found) at.0 in
+    let same = stays_by now.seat (after_walk now.seat found) new.seat next (walking_stays now.seat found) in (
       record {
         made = made;
         makes = makes_append first now new while.made (record { step = step; found = found } ∷ []) while.makes (makes_one now new step found at.1 told stepped);
         way = subst (λ (s : Seat). WayOf tells head (row_of field) s) (sym next) (walked tells head (row_of field) now.seat found wider.0 wider.1 wider.2 tell);
-        part_is = ap (λ (s : Seat). s.part) next ∙ part_stays now.seat found ∙ while.part_is;
+        part_is = same.0 ∙ while.part_is;
+        holds = holds_on now.seat new.seat head same while.holds;
+        field_is = ap field_of same.2 ∙ while.field_is;
+        comes = comes_to now new found stepped told;
         room = omega (arith, while.room, near.1, stepped.room_stays);
       },
       subst (λ (h : Heap). steps_left h new.seat < steps_left now.heap now.seat) (sym stepped.heap_stays) near.0,
@@ -182,6 +209,10 @@ module _ (head : ℕ) (meta : Meta) (field : ℕ) (first held : SeatHeld) (while
 
   pub walk_ends : LeadsTo (HasFound while.made head meta) (row_of field) head held.seat.reached × IsAtField held.seat.place
   walk_ends = ends_at held.seat.place refl while.way
+
+  -- which is the one of its object
+  pub walk_place : IsPlaceOfField held head field held.seat.reached held.seat.part
+  walk_place = subst (λ (i : ℕ). IsPlaceOfField held head i held.seat.reached held.seat.part) while.field_is (place_of_field held head while.holds walk_ends.1 while.comes)
 
   pub walk_room : 3 ≤ held.spare
   walk_room = omega (arith, while.room, way_owes tells head (row_of field) held.seat.links held.seat.reached held.seat held.seat.place while.way)

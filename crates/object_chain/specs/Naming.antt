@@ -7,6 +7,11 @@ use Rattle.core_machine.specs.declared.place.Access.TheVariants.{Naming}
 use Rattle.core_machine.specs.declared.place.Place.TheVariants as places
 use Rattle.core_machine.specs.declared.step.AccessStep.TheVariants.{NameLoad}
 use Rattle.core_machine.specs.declared.step.Step.TheVariants.{Access}
+use Rattle.core_machine.specs.machine.Machine.{State, seat_at}
+use Rattle.core_machine.specs.table.Decode.{id_of_owner}
+use Rattle.core_rule.specs.Book.{Book, fragment_at, id_at}
+use Rattle.core_rule.specs.Reached.{AwaitsName}
+use Rattle.core_rule.specs.Stands.{Stands}
 use Rattle.heap_table.specs.Made.{Made, FoundIn}
 use Rattle.heap_table.specs.SeatHeld.{SeatHeld}
 
@@ -20,3 +25,13 @@ pub record IsNamed (made : List Made) (head : ℕ) (name : Name) : Type 0 where
   pub word : ℕ
   pub loaded : FoundIn made (Access (NameLoad head)) word
   pub name_is : name ≡ name_in word
+
+-- some book stands for a state with this seat, and by it the kept object that begins here, which the get's register holds by the history's graph, has this name
+pub record IsHeldsName (held : SeatHeld) (head : ℕ) (name : Name) : Type 0 where
+  pub state : State
+  pub book : Book
+  pub stands : Stands held.heap state book
+  pub here : seat_at state held.number ≡ held.seat
+  pub awaits : AwaitsName held.heap book held.number held.seat
+  pub begins : fragment_at (book.fragments awaits.object) 0 ≡ head
+  pub name_is : id_of_owner name.owner name.count ≡ id_at book.made awaits.object

@@ -14,6 +14,7 @@ use Rattle.core_machine.specs.seat.Seat.{Seat}
 use Rattle.heap_table.specs.Begun.{next_seat}
 use Rattle.heap_table.specs.Made.{Made, FoundIn}
 use Rattle.heap_table.specs.SeatHeld.{SeatHeld}
+use Rattle.heap_table.specs.Told.{ToldAtStep}
 
 -- the word is a record's meta: it tells this length, and leads to this next fragment
 pub record TellsMeta (word : ℕ) (meta : Meta) : Type 0 where
@@ -21,7 +22,7 @@ pub record TellsMeta (word : ℕ) (meta : Meta) : Type 0 where
   pub length_is : length_of word ≡ meta.length
   pub next_is : link_of word ≡ meta.next
 
--- the call in flight has just loaded this meta at the object's first fragment, and goes on to its field, which the object has
+-- the call in flight has just loaded this meta at the object's first fragment, where so much was told, and goes on to its field, which the object has
 pub record BeginsWalking (held : SeatHeld) (head : ℕ) (meta : Meta) (field : ℕ) : Type 0 where
   pub before : Seat
   pub word : ℕ
@@ -30,6 +31,7 @@ pub record BeginsWalking (held : SeatHeld) (head : ℕ) (meta : Meta) (field : �
   pub names : NamesField before.command
   pub field_is : field_of before.command ≡ field
   pub goes_on : held.seat ≡ next_seat held.heap held.number before word
+  pub told : ToldAtStep held.heap held.number before word
   pub tells : TellsMeta word meta
   pub within : field < meta.length
 

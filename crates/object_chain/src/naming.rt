@@ -4,7 +4,7 @@ ghost use Rattle.core_machine.specs.declared.seat.register.Register.TheVariants.
 ghost use Rattle.core_machine.specs.seat.Commands.{target_of};
 ghost use Rattle.core_machine.specs.table.Decode.{id_of_owner};
 ghost use Rattle.heap_table.specs.Made.{Made, MakesSteps};
-ghost use Rattle.object_chain.specs.Naming.{BeginsNaming, IsNamed};
+ghost use Rattle.object_chain.specs.Naming.{BeginsNaming, IsNamed, IsHeldsName};
 
 use core_machine::{AccessStep, Entries, Step};
 use heap_table::Holder;
@@ -15,6 +15,7 @@ pub fn name_of<L: Entries>(holder: &mut Holder<L>, head: u16) -> Name
     requires begins { BeginsNaming holder.old head }
     requires room { 2 ≤ holder.old.spare }
     ensures steps { (made : List Made) × MakesSteps holder.old holder.new made × IsNamed made head result }
+    ensures held { IsHeldsName holder.old head result }
     ensures register { holder.new.seat.registers ≡ slice_set holder.old.seat.registers (target_of holder.old.seat.command) (Object head (id_of_owner result.owner result.count)) }
     ensures over { holder.new.seat.place ≡ Idle }
 {

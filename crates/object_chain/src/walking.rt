@@ -4,6 +4,7 @@ ghost use Rattle.core_machine.specs.calls.Reaching.{LeadsTo};
 ghost use Rattle.core_machine.specs.seat.Access.{row_of, part_of};
 ghost use Rattle.heap_table.specs.Made.{Made, MakesSteps, IsSound};
 ghost use Rattle.object_chain.specs.Due.{due_of_walk as due_at_walk};
+ghost use Rattle.object_chain.specs.FieldPlace.{IsPlaceOfField};
 ghost use Rattle.object_chain.specs.Walking.{BeginsWalking, HasFound, IsAtField};
 
 use core_machine::{Access, Entries, Step};
@@ -36,6 +37,7 @@ pub fn walk<L: Entries>(holder: &mut Holder<L>, head: u16, meta: Meta, field: u1
     ensures part { result.part ≡ part_of field }
     ensures reached { (holder.new.seat.reached ≡ result.fragment) × (holder.new.seat.part ≡ result.part) }
     ensures past { IsAtField holder.new.seat.place }
+    ensures field { IsPlaceOfField holder.new head field result.fragment result.part }
     ensures room { 3 ≤ holder.new.spare }
 {
     while let Some(step) = due_of_walk(holder) {

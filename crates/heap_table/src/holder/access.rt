@@ -3,6 +3,7 @@ ghost use Rattle.core_machine.specs.Moves.{due_step};
 ghost use Rattle.core_machine.specs.declared.step.Step.TheVariants.{Access};
 ghost use Rattle.core_machine.specs.declared.step.AccessStep.TheVariants.{WalkLoad, NameLoad, GetLoad, OldLoad, Shade, Swap};
 ghost use Rattle.heap_table.specs.SeatHeld.{IsStepped};
+ghost use Rattle.heap_table.specs.Told.{ToldAtStep};
 
 use crate::holder::Holder;
 use core_machine::{AccessStep, Entries, Step};
@@ -12,7 +13,8 @@ impl<L: Entries> Holder<L> {
     pub fn walk_load(&mut self, fragment: u16) -> u64
         requires due { due_step self.old.heap self.old.number self.old.seat ≡ Some (Access (WalkLoad fragment)) }
         requires room { 2 ≤ self.old.spare }
-        ensures { IsStepped self.old self.new result }
+        ensures stepped { IsStepped self.old self.new result }
+        ensures told { ToldAtStep self.old.heap self.old.number self.old.seat result }
     {
         self.step(&Step::Access(AccessStep::WalkLoad { fragment }))
     }
@@ -21,7 +23,8 @@ impl<L: Entries> Holder<L> {
     pub fn name_load(&mut self, head: u16) -> u64
         requires due { due_step self.old.heap self.old.number self.old.seat ≡ Some (Access (NameLoad head)) }
         requires room { 2 ≤ self.old.spare }
-        ensures { IsStepped self.old self.new result }
+        ensures stepped { IsStepped self.old self.new result }
+        ensures told { ToldAtStep self.old.heap self.old.number self.old.seat result }
     {
         self.step(&Step::Access(AccessStep::NameLoad { head }))
     }
@@ -30,7 +33,8 @@ impl<L: Entries> Holder<L> {
     pub fn get_load(&mut self, fragment: u16, part: u8) -> u64
         requires due { due_step self.old.heap self.old.number self.old.seat ≡ Some (Access (GetLoad fragment part)) }
         requires room { 2 ≤ self.old.spare }
-        ensures { IsStepped self.old self.new result }
+        ensures stepped { IsStepped self.old self.new result }
+        ensures told { ToldAtStep self.old.heap self.old.number self.old.seat result }
     {
         self.step(&Step::Access(AccessStep::GetLoad { fragment, part }))
     }
@@ -39,7 +43,8 @@ impl<L: Entries> Holder<L> {
     pub fn old_load(&mut self, fragment: u16, part: u8) -> u64
         requires due { due_step self.old.heap self.old.number self.old.seat ≡ Some (Access (OldLoad fragment part)) }
         requires room { 2 ≤ self.old.spare }
-        ensures { IsStepped self.old self.new result }
+        ensures stepped { IsStepped self.old self.new result }
+        ensures told { ToldAtStep self.old.heap self.old.number self.old.seat result }
     {
         self.step(&Step::Access(AccessStep::OldLoad { fragment, part }))
     }
@@ -57,7 +62,8 @@ impl<L: Entries> Holder<L> {
     pub fn swap(&mut self, fragment: u16, part: u8, word: u64) -> u64
         requires due { due_step self.old.heap self.old.number self.old.seat ≡ Some (Access (Swap fragment part word)) }
         requires room { 2 ≤ self.old.spare }
-        ensures { IsStepped self.old self.new result }
+        ensures stepped { IsStepped self.old self.new result }
+        ensures told { ToldAtStep self.old.heap self.old.number self.old.seat result }
     {
         self.step(&Step::Access(AccessStep::Swap {
             fragment,

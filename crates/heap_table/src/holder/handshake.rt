@@ -4,6 +4,7 @@ ghost use Rattle.core_machine.specs.declared.step.Step.TheVariants.{PollLoad, Ha
 ghost use Rattle.core_machine.specs.declared.step.HandshakeStep.TheVariants.{AnswerStore, LeaveStore};
 ghost use Rattle.core_machine.specs.declared.step.TurningStep.TheVariants.{LookLoad};
 ghost use Rattle.heap_table.specs.SeatHeld.{IsStepped};
+ghost use Rattle.heap_table.specs.Told.{ToldAtStep};
 
 use crate::holder::Holder;
 use core_machine::{Entries, HandshakeStep, Step, TurningStep};
@@ -13,7 +14,8 @@ impl<L: Entries> Holder<L> {
     pub fn poll_load(&mut self) -> u64
         requires due { due_step self.old.heap self.old.number self.old.seat ≡ Some (PollLoad) }
         requires room { 2 ≤ self.old.spare }
-        ensures { IsStepped self.old self.new result }
+        ensures stepped { IsStepped self.old self.new result }
+        ensures told { ToldAtStep self.old.heap self.old.number self.old.seat result }
     {
         self.step(&Step::PollLoad)
     }
@@ -42,7 +44,8 @@ impl<L: Entries> Holder<L> {
     pub fn look_load(&mut self, seat: u8) -> u64
         requires due { due_step self.old.heap self.old.number self.old.seat ≡ Some (Turning (LookLoad seat)) }
         requires room { 2 ≤ self.old.spare }
-        ensures { IsStepped self.old self.new result }
+        ensures stepped { IsStepped self.old self.new result }
+        ensures told { ToldAtStep self.old.heap self.old.number self.old.seat result }
     {
         self.step(&Step::Turning(TurningStep::LookLoad { seat }))
     }

@@ -3,6 +3,7 @@ ghost use Rattle.core_machine.specs.Moves.{due_step};
 ghost use Rattle.core_machine.specs.declared.step.Step.TheVariants.{Spine};
 ghost use Rattle.core_machine.specs.declared.step.SpineStep.TheVariants.{BudgetAdd, BudgetTakeBack, SpotClaim, SpineStore, AddressLoad, WordLoad};
 ghost use Rattle.heap_table.specs.SeatHeld.{IsStepped};
+ghost use Rattle.heap_table.specs.Told.{ToldAtStep};
 
 use crate::holder::Holder;
 use core_machine::{Entries, SpineStep, Step};
@@ -12,7 +13,8 @@ impl<L: Entries> Holder<L> {
     pub fn budget_add(&mut self, words: u16) -> u64
         requires due { due_step self.old.heap self.old.number self.old.seat ≡ Some (Spine (BudgetAdd words)) }
         requires room { 2 ≤ self.old.spare }
-        ensures { IsStepped self.old self.new result }
+        ensures stepped { IsStepped self.old self.new result }
+        ensures told { ToldAtStep self.old.heap self.old.number self.old.seat result }
     {
         self.step(&Step::Spine(SpineStep::BudgetAdd { words }))
     }
@@ -30,7 +32,8 @@ impl<L: Entries> Holder<L> {
     pub fn spot_claim(&mut self, words: u16) -> u64
         requires due { due_step self.old.heap self.old.number self.old.seat ≡ Some (Spine (SpotClaim words)) }
         requires room { 2 ≤ self.old.spare }
-        ensures { IsStepped self.old self.new result }
+        ensures stepped { IsStepped self.old self.new result }
+        ensures told { ToldAtStep self.old.heap self.old.number self.old.seat result }
     {
         self.step(&Step::Spine(SpineStep::SpotClaim { words }))
     }
@@ -52,7 +55,8 @@ impl<L: Entries> Holder<L> {
     pub fn spine_address_load(&mut self, sentinel: u16) -> u64
         requires due { due_step self.old.heap self.old.number self.old.seat ≡ Some (Spine (AddressLoad sentinel)) }
         requires room { 2 ≤ self.old.spare }
-        ensures { IsStepped self.old self.new result }
+        ensures stepped { IsStepped self.old self.new result }
+        ensures told { ToldAtStep self.old.heap self.old.number self.old.seat result }
     {
         self.step(&Step::Spine(SpineStep::AddressLoad { sentinel }))
     }
@@ -61,7 +65,8 @@ impl<L: Entries> Holder<L> {
     pub fn spine_word_load(&mut self, half: u8, offset: u32) -> u64
         requires due { due_step self.old.heap self.old.number self.old.seat ≡ Some (Spine (WordLoad half offset)) }
         requires room { 2 ≤ self.old.spare }
-        ensures { IsStepped self.old self.new result }
+        ensures stepped { IsStepped self.old self.new result }
+        ensures told { ToldAtStep self.old.heap self.old.number self.old.seat result }
     {
         self.step(&Step::Spine(SpineStep::WordLoad { half, offset }))
     }

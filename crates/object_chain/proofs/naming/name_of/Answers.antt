@@ -1,6 +1,6 @@
 use Rattle.std.proofs.Common.{[], ◌∷◌}
 use Rattle.heap_table.proofs.MadeSteps.{makes_one, found_first}
-use Rattle.object_chain.proofs.Named.{name_load, name_due}
+use Rattle.object_chain.proofs.Named.{name_load, name_due, name_held}
 use Rattle.object_chain.proofs.naming.name_of.Goals as goal
 
 pub returns-clause-steps : goal.returns-clause-steps
@@ -9,3 +9,6 @@ returns-clause-steps g c = (
   makes_one c.args.holder.now c.step-word.new.self (name_load c.args.head c.step-word.result).step c.step-word.result (name_due c.args.holder.now c.args.head c.requires.begins) c.step-word.ensures.told c.step-word.ensures.stepped,
   record { word = c.step-word.result; loaded = found_first [] (name_load c.args.head c.step-word.result); name_is = c.told.ensures },
 )
+
+pub returns-clause-held : goal.returns-clause-held
+returns-clause-held g c = name_held c.args.holder.now c.args.head c.step-word.result c.told.result c.requires.begins c.step-word.ensures.told c.told.ensures

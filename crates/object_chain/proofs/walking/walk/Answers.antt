@@ -1,10 +1,11 @@
-use Rattle.std.proofs.Common.{◌≡◌, sym, ap, subst, ◌∙◌}
+use Rattle.std.proofs.Common.{◌≡◌, ℕ, sym, ap, subst, ◌∙◌}
 use Rattle.core_machine.specs.calls.Reaching.{LeadsTo}
 use Rattle.core_machine.specs.seat.Access.{row_of}
 use Rattle.core_machine.specs.seat.Seat.{Seat}
+use Rattle.object_chain.specs.FieldPlace.{IsPlaceOfField}
 use Rattle.object_chain.specs.Walking.{HasFound}
 use Rattle.heap_table.proofs.MadeSteps.{no_more}
-use Rattle.object_chain.proofs.Links.{walk_begins, walks_on, walk_ends, walk_room}
+use Rattle.object_chain.proofs.Links.{walk_begins, walks_on, walk_ends, walk_place, walk_room}
 use Rattle.object_chain.proofs.walking.walk.Goals as goal
 
 pub loop-step-init : goal.loop-step-init
@@ -42,3 +43,10 @@ returns-clause-reached g c = (
   sym (c.reached.ensures ∙ ap (λ (s : Seat). s.reached) c.party-party.ensures.seat),
   sym (c.part.ensures ∙ ap (λ (s : Seat). s.part) c.party-party.ensures.seat),
 )
+
+pub returns-clause-field : goal.returns-clause-field
+returns-clause-field g c =
+    let place = walk_place c.args.head c.args.meta c.args.field c.args.holder.now c.loop-step.holder c.loop-step.invariant (sym c.due_of_walk.ensures.due ∙ no_more c.due_of_walk.result c.in_default.not-Some) in
+    let held = c.loop-step.holder in
+    subst (λ (part : ℕ). IsPlaceOfField held c.args.head c.args.field c.reached.result part) (sym (c.part.ensures ∙ ap (λ (s : Seat). s.part) c.party-party.ensures.seat))
+    (subst (λ (fragment : ℕ). IsPlaceOfField held c.args.head c.args.field fragment held.seat.part) (sym (c.reached.ensures ∙ ap (λ (s : Seat). s.reached) c.party-party.ensures.seat)) place)

@@ -1,0 +1,117 @@
+-- An array's spine gets its place, and the array is stored and born, step by step.
+use Rattle.std.proofs.Common.{◌≡◌, ℕ, ◌+◌, ◌*◌, ◌<◌, ◌≤◌, List, [], ◌∷◌, ◌++◌, length, Some, None, refl, sym, ap, subst, ◌∙◌, inl, inr, arith}
+use Rattle.std.proofs.lemmas.Bool.Decides.{eqb_tells}
+use Rattle.std.specs.Prelude.{option_map}
+use Rattle.heap_model.specs.Heap.{IsHeap}
+use Rattle.heap_model.specs.declared.heap.Heap.{Heap}
+use Rattle.core_machine.specs.Moves.{Move, move_at, due_step, seat_after, seat_after_due, is_last_birth, bearing_move}
+use Rattle.core_machine.specs.declared.place.Making.TheVariants.{Placing, Listing, Storing, Bearing}
+use Rattle.core_machine.specs.declared.place.Place.{Place}
+use Rattle.core_machine.specs.declared.place.Place.TheVariants as places
+use Rattle.core_machine.specs.declared.step.Step.{Step}
+use Rattle.core_machine.specs.seat.Fits.{Fits}
+use Rattle.core_machine.specs.seat.Making.{store_place}
+use Rattle.core_machine.specs.seat.Seat.{Seat, spine_need}
+use Rattle.core_machine.specs.calls.Owes.{owes, owes_at, steps_left}
+use Rattle.core_machine.proofs.seat_lemmas.Fitting.{listing_cases}
+use Rattle.core_machine.proofs.table_lemmas.Bits.{bool_tells}
+use Rattle.heap_table.specs.Made.{Made, MakesSteps, IsSound}
+use Rattle.heap_table.specs.SeatHeld.{SeatHeld, IsStepped}
+use Rattle.heap_table.specs.Told.{ToldAtStep}
+use Rattle.heap_table.proofs.MadeSteps.{makes_none, makes_append, makes_one, step_nears}
+use Rattle.array_spine.specs.Bearing.{BeginsPlacing}
+
+-- the places from that of the spine's claim on, and that behind them
+abbrev pub StandsPlacing : Place → Type 0
+StandsPlacing (places.Making Placing) = Unit {0}
+StandsPlacing (places.Making Listing) = Unit {0}
+StandsPlacing (places.Making Storing) = Unit {0}
+StandsPlacing (places.Making Bearing) = Unit {0}
+StandsPlacing places.Idle = Unit {0}
+StandsPlacing _ = ⊥
+
+-- while the array is placed, stored and born: no more entries are added than were owed
+pub record WhilePlacing (first now : SeatHeld) : Type 0 where
+  pub made : List Made
+  pub makes : MakesSteps first now made
+  pub sound : IsSound now
+  pub stands : StandsPlacing now.seat.place
+  pub reserve_stays : now.seat.reserve ≡ first.seat.reserve
+  pub paid : owes now.seat + length now.seat.mine ≤ 1 + length first.seat.mine
+  pub room : owes now.seat + 2 ≤ now.spare
+
+pub placing_begins : (held : SeatHeld) (fragments : List ℕ) (cells words d : ℕ) → BeginsPlacing held fragments cells words d → IsSound held → 3 ≤ held.spare → WhilePlacing held held
+placing_begins held fragments cells words d begins sound room =
+    let owed : owes held.seat ≡ 1 = ap (owes_at held.seat) begins.place_is in
+    record {
+      made = [];
+      makes = makes_none held;
+      sound = sound;
+      stands = subst StandsPlacing (sym begins.place_is) tt;
+      reserve_stays = refl;
+      paid = omega (arith, owed);
+      room = omega (arith, owed, room);
+    }
+
+-- a holder is sound after its step
+sound_on : (now new : SeatHeld) (found : ℕ) → IsSound now → IsStepped now new found → ToldAtStep now.heap now.number now.seat found → IsSound new
+sound_on now new found sound stepped told = record {
+  limits = subst IsHeap (sym stepped.heap_stays) sound.limits;
+  within = omega (arith, sound.within, stepped.number_stays, ap (λ (h : Heap). h.seats) stepped.heap_stays);
+  fits = subst (λ (h : Heap). Fits h new.seat) (sym stepped.heap_stays) (subst (Fits now.heap) (sym stepped.seat_is) told.fits);
+}
+
+-- each of these steps leads to such a place, and leaves the reserve
+abbrev StandsOn : Seat → Seat → Type 0
+StandsOn seat next = StandsPlacing next.place × (next.reserve ≡ seat.reserve)
+
+stands_on : (heap : Heap) (number : ℕ) (seat : Seat) (found : ℕ) (place : Place) → seat.place ≡ place → StandsPlacing place → StandsOn seat (seat_after_due seat (move_at heap number seat place) found)
+stands_on heap number seat found (places.Making Placing) is stands = (tt, refl)
+stands_on heap number seat found (places.Making Listing) is stands =
+    (listing_cases (λ m. StandsPlacing (places.Making m)) (seat.listed + 1) (spine_need seat) (λ more. tt) (λ all. tt), refl)
+stands_on heap number seat found (places.Making Storing) is stands = (
+  elim (eqb_tells (seat.stored + 1) (4 * length seat.body)) as (λ _. StandsPlacing (places.Making (store_place (seat.stored + 1) seat.body))) [ inl all ↦ rw all.0 tt | inr left ↦ rw left.0 tt ],
+  refl,
+)
+stands_on heap number seat found (places.Making Bearing) is stands =
+    elim (bool_tells (is_last_birth seat)) as (λ _. StandsOn seat (seat_after (bearing_move number seat) found)) [
+      | inl last ↦ rw last (tt, refl)
+      | inr more ↦ rw more (subst StandsPlacing (sym is) tt, refl)
+    ]
+stands_on heap number seat found places.Idle is stands = (subst StandsPlacing (sym is) tt, refl)
+stands_on heap number seat found _ is stands = absurd stands
+
+pub placing_on : (first now new : SeatHeld) (step : Step) (found : ℕ) → WhilePlacing first now → due_step now.heap now.number now.seat ≡ Some step → IsStepped now new found
+    → ToldAtStep now.heap now.number now.seat found → WhilePlacing first new × (steps_left new.heap new.seat < steps_left now.heap now.seat)
+placing_on first now new step found while due stepped told =
+    let sound = while.sound in
+    let near = step_nears now.heap now.number now.seat sound.limits (omega (arith, sound.within, sound.limits.seats_fit)) sound.fits step found new.seat due stepped.seat_is in
+    let on = subst (λ (s : Seat). StandsOn now.seat s) (sym stepped.seat_is) (stands_on now.heap now.number now.seat found now.seat.place refl while.stands) in (
+      record {
+        made = while.made ++ record { step = step; found = found } ∷ [];
+        makes = makes_append first now new while.made (record { step = step; found = found } ∷ []) while.makes (makes_one now new step found due told stepped);
+        sound = sound_on now new found sound stepped told;
+        stands = on.0;
+        reserve_stays = on.1 ∙ while.reserve_stays;
+        paid = omega (arith, while.paid, near.1);
+        room = omega (arith, while.room, near.1, stepped.room_stays);
+      },
+      subst (λ (h : Heap). steps_left h new.seat < steps_left now.heap now.seat) (sym stepped.heap_stays) near.0,
+    )
+
+-- once no step is due the call is over
+pub placing_over : (held : SeatHeld) → due_step held.heap held.number held.seat ≡ None → held.seat.place ≡ places.Idle
+placing_over held none = by held.seat.place none
+  where
+    by : (place : Place) → option_map (λ (m : Move). m.step) (move_at held.heap held.number held.seat place) ≡ None → place ≡ places.Idle
+    by places.Idle none = refl
+    by (places.Making place) none = cc
+    by places.Local none = cc
+    by (places.Access place) none = cc
+    by (places.Polling place) none = cc
+    by (places.Collecting place) none = cc
+    by (places.Leaving place) none = cc
+
+-- and has added one entry at most
+pub placing_few : (first held : SeatHeld) → WhilePlacing first held → length held.seat.mine ≤ 1 + length first.seat.mine
+placing_few first held while = omega (arith, while.paid)

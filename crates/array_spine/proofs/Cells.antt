@@ -1,0 +1,94 @@
+-- The steps by which a cell is reached through the spine.
+use Rattle.std.proofs.Common.{◌≡◌, ℕ, ◌+◌, ◌/◌, List, [], ◌∷◌, Some, sym, ap, subst, ◌∙◌, append-nil}
+use Rattle.std.specs.Prelude.{option_map}
+use Rattle.heap_words.specs.Spot.{spot_in}
+use Rattle.heap_model.specs.declared.entry.Entry.{Entry}
+use Rattle.core_machine.specs.Moves.{Move, move_at, due_step, seat_after_due}
+use Rattle.core_machine.specs.declared.place.Place.{Place}
+use Rattle.core_machine.specs.declared.place.Place.TheVariants as places
+use Rattle.core_machine.specs.declared.step.SpineStep.TheVariants.{AddressLoad, WordLoad}
+use Rattle.core_machine.specs.declared.step.Step.{Step}
+use Rattle.core_machine.specs.declared.step.Step.TheVariants.{Spine}
+use Rattle.core_machine.specs.declared.place.Access.TheVariants.{Locating}
+use Rattle.core_machine.specs.seat.Commands.{field_of}
+use Rattle.core_machine.specs.seat.Registers.{register_head}
+use Rattle.core_machine.specs.seat.Access.{after_address, after_index, at_payload}
+use Rattle.core_machine.specs.seat.Seat.{Seat, with_entries}
+use Rattle.core_rule.specs.Flight.{WhileAccess}
+use Rattle.core_rule.specs.Reached.{ReachesInBook}
+use Rattle.heap_table.specs.Made.{Made, MakesSteps}
+use Rattle.core_machine.proofs.seat_lemmas.FieldPlaces.{field_cases}
+use Rattle.heap_table.specs.SeatHeld.{SeatHeld, IsStepped}
+use Rattle.heap_table.specs.Told.{ToldAtStep}
+use Rattle.heap_table.proofs.MadeSteps.{comes_to, makes_one, makes_append, found_first, found_more}
+use Rattle.object_chain.specs.FieldPlace.{IsPlaceOfField}
+use Rattle.object_chain.specs.Walking.{IsAtField}
+use Rattle.object_chain.proofs.FieldPlaces.{HoldsHead, place_of_field}
+use Rattle.array_spine.specs.Locating.{BeginsLocating, IsNamedBySpine}
+
+no_entries : (seat : Seat) → with_entries seat [] ≡ seat
+no_entries seat = ap (λ (mine : List Entry). record seat { mine = mine }) (append-nil seat.mine)
+
+module _ (old mid new : SeatHeld) (sentinel index address word : ℕ) (begins : BeginsLocating old sentinel index) (stepped : IsStepped old mid address) (told : ToldAtStep old.heap old.number old.seat address)
+    (stepped_then : IsStepped mid new word) (told_then : ToldAtStep mid.heap mid.number mid.seat word) where
+  abbrev loads_address : Made
+  loads_address = record { step = Spine (AddressLoad sentinel); found = address }
+
+  abbrev word_step : Step
+  word_step = Spine (WordLoad (spot_in address).half ((spot_in address).offset + index / 4))
+
+  abbrev loads_word : Made
+  loads_word = record { step = word_step; found = word }
+
+  address_due : due_step old.heap old.number old.seat ≡ Some (Spine (AddressLoad sentinel))
+  address_due =
+      ap (λ (p : Place). option_map (λ (m : Move). m.step) (move_at old.heap old.number old.seat p)) begins.place_is
+      ∙ ap (λ (n : ℕ). Some (Spine (AddressLoad n))) begins.sentinel_is
+
+  located : mid.seat ≡ after_address old.seat address
+  located =
+      stepped.seat_is ∙ ap (λ (p : Place). seat_after_due old.seat (move_at old.heap old.number old.seat p) address) begins.place_is
+      ∙ no_entries (after_address old.seat address)
+
+  word_due : due_step mid.heap mid.number mid.seat ≡ Some word_step
+  word_due =
+      ap (λ (s : Seat). due_step mid.heap mid.number s) located
+      ∙ ap (λ (n : ℕ). Some (Spine (WordLoad (spot_in address).half ((spot_in address).offset + n / 4)))) begins.index_is
+
+  indexed : new.seat ≡ after_index (after_address old.seat address) word
+  indexed =
+      stepped_then.seat_is ∙ ap (λ (s : Seat). seat_after_due s (move_at mid.heap mid.number s s.place) word) located ∙ no_entries (after_index (after_address old.seat address) word)
+
+  -- the call's register holds the array with this first fragment
+  holds_first : HoldsHead old.seat sentinel
+  holds_first =
+      let reached : ReachesInBook old.heap old.number old.seat address Locating = subst (WhileAccess (ReachesInBook old.heap old.number old.seat address)) begins.place_is told.tells.reached in
+      let array = reached.there.reaches in
+      ap register_head array.on.holds ∙ ap (λ (n : ℕ). Some n) (sym array.on.in_order ∙ begins.sentinel_is)
+
+  -- the seat is at its cell
+  pub at_cell : IsAtField new.seat.place
+  at_cell =
+      let there = at_payload (after_address old.seat address) word in
+      subst (λ (s : Seat). IsAtField s.place) (sym indexed) (field_cases (λ a. IsAtField (places.Access a)) there there.command tt (λ on. tt) (λ off. tt))
+
+  -- and the place that it has reached is that of the cell
+  pub cell_place : IsPlaceOfField new sentinel index new.seat.reached new.seat.part
+  cell_place =
+      let holds : HoldsHead new.seat sentinel = subst (λ (s : Seat). HoldsHead s sentinel) (sym indexed) holds_first in
+      let same : field_of new.seat.command ≡ index = ap (λ (s : Seat). field_of s.command) indexed ∙ begins.index_is in
+      subst (λ (i : ℕ). IsPlaceOfField new sentinel i new.seat.reached new.seat.part) same (place_of_field new sentinel holds at_cell (comes_to mid new word stepped_then told_then))
+
+  pub located_steps : (fragment : ℕ) → fragment ≡ new.seat.reached → (made : List Made) × MakesSteps old new made × IsNamedBySpine made sentinel index fragment
+  located_steps fragment is = (
+    loads_address ∷ loads_word ∷ [],
+    makes_append old mid new (loads_address ∷ []) (loads_word ∷ []) (makes_one old mid (Spine (AddressLoad sentinel)) address address_due told stepped)
+        (makes_one mid new word_step word word_due told_then stepped_then),
+    record {
+      address = address;
+      located = found_first (loads_word ∷ []) loads_address;
+      word = word;
+      named = found_more (loads_word ∷ []) loads_address word_step word (found_first [] loads_word);
+      fragment_is = is ∙ ap (λ (s : Seat). s.reached) indexed;
+    },
+  )

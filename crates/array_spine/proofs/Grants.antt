@@ -1,0 +1,118 @@
+-- The steps by which spine words are granted, or turned down and taken back.
+use Rattle.std.proofs.Common.{◌≡◌, ℕ, ◌+◌, ◌<◌, ◌≤◌, true, false, Bool, List, [], ◌∷◌, Some, refl, sym, ap, subst, ◌∙◌, append-nil, arith}
+use Rattle.std.specs.Prelude.{option_map}
+use Rattle.heap_model.specs.declared.command.Command.{Command}
+use Rattle.heap_model.specs.declared.command.Command.TheVariants as commands
+use Rattle.heap_model.specs.declared.entry.Entry.{Entry}
+use Rattle.heap_model.specs.declared.heap.Heap.{Heap}
+use Rattle.core_machine.specs.Moves.{Move, move_at, due_step, seat_after_due, refusal_step}
+use Rattle.core_machine.specs.calls.Claims.{IsGranted}
+use Rattle.core_machine.specs.calls.Kept.{WasMade}
+use Rattle.core_machine.specs.declared.place.Making.TheVariants.{Withdrawing}
+use Rattle.core_machine.specs.declared.place.Place.{Place}
+use Rattle.core_machine.specs.declared.place.Place.TheVariants as places
+use Rattle.core_machine.specs.declared.step.SpineStep.TheVariants.{BudgetAdd, BudgetTakeBack}
+use Rattle.core_machine.specs.declared.step.Step.{Step}
+use Rattle.core_machine.specs.declared.step.Step.TheVariants.{Spine}
+use Rattle.core_machine.specs.seat.Commands.{IsArrayCall}
+use Rattle.core_machine.specs.seat.Making.{gather_next, after_budget}
+use Rattle.core_machine.specs.seat.Seat.{Seat, spine_need, with_entries}
+use Rattle.core_machine.proofs.seat_lemmas.Fitting.{budget_cases, goes_on_cases, settled_cases, returning_cases}
+use Rattle.heap_table.specs.Made.{Made, FoundIn, MakesSteps}
+use Rattle.heap_table.specs.SeatHeld.{SeatHeld, IsStepped}
+use Rattle.heap_table.specs.Told.{ToldAtStep}
+use Rattle.heap_table.proofs.MadeSteps.{makes_one, makes_append, found_first, found_more}
+use Rattle.array_spine.specs.Granting.{BeginsGranting, BeginsDropping, IsTurnedDown, is_withdrawing}
+use Rattle.array_spine.specs.declared.budget.SpineFull.{SpineFull}
+
+no_entries : (seat : Seat) → with_entries seat [] ≡ seat
+no_entries seat = ap (λ (mine : List Entry). record seat { mine = mine }) (append-nil seat.mine)
+
+-- a seat that gathers takes nothing back
+gathers_on : (heap : Heap) (seat : Seat) → is_withdrawing (gather_next heap seat).place ≡ false
+gathers_on heap seat =
+    goes_on_cases (λ s. is_withdrawing s.place ≡ false) heap seat
+    (λ enough. settled_cases (λ m. is_withdrawing (places.Making m) ≡ false) seat.command (λ an_array. refl) (λ other. refl))
+    (λ lacks left. refl)
+    (λ lacks all. returning_cases (λ m. is_withdrawing (places.Making m) ≡ false) seat.hand (λ none. refl) (λ some. refl))
+
+differ : true ≡ false → ⊥
+differ e = cc
+
+-- the seat that has asked for too many words
+abbrev asked_for_too_many : Seat → ℕ → Seat
+asked_for_too_many seat found = record seat { used = found; place = places.Making Withdrawing }
+
+module _ (old mid : SeatHeld) (words found : ℕ) (begins : BeginsGranting old words) (stepped : IsStepped old mid found) (told : ToldAtStep old.heap old.number old.seat found) where
+  abbrev asks : Made
+  asks = record { step = Spine (BudgetAdd words); found = found }
+
+  -- the words are asked for
+  add_due : due_step old.heap old.number old.seat ≡ Some (Spine (BudgetAdd words))
+  add_due =
+      ap (λ (p : Place). option_map (λ (m : Move). m.step) (move_at old.heap old.number old.seat p)) begins.place_is
+      ∙ ap (λ (n : ℕ). Some (Spine (BudgetAdd n))) begins.words_are
+
+  asked : mid.seat ≡ after_budget old.heap old.seat found
+  asked =
+      stepped.seat_is ∙ ap (λ (p : Place). seat_after_due old.seat (move_at old.heap old.number old.seat p) found) begins.place_is
+      ∙ no_entries (after_budget old.heap old.seat found)
+
+  makes_asked : MakesSteps old mid (asks ∷ [])
+  makes_asked = makes_one old mid (Spine (BudgetAdd words)) found add_due told stepped
+
+  withdraws : (b : Bool) → is_withdrawing mid.seat.place ≡ b → is_withdrawing (after_budget old.heap old.seat found).place ≡ b
+  withdraws b is = ap (λ (s : Seat). is_withdrawing s.place) (sym asked) ∙ is
+
+  -- where nothing is to be taken back they were granted
+  pub granted_steps : is_withdrawing mid.seat.place ≡ false → (made : List Made) × MakesSteps old mid made × IsGranted (FoundIn made) old.heap old.seat.command
+  granted_steps is = (
+    asks ∷ [],
+    makes_asked,
+    record {
+      word = found;
+      told = subst (λ (n : ℕ). FoundIn (asks ∷ []) (Spine (BudgetAdd n)) found) (sym begins.words_are) (found_first [] asks);
+      enough = budget_cases (λ s. is_withdrawing s.place ≡ false → found + spine_need old.seat ≤ old.heap.spine) old.heap old.seat found (λ lacks e. absurd (differ e)) (λ grants e. grants) (withdraws false is);
+    },
+  )
+
+  -- else they are too many, and are taken back
+  too_many : is_withdrawing mid.seat.place ≡ true → (old.heap.spine < found + spine_need old.seat) × (after_budget old.heap old.seat found ≡ asked_for_too_many old.seat found)
+  too_many is =
+      budget_cases (λ s. is_withdrawing s.place ≡ true → (old.heap.spine < found + spine_need old.seat) × (s ≡ asked_for_too_many old.seat found)) old.heap old.seat found (λ lacks e. (lacks, refl))
+      (λ grants e. absurd (differ (sym e ∙ gathers_on old.heap old.seat))) (withdraws true is)
+
+  pub turned_down_steps : (new : SeatHeld) (found_then : ℕ) (full : SpineFull) → is_withdrawing mid.seat.place ≡ true → IsStepped mid new found_then → ToldAtStep mid.heap mid.number mid.seat found_then
+      → full.need ≡ words → full.used ≡ found → (made : List Made) × MakesSteps old new made × IsTurnedDown made old.heap full
+  turned_down_steps new found_then full is stepped_then told_then need_is used_is =
+      let takes_back : Made = record { step = Spine (BudgetTakeBack words); found = found_then } in
+      let many = too_many is in
+      let due : due_step mid.heap mid.number mid.seat ≡ Some (Spine (BudgetTakeBack words)) =
+      ap (λ (s : Seat). due_step mid.heap mid.number s) (asked ∙ many.1) ∙ ap (λ (n : ℕ). Some (Spine (BudgetTakeBack n))) begins.words_are in
+      let made = asks ∷ takes_back ∷ [] in (
+        made,
+        makes_append old mid new (asks ∷ []) (takes_back ∷ []) makes_asked (makes_one mid new (Spine (BudgetTakeBack words)) found_then due told_then stepped_then),
+        record {
+          asked = subst (λ (n : ℕ). FoundIn made (Spine (BudgetAdd full.need)) n) (sym used_is)
+              (subst (λ (n : ℕ). FoundIn made (Spine (BudgetAdd n)) found) (sym need_is) (found_first (takes_back ∷ []) asks));
+          too_many = omega (arith, many.0, begins.words_are, need_is, used_is);
+          taken_back = subst (λ (n : ℕ). WasMade (FoundIn made) (Spine (BudgetTakeBack n))) (sym need_is)
+              (found_then, found_more (takes_back ∷ []) asks (Spine (BudgetTakeBack words)) found_then (found_first [] takes_back));
+        },
+      )
+
+-- what the refusal for want of fragments takes back, for an array
+array_takes_back : (command : Command) (words : ℕ) → IsArrayCall command → refusal_step command words ≡ Spine (BudgetTakeBack words)
+array_takes_back (commands.Array d cells) words an_array = refl
+array_takes_back _ words an_array = absurd an_array
+
+-- granted words are taken back
+pub dropped_steps : (old new : SeatHeld) (words found : ℕ) → BeginsDropping old words → IsStepped old new found → ToldAtStep old.heap old.number old.seat found
+    → (made : List Made) × MakesSteps old new made × WasMade (FoundIn made) (Spine (BudgetTakeBack words))
+dropped_steps old new words found begins stepped told =
+    let takes_back : Made = record { step = Spine (BudgetTakeBack words); found = found } in
+    let due : due_step old.heap old.number old.seat ≡ Some (Spine (BudgetTakeBack words)) =
+    ap (λ (p : Place). option_map (λ (m : Move). m.step) (move_at old.heap old.number old.seat p)) begins.place_is
+    ∙ ap (λ (s : Step). Some s) (array_takes_back old.seat.command (spine_need old.seat) begins.an_array)
+    ∙ ap (λ (n : ℕ). Some (Spine (BudgetTakeBack n))) begins.words_are in
+    (takes_back ∷ [], makes_one old new (Spine (BudgetTakeBack words)) found due told stepped, (found, found_first [] takes_back))

@@ -1,0 +1,4 @@
+pub mod Arrays
+pub mod Cells
+pub mod Grants
+pub mod Placed

@@ -1,0 +1,42 @@
+ghost use Rattle.std.specs.Prelude.{◌≡◌, ◌≤◌, length, OnOk, OnErr};
+ghost use Rattle.heap_model.specs.calls.CollectorCalls.{Turns};
+ghost use Rattle.collector_turns.specs.Collector.{state_of};
+ghost use Rattle.collector_turns.specs.Turning.{TakesTurn, MakesRoom};
+
+use crate::collector::Collector;
+use core_machine::{CountsEntries, Entries};
+use heap_model::{CollectorCalls, Memory, Turn};
+
+impl<L: Entries, C: CountsEntries> CollectorCalls for Collector<L, C> {
+    ghost state = { state_of };
+
+    ghost turned = { TakesTurn };
+
+    fn turn(&mut self) -> Turn {
+        let (_, turn) = self.holder.turn();
+        self.last_turn = Some(turn);
+        turn
+    }
+
+    fn room(&mut self, n: usize) -> Result<(), Memory>
+        ensures same { state_of self.new ≡ record (state_of self.old) { spare = (state_of self.new).spare } }
+        ensures more { (state_of self.old).spare ≤ (state_of self.new).spare }
+        ensures room { OnOk result (n ≤ (state_of self.new).spare) }
+        ensures memory { OnErr result (state_of self.new ≡ state_of self.old) }
+        ensures stays { MakesRoom self.old self.new }
+    {
+        self.holder.room(n)
+    }
+
+    fn spare(&self) -> usize {
+        self.holder.spare()
+    }
+
+    fn phase(&self) -> u64 {
+        self.holder.phase()
+    }
+
+    fn turns(&self) -> u64 {
+        self.holder.turns()
+    }
+}
