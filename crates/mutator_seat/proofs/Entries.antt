@@ -1,7 +1,7 @@
 -- What a whole call comes to by the seat's own entries.
 use Rattle.std.proofs.Common.{◌≡◌, ℕ, ◌+◌, List, [], ◌∷◌, ◌++◌, length, sum, Result, Ok, Err, refl, sym, ap, subst, ◌∙◌, mod-eq_of_lt, arith}
 use Rattle.std.specs.Prelude.{IfOk, IfErr}
-use Rattle.heap_model.specs.Needs.{need_of, array_fragments, array_words, record_fragments}
+use Rattle.heap_model.specs.Needs.{need_of, made_by, record_fragments}
 use Rattle.heap_model.specs.account.PhaseCounts.{last_answer}
 use Rattle.heap_model.specs.account.Space.{taken_of, spent_of}
 use Rattle.heap_model.specs.calls.SeatCalls.{HasNumber, IsReady, ClaimsBefore, ComesBefore, Adds, takes_of, gives_of}
@@ -100,7 +100,7 @@ module _ (old new : SeatHeld) (command : Command) (reply : Reply) (call : MakesC
       subst (λ (l : List Entry). ComeTo old.number l (sum counts + 0) (0 + sum counts) (0 + 0)) (sym claims.3)
       (come_to-append old.number (takes_of old.number counts) (gives_of old.number counts) (come_to-takes old.number counts) (come_to-gives old.number counts)) in
       let whole = come_to-append old.number old.seat.mine (call.first ++ said ∷ []) before (come_to-append old.number call.first (said ∷ []) between (come_to-said old.number command reply)) in
-      let none : Rattle.heap_model.specs.Needs.made_by command reply ≡ 0 = ap (Rattle.heap_model.specs.Needs.made_by command) is in
+      let none : made_by command reply ≡ 0 = ap (made_by command) is in
       let taken = ap (taken_of old.number) call.told ∙ whole.takes in
       let spent = ap (spent_of old.number) call.told ∙ whole.spends in
       record {

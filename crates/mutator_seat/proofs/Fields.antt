@@ -14,13 +14,14 @@ use Rattle.heap_model.specs.declared.reply.Reply.{Reply}
 use Rattle.heap_model.specs.declared.reply.Reply.TheVariants as replies
 use Rattle.heap_model.specs.graph.Graph.{Node, Graph}
 use Rattle.heap_model.specs.graph.Objects.{target_node}
-use Rattle.core_machine.specs.calls.Kept.{kept_of}
+use Rattle.core_machine.specs.calls.Kept.{Kept, kept_of}
 use Rattle.core_machine.specs.calls.Reaching.{HasOpened, ReachesField}
 use Rattle.core_machine.specs.calls.Replies.{StandsOn}
 use Rattle.core_machine.specs.declared.place.Place.{Place}
 use Rattle.core_machine.specs.declared.place.Place.TheVariants as places
 use Rattle.core_machine.specs.declared.seat.register.Register.{Register}
 use Rattle.core_machine.specs.declared.seat.register.Register.TheVariants as registers
+use Rattle.core_machine.specs.declared.step.Step.{Step}
 use Rattle.core_machine.specs.seat.Commands.{object_of, field_of, target_of}
 use Rattle.core_machine.specs.seat.FitsAccess.{NamesObject, NamesField}
 use Rattle.core_machine.specs.seat.Local.{answer_of}
@@ -90,7 +91,7 @@ module _ (old new : SeatHeld) (command : Command) (reply : Reply) (call : MakesC
 abbrev IsOwnMeta : Option Node → ℕ → Type 0
 IsOwnMeta own meta = IfSome own (λ object. IsMetaOf object meta)
 
-reached_within : (tells : Rattle.core_machine.specs.declared.step.Step.Step → ℕ → Type 0) (command : Command) (before : Rattle.core_machine.specs.calls.Kept.Kept) (object : Node) (reached part : ℕ)
+reached_within : (tells : Step → ℕ → Type 0) (command : Command) (before : Kept) (object : Node) (reached part : ℕ)
     → ((head meta : ℕ) → HasOpened tells command before head meta → IsMetaOf object meta) → ReachesField tells command before reached part → field_of command < length object.cells
 reached_within tells command before object reached part meta (inl way) = let is = meta way.head way.meta way.opened in omega (arith, way.within, is.length_is)
 reached_within tells command before object reached part meta (inr way) = let is = meta way.head way.located.way.meta way.located.way.opened in omega (arith, way.located.way.within, is.length_is)
@@ -121,7 +122,7 @@ field_answers (commands.Set r i v) reply names is = set_field reply is
 field_answers _ reply names is = absurd names
 
 module _ (old new : SeatHeld) (command : Command) (reply : Reply) (call : MakesCall old new command reply) (names : NamesObject command) (field : NamesField command) where
-  abbrev tells : Rattle.core_machine.specs.declared.step.Step.Step → ℕ → Type 0
+  abbrev tells : Step → ℕ → Type 0
   tells = ToldIn old call.made
 
   past_end : (object : Node) → ((head meta : ℕ) → HasOpened tells command (kept_of old.seat) head meta → IsMetaOf object meta) → reply ≡ replies.NoField → length object.cells ≤ field_of command

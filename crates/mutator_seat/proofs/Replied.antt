@@ -11,6 +11,7 @@ use Rattle.core_machine.specs.calls.Replies.{AnswersLocally, IsDoneBy, StandsOn}
 use Rattle.core_machine.specs.declared.step.Step.{Step}
 use Rattle.core_machine.specs.seat.Commands.{MakesObject, IsArrayCall}
 use Rattle.core_machine.specs.seat.FitsAccess.{IsGet, IsSet, NamesField}
+use Rattle.core_machine.specs.seat.FitsHandshake.{IsLocal}
 use Rattle.core_machine.specs.seat.Local.{answer_of, local_reply_of}
 use Rattle.core_machine.specs.seat.Registers.{register_in, value_of, is_same_value}
 use Rattle.heap_table.specs.SeatHeld.{SeatHeld}
@@ -40,7 +41,7 @@ answers_same false = tt
 local_reply : (command : Command) (before kept : Kept) (reply : Reply) → AnswersLocally command before kept reply → IsReplyTo command reply
 local_reply command before kept reply is = subst (IsReplyTo command) (sym is.reply_is) (by command is.local)
   where
-    by : (command : Command) → Rattle.core_machine.specs.seat.Fits.IsLocal before.registers command → IsReplyTo command (local_reply_of before.registers command)
+    by : (command : Command) → IsLocal before.registers command → IsReplyTo command (local_reply_of before.registers command)
     by (commands.New d fields) local = absurd local
     by (commands.Array d cells) local = absurd local
     by (commands.Get d r i) local = tt

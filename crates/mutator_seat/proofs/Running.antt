@@ -1,6 +1,7 @@
 -- A call in flight is made to its end, step by step.
 use Rattle.std.proofs.Common.{◌≡◌, ◌+◌, ◌<◌, ◌≤◌, ℕ, List, [], ◌∷◌, ◌++◌, Option, Some, None, refl, sym, ap, subst, ◌∙◌, arith}
 use Rattle.std.specs.Prelude.{option_map}
+use Rattle.heap_model.specs.Heap.{IsHeap}
 use Rattle.heap_model.specs.declared.heap.Heap.{Heap}
 use Rattle.core_machine.specs.Moves.{Move, move_at, due_step}
 use Rattle.core_machine.specs.calls.Owes.{owes, steps_left}
@@ -30,7 +31,7 @@ room_to_step first now while = omega (arith, while.room)
 -- the heap and the number stay, and the data fit together after the step
 sound_stepped : (now new : SeatHeld) (found : ℕ) → IsSound now → IsStepped now new found → ToldAtStep now.heap now.number now.seat found → IsSound new
 sound_stepped now new found sound stepped told = record {
-  limits = subst Rattle.heap_model.specs.Heap.IsHeap (sym stepped.heap_stays) sound.limits;
+  limits = subst IsHeap (sym stepped.heap_stays) sound.limits;
   within = omega (arith, sound.within, stepped.number_stays, ap (λ (h : Heap). h.seats) stepped.heap_stays);
   fits = subst (λ (h : Heap). Fits h new.seat) (sym stepped.heap_stays) (subst (Fits now.heap) (sym stepped.seat_is) told.fits);
 }
