@@ -1,9 +1,11 @@
 pub mod account
 pub mod calls
 pub mod graph
+pub mod runs
 pub mod Board
 pub mod Command
 pub mod Heap
 pub mod Limits
+pub mod Logs
 pub mod Needs
 pub mod PhasePlan

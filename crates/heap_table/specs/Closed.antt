@@ -1,12 +1,10 @@
 -- What is known once every seat was folded in and every word was read.
-use Rattle.std.specs.Prelude.{◌≡◌, ℕ, ◌<◌, true, false, List, [], ◌∷◌, ◌++◌, map, filter, length, Option}
-use Rattle.std.specs.List.{range_with_len}
+use Rattle.std.specs.Prelude.{◌≡◌, ℕ, ◌<◌, true, false, List, [], ◌∷◌, ◌++◌, map, length, Option}
 use Rattle.std.specs.Option.{option_map_or}
 use Rattle.heap_model.specs.declared.entry.Entry.{Entry}
 use Rattle.heap_model.specs.declared.heap.Heap.{Heap}
+use Rattle.heap_model.specs.Logs.{logs_of}
 use Rattle.heap_model.specs.account.Account.{IsLegal}
-use Rattle.heap_model.specs.account.Effects.{is_of}
-use Rattle.heap_model.specs.account.Noting.{is_collectors}
 use Rattle.core_machine.specs.machine.Machine.{State, seat_at}
 use Rattle.core_machine.specs.machine.Value.{SeatWithRoom}
 use Rattle.core_machine.specs.table.Layout.{table_length}
@@ -36,10 +34,6 @@ pub record ClosedTable : Type 0 where
   pub words : List ℕ
   pub logs : List (List Entry)
   pub folded : ℕ
-
--- the logs that go together to the history: each seat's entries, and the collector's behind them
-abbrev pub logs_of : Heap → List Entry → List (List Entry)
-logs_of heap history = map (λ number. filter (is_of number) history) (range_with_len 0 heap.seats) ++ filter is_collectors history ∷ []
 
 -- the logs of the seats in these places; none's is empty
 abbrev pub logs_in : List (Option SeatWithRoom) → List (List Entry)

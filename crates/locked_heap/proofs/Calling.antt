@@ -22,9 +22,10 @@ use Rattle.core_rule.proofs.parties.OneSeat.{after_call}
 use Rattle.locked_heap.specs.declared.progress.Progress.{Progress}
 use Rattle.locked_heap.specs.Given.{Given, IsOfScript, IsSeatScript, script_of}
 use Rattle.locked_heap.specs.Locked.{IsRunFrom, AllHaveCome, IsNext}
-use Rattle.locked_heap.specs.Progress.{progress_at, IsPaid, IsAtCollect, HasCome}
+use Rattle.locked_heap.specs.Progress.{progress_at, IsAtCollect, HasCome}
+use Rattle.heap_model.specs.runs.Endings.{IsPaid}
 use Rattle.locked_heap.specs.Recorded.{Recorded, MakesCall}
-use Rattle.locked_heap.specs.Told.{waits_told}
+use Rattle.heap_model.specs.runs.Told.{waits_told}
 use Rattle.locked_heap.proofs.Coming.{IsFresh, fresh_unless, come_next, come_left, all_come}
 use Rattle.locked_heap.proofs.FindsOn.{FindsOn, finds_on}
 use Rattle.locked_heap.proofs.GivenRuns.{run_stands, seats_are, run_call}

@@ -19,7 +19,7 @@ use Rattle.core_rule.proofs.parties.LeftStill.{left_still, up_to_last_later}
 use Rattle.core_rule.proofs.looks.Growth.{up_to_last-none}
 use Rattle.core_rule.proofs.runs.Plays.{keeps_there}
 use Rattle.heap_model.proofs.account_lemmas.Windows.{up_to_last-yes}
-use Rattle.locked_heap.specs.Told.{is_leave, up_to_leaves, EndsWithLeave}
+use Rattle.heap_model.specs.runs.Told.{is_leave, up_to_leaves, EndsWithLeave}
 
 -- what is behind keeps the rules too
 behind_kept : (heap : Heap) (play : Bool) (before front behind : List Entry) → KeepsSpaceAfter heap play before (front ++ behind) → KeepsSpaceAfter heap play (before ++ front) behind

@@ -24,7 +24,7 @@ use Rattle.core_machine.specs.seat.Looks.{noted_reply}
 use Rattle.core_machine.specs.table.Layout.{at}
 use Rattle.heap_model.specs.declared.heap.Heap.{Heap}
 use Rattle.locked_heap.specs.Locked.{IsQuiet}
-use Rattle.locked_heap.specs.Told.{command_told, commands_told, is_wait_of, waits_told}
+use Rattle.heap_model.specs.runs.Told.{command_told, commands_told, is_wait_of, waits_told}
 
 -- more entries tell more
 pub commands_more : (number : ℕ) (front behind : List Entry) → commands_told number (front ++ behind) ≡ commands_told number front ++ commands_told number behind

@@ -23,10 +23,11 @@ use Rattle.core_rule.proofs.runs.CountedFinds.{finds_by_law}
 use Rattle.locked_heap.specs.declared.ran.LockedRan.{LockedRan}
 use Rattle.locked_heap.specs.Given.{Given, script_of}
 use Rattle.locked_heap.specs.Locked.{IsRunFrom, LockedValue, AllHaveCome, AllGone, IsParted, EndsWhole}
-use Rattle.locked_heap.specs.Progress.{progress_at, leave_told, IsPaid}
-use Rattle.locked_heap.specs.Ran.{IsRun, EndsEmpty}
+use Rattle.locked_heap.specs.Progress.{progress_at, leave_told}
+use Rattle.heap_model.specs.runs.Endings.{EndsEmpty, IsPaid}
+use Rattle.locked_heap.specs.Ran.{IsRun}
 use Rattle.locked_heap.specs.Recorded.{Recorded}
-use Rattle.locked_heap.specs.Told.{commands_told, waits_told}
+use Rattle.heap_model.specs.runs.Told.{commands_told, waits_told}
 use Rattle.locked_heap.proofs.Calling.{left_told}
 use Rattle.locked_heap.proofs.Coming.{paid_still, all_turned}
 use Rattle.locked_heap.proofs.LastCycle.{left_before, leaves_stay}

@@ -1,6 +1,5 @@
 pub mod Given
 pub mod Recorded
-pub mod Told
 pub mod Progress
 pub mod Locked
 pub mod Ran

@@ -24,7 +24,7 @@ use Rattle.locked_heap.specs.declared.progress.Progress.{Progress}
 use Rattle.locked_heap.specs.Given.{Given, IsGiven, script_of}
 use Rattle.locked_heap.specs.Progress.{progress_at, HasCome}
 use Rattle.locked_heap.specs.Recorded.{Recorded, EventsLeadTo, StandsStill, MakesInner, MakesTurn, collector_of}
-use Rattle.locked_heap.specs.Told.{EndsWithLeave}
+use Rattle.heap_model.specs.runs.Told.{EndsWithLeave}
 
 -- they lead from the opening that was given
 abbrev pub OpensAs : Given → Heap → State → List Event → Type 0

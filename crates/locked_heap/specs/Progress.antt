@@ -1,13 +1,14 @@
 -- How far a seat has come with its script.
-use Rattle.std.specs.Prelude.{◌≡◌, ◌≢◌, ℕ, ◌+◌, ◌-◌, ◌*◌, ◌^◌, ◌<◌, ◌≤◌, ◌⊎◌, Bool, true, false, if◌then◌else◌, List, [], ◌∷◌, ◌++◌, length, take, slice_get, slice_index_or, Option, Some, None, All}
+use Rattle.std.specs.Prelude.{◌≡◌, ◌≢◌, ℕ, ◌+◌, ◌*◌, ◌<◌, ◌≤◌, Bool, true, false, if◌then◌else◌, List, [], ◌∷◌, ◌++◌, length, take, slice_get, slice_index_or, Option, Some, None, All}
 use Rattle.heap_model.specs.declared.command.Command.{Command}
 use Rattle.heap_model.specs.declared.command.Command.TheVariants.{Collect, Leave}
 use Rattle.heap_model.specs.declared.entry.Entry.{Entry}
 use Rattle.heap_model.specs.PhasePlan.{cycle_phases}
+use Rattle.heap_model.specs.runs.Endings.{IsPaid}
+use Rattle.heap_model.specs.runs.Told.{commands_told, waits_told}
 use Rattle.core_machine.specs.seat.Seat.{Seat}
 use Rattle.locked_heap.specs.declared.progress.Progress.{Progress}
 use Rattle.locked_heap.specs.Given.{Given, script_of}
-use Rattle.locked_heap.specs.Told.{commands_told, waits_told}
 
 -- the seat has begun nothing
 abbrev pub at_begin : Progress
@@ -25,10 +26,6 @@ pub record HaveAllLeft (seats : ℕ) (came : List Progress) : Type 0 where
 -- the leave of a seat that has left
 abbrev pub leave_told : Bool → List Command
 leave_told gone = if gone then Leave ∷ [] else []
-
--- so many finds stand behind each of that many replies, or the finds are as many as are counted
-abbrev pub IsPaid : ℕ → ℕ → ℕ → Type 0
-IsPaid patience replies finds = (patience * replies ≤ finds) ⊎ (2 ^ 64 - 1 ≤ finds)
 
 -- the target is the first cycle that begins at the phase that the collect's first look loaded, or behind it; where there was no look there is no target
 abbrev pub IsTargetOf : Option ℕ → Option ℕ → Type 0

@@ -6,7 +6,8 @@ use Rattle.heap_model.specs.declared.heap.Heap.{Heap}
 use Rattle.heap_model.specs.account.Account.{IsLegal}
 use Rattle.locked_heap.specs.declared.ran.LockedRan.{LockedRan}
 use Rattle.locked_heap.specs.Given.{Given, script_of}
-use Rattle.locked_heap.specs.Ran.{EndsEmpty, IsRun}
+use Rattle.locked_heap.specs.Ran.{IsRun}
+use Rattle.heap_model.specs.runs.Endings.{EndsEmpty}
 use Rattle.locked_heap.proofs.HeapEntries.{run_of_heap}
 use Rattle.script_text.specs.declared.script.Script.{Script}
 use Rattle.schism_program.specs.Running.{seat_commands, run_history, IsRunOf}

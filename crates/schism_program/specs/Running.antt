@@ -1,15 +1,16 @@
 -- What a run of a script comes to.
-use Rattle.std.specs.Prelude.{◌≡◌, ℕ, ◌<◌, ◌==◌, Bool, true, false, if◌then◌else◌, List, [], ◌∷◌, ◌++◌, filter, None}
+use Rattle.std.specs.Prelude.{◌≡◌, ℕ, ◌<◌, ◌==◌, Bool, true, false, if◌then◌else◌, List, [], ◌∷◌, ◌++◌, None}
 use Rattle.std.specs.List.{AllByRecursion, flat_map}
 use Rattle.heap_model.specs.declared.command.Command.{Command}
 use Rattle.heap_model.specs.declared.command.Command.TheVariants.{Leave}
 use Rattle.heap_model.specs.declared.entry.Entry.{Entry}
 use Rattle.heap_model.specs.declared.heap.Heap.{Heap}
+use Rattle.heap_model.specs.Logs.{KeepsLogs}
 use Rattle.heap_model.specs.account.Account.{IsLegal}
-use Rattle.heap_model.specs.account.Effects.{is_of}
-use Rattle.heap_model.specs.account.Noting.{is_collectors}
 use Rattle.heap_model.specs.account.Space.{words_granted, words_returned}
 use Rattle.heap_model.specs.account.Turned.{is_of_heap}
+use Rattle.heap_model.specs.runs.Endings.{EndsEmpty}
+use Rattle.heap_model.specs.runs.Told.{commands_told}
 use Rattle.script_text.specs.declared.script.Form.TheVariants as forms
 use Rattle.script_text.specs.declared.script.Line.{Line}
 use Rattle.script_text.specs.declared.script.Line.TheVariants as lines
@@ -20,8 +21,6 @@ use Rattle.reply_text.specs.declared.history.History.{History}
 use Rattle.reply_text.specs.History.{history_lines}
 use Rattle.log_merge.specs.Legal.{IsLegalHistory}
 use Rattle.locked_heap.specs.declared.ran.LockedRan.{LockedRan}
-use Rattle.locked_heap.specs.Ran.{EndsEmpty}
-use Rattle.locked_heap.specs.Told.{commands_told}
 
 -- the command of the line, where the line is the seat's
 abbrev pub line_commands : ℕ → Line → List Command
@@ -31,11 +30,6 @@ line_commands number (lines.Turns command) = []
 -- the commands of the seat's lines, in their order
 abbrev pub seat_commands : ℕ → List Line → List Command
 seat_commands number script = flat_map (line_commands number) script
-
--- in both orders each seat's own entries stand in the same order, and so do the collector's
-pub record KeepsLogs (one other : List Entry) : Type 0 where
-  pub seats : (number : ℕ) → filter (is_of number) other ≡ filter (is_of number) one
-  pub collector : filter is_collectors other ≡ filter is_collectors one
 
 -- behind one lock the order itself is legal in full as a run; else some order of the same entries is that keeps each log's order
 abbrev pub IsLegalRun : Bool → Heap → List Entry → Type 0

@@ -1,4 +1,4 @@
--- What a history tells of one seat.
+-- What a history tells of the scripts that its seats were given.
 use Rattle.std.specs.Prelude.{◌≡◌, ℕ, ◌==◌, Bool, true, false, if◌then◌else◌, List, [], ◌∷◌, ◌++◌, length, filter}
 use Rattle.std.specs.List.{flat_map}
 use Rattle.heap_model.specs.declared.command.Command.{Command}

@@ -1,0 +1,16 @@
+-- The parties' parts of a history.
+use Rattle.std.specs.Prelude.{◌≡◌, ℕ, List, [], ◌∷◌, ◌++◌, map, filter}
+use Rattle.std.specs.List.{range_with_len}
+use Rattle.heap_model.specs.declared.entry.Entry.{Entry}
+use Rattle.heap_model.specs.declared.heap.Heap.{Heap}
+use Rattle.heap_model.specs.account.Effects.{is_of}
+use Rattle.heap_model.specs.account.Noting.{is_collectors}
+
+-- the logs that go together to the history: each seat's entries, and the collector's behind them
+abbrev pub logs_of : Heap → List Entry → List (List Entry)
+logs_of heap history = map (λ number. filter (is_of number) history) (range_with_len 0 heap.seats) ++ filter is_collectors history ∷ []
+
+-- in both orders each seat's own entries stand in the same order, and so do the collector's
+pub record KeepsLogs (one other : List Entry) : Type 0 where
+  pub seats : (number : ℕ) → filter (is_of number) other ≡ filter (is_of number) one
+  pub collector : filter is_collectors other ≡ filter is_collectors one
