@@ -12,6 +12,7 @@ use std::alloc::Global;
 use std::test::Fail;
 
 mod growing;
+mod one_table;
 mod pacing;
 
 /// The script that the text is.

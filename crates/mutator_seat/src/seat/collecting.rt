@@ -1,9 +1,10 @@
-ghost use Rattle.std.specs.Prelude.{◌≡◌, ◌≢◌, ◌<◌, ◌++◌, ◌∷◌, [], is_some, if◌then◌else◌};
+ghost use Rattle.std.specs.Prelude.{◌≡◌, ◌≢◌, ◌<◌, ◌++◌, ◌∷◌, ◌↔◌, [], is_some, IsTrue, if◌then◌else◌};
 ghost use Rattle.heap_model.specs.declared.calls.collect.Inner.TheVariants.{Look, Answer, Behind, Note};
 ghost use Rattle.heap_model.specs.declared.command.Command.TheVariants.{Collect};
 ghost use Rattle.heap_model.specs.declared.entry.Entry.TheVariants.{Said};
 ghost use Rattle.core_machine.specs.declared.step.Step.TheVariants.{PollLoad};
-ghost use Rattle.core_machine.specs.seat.Looks.{MayMake, MayNote, noted_reply, counted_once_more};
+ghost use Rattle.core_machine.specs.machine.Machine.{MayBeginInner};
+ghost use Rattle.core_machine.specs.seat.Looks.{MayMake, MayNote, noted_reply, counted_once_more, looked, seen_phase};
 ghost use Rattle.heap_table.specs.Made.{FoundIn};
 ghost use Rattle.mutator_seat.specs.InnerCalls.{MayCollect, MakesInner, ByInner, ShowsBehind, newly_answered, shown_of, behind_of};
 ghost use Rattle.mutator_seat.specs.Resting.{seat_state};
@@ -14,6 +15,13 @@ use core_machine::{FoundBehind, ShowsLast};
 use heap_model::{CollectReply, Inner};
 
 impl<L: ShowsLast> Seat<L> {
+    /// Whether the seat may make the inner call now: it hasn't left, asks another seat of the heap, and notes only what it has found.
+    pub fn may_make(&self, inner: &Inner) -> bool
+        ensures { IsTrue result ↔ MayBeginInner self.now.heap self.now.number self.now.seat inner.now }
+    {
+        self.holder.may_begin_inner(inner)
+    }
+
     /// Makes an inner call of a collect, step by step, while others may step between any two.
     fn make_inner(&mut self, inner: Inner)
         requires ready { MayCollect (seat_state self.old) }
@@ -31,6 +39,7 @@ impl<L: ShowsLast> Seat<L> {
         requires { MayCollect (seat_state self.old) }
         ensures made { MakesInner self.old self.new Look }
         ensures loaded { ByInner self.old self.new Look (λ made. FoundIn made PollLoad result) }
+        ensures looks { self.new.seat.looks ≡ looked result self.old.seat.looks }
         ensures untold { self.new.seat.mine ≡ self.old.seat.mine }
         ensures waits { self.new.seat.looks.waits ≡ self.old.seat.looks.waits }
     {
@@ -45,6 +54,7 @@ impl<L: ShowsLast> Seat<L> {
         ensures loaded { ByInner self.old self.new Answer (λ made. FoundIn made PollLoad result) }
         ensures told { self.new.seat.mine ≡ self.old.seat.mine ++ newly_answered self.old.number self.old.seat.answered result }
         ensures answered { self.new.seat.answered ≡ result }
+        ensures looks { self.new.seat.looks ≡ seen_phase result self.old.seat.looks }
         ensures waits { self.new.seat.looks.waits ≡ self.old.seat.looks.waits }
     {
         self.make_inner(Inner::Answer);
@@ -58,6 +68,7 @@ impl<L: ShowsLast> Seat<L> {
         ensures made { MakesInner self.old self.new (Behind other) }
         ensures shown { ByInner self.old self.new (Behind other) (λ made. ShowsBehind made other result) }
         ensures found { self.new.seat.looks.behind ≡ behind_of other result }
+        ensures first { self.new.seat.looks.first ≡ self.old.seat.looks.first }
         ensures untold { self.new.seat.mine ≡ self.old.seat.mine }
         ensures waits { self.new.seat.looks.waits ≡ (if is_some result then counted_once_more self.old.seat.looks.waits else self.old.seat.looks.waits) }
     {
