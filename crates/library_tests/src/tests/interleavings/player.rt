@@ -18,6 +18,17 @@ pub(super) struct Player {
     awaited: Option<usize>,
 }
 
+/// The command; half of those on fields are on one field of the board, which all seats share, and half of those that look at no field bring something there.
+fn on_shared(command: Command) -> Command {
+    match command {
+        Command::Get { d, i, .. } if i < 4 => Command::Get { d, r: 0, i: 0 },
+        Command::Set { i, v, .. } if i < 4 => Command::Set { r: 0, i: 0, v },
+        Command::Num { d, n } if n % 2 == 0 => Command::Copy { d, r: 0 },
+        Command::Same { a, .. } if a % 2 == 0 => Command::Set { r: 0, i: 0, v: a },
+        other => other,
+    }
+}
+
 /// The seat's commands among these lines, and that it leaves; the last one first.
 fn commands_of(alloc: Global, lines: &[Line], number: u8) -> Result<Vec<Command>, Memory> {
     let mut commands = Vec::new(alloc);
@@ -25,7 +36,7 @@ fn commands_of(alloc: Global, lines: &[Line], number: u8) -> Result<Vec<Command>
     for line in lines.iter().rev() {
         if let Line::Seat { seat, command } = *line {
             if seat == number {
-                commands.push(command)?;
+                commands.push(on_shared(command))?;
             }
         }
     }
