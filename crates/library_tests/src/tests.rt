@@ -3,6 +3,7 @@
 mod checks;
 mod comparing;
 mod histories;
+mod interleavings;
 mod machine;
 mod paces;
 mod scripts;

@@ -1,0 +1,85 @@
+ghost use Rattle.heap_model.specs.Heap.{IsHeap};
+
+use super::player::Told;
+use heap_model::{Account, ApplyFault, Entry, Graph, Heap, Memory};
+use heap_table::Closed;
+use std::alloc::Global;
+
+/// What is wrong with a play.
+#[derive(Clone, Copy, Debug, PartialEq)]
+pub(super) enum Fault {
+    /// The entry at this place may not stand there.
+    NotLegal(usize),
+    /// The log at this place has other entries than its party told.
+    OtherLog(usize),
+    /// Something is in use at the end.
+    InUse,
+}
+
+/// Counts the entry in both books, if it may stand there in a run.
+fn accepts(graph: &mut Graph, account: &mut Account, entry: &Entry) -> Result<bool, Memory> {
+    if account.entries() >= MOST_ENTRIES || !account.has_seat(entry) {
+        return Ok(false);
+    }
+    let counted = match account.apply(graph, entry, false) {
+        Ok(()) => graph.apply(entry),
+        Err(fault) => Err(fault),
+    };
+    match counted {
+        Ok(()) => Ok(true),
+        Err(ApplyFault::NotLegal) => Ok(false),
+        Err(ApplyFault::Memory) => Err(Memory),
+    }
+}
+
+/// More entries than a play here has.
+const MOST_ENTRIES: u64 = 1_000_000;
+
+/// The first entry that may not stand where it came, or that something is in use at the end.
+fn fault_among(alloc: Global, heap: Heap, told: &Told) -> Result<Option<Fault>, Memory>
+    requires { IsHeap heap }
+{
+    let mut graph = Graph::new(alloc, heap)?;
+    let mut account = Account::new(alloc, heap)?;
+    for (place, entry) in told.iter().enumerate() {
+        let Some(entry) = entry else {
+            return Ok(Some(Fault::NotLegal(place)));
+        };
+        if !accepts(&mut graph, &mut account, entry)? {
+            return Ok(Some(Fault::NotLegal(place)));
+        }
+    }
+    if account.used() > 0 || account.spine() > 0 {
+        return Ok(Some(Fault::InUse));
+    }
+    Ok(None)
+}
+
+/// Whether the party's entries are exactly these.
+fn has_told(told: &Told, party: Option<u8>, log: &[Entry]) -> bool {
+    let mut rest = log.iter();
+    for entry in told.iter().flatten() {
+        if entry.seat() == party && rest.next() != Some(entry) {
+            return false;
+        }
+    }
+    rest.next().is_none()
+}
+
+/// What is wrong with a play that has told this, if anything is.
+pub(super) fn fault_in(
+    alloc: Global,
+    heap: Heap,
+    told: &Told,
+    closed: &Closed,
+) -> Result<Option<Fault>, Memory>
+    requires { IsHeap heap }
+{
+    for (place, log) in closed.logs().iter().enumerate() {
+        let party = u8::try_from(place).ok().filter(|&seat| seat < heap.seats);
+        if !has_told(told, party, log.as_slice()) {
+            return Ok(Some(Fault::OtherLog(place)));
+        }
+    }
+    fault_among(alloc, heap, told)
+}
