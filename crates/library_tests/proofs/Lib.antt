@@ -2,4 +2,5 @@ pub mod LoneCalls
 pub mod LoneEntries
 pub mod LoneLemmas
 pub mod LoneLists
+pub mod Parts
 pub mod Popped

@@ -5,6 +5,7 @@ mod comparing;
 mod histories;
 mod machine;
 mod paces;
+mod parts;
 mod scripts;
 mod streams;
 mod table;
