@@ -6,6 +6,7 @@ mod histories;
 mod interleavings;
 mod machine;
 mod paces;
+mod parts;
 mod scripts;
 mod streams;
 mod table;

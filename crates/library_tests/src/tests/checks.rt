@@ -20,8 +20,8 @@ fn checked(alloc: Global, text: &str) -> Result<Result<u64, CheckFault>, ScriptF
     Ok(check(alloc, &history))
 }
 
-// The one entry that the line is in a play.
-fn entry_of(alloc: Global, line: &str) -> Result<Entry, Fail> {
+/// The one entry that the line is in a play.
+pub(super) fn entry_of(alloc: Global, line: &str) -> Result<Entry, Fail> {
     let text = format!(in alloc;
         "history 1 play\nheap 1 0 16\n{line}\nspace used 0 of 0 spine 0 of 0\nend used 0\n"
     )?;

@@ -5,6 +5,7 @@ ghost use Rattle.heap_model.specs.Heap.{IsHeap};
 ghost use Rattle.library_tests.specs.SameSeat.{IsSameSeat};
 
 use super::comparing::{holds, same};
+use super::parts::make_long_record;
 use core_machine::Log;
 use heap_model::{Command, Entry, Heap, Memory, Reply};
 use heap_table::{Closed, CollectorHolder, HeapTable, Holder};
@@ -33,13 +34,33 @@ fn call(holder: &mut Holder, command: Command) -> Result<(), Memory>
     Ok(())
 }
 
-/// Makes so many records of two fields, and leaves.
-fn make_records(holder: Holder, records: u32) -> Result<Holder, Memory>
+/// What a seat does before it leaves.
+#[derive(Clone, Copy)]
+pub(super) enum Task {
+    /// So many records of two fields.
+    Records(u32),
+    /// One record of forty-seven, part by part.
+    LongRecord,
+}
+
+/// Makes so many records of two fields.
+fn make_records(holder: &mut Holder, records: u32) -> Result<(), Memory>
+    ensures { IsSameSeat holder.old holder.new }
+{
+    for _ in 0..records {
+        call(holder, Command::New { d: 1, fields: 2 })?;
+    }
+    Ok(())
+}
+
+/// Does its task, and leaves.
+fn work(holder: Holder, task: Task) -> Result<Holder, Memory>
     ensures { IfOk result (IsSameSeat holder) }
 {
     let mut holder = holder;
-    for _ in 0..records {
-        call(&mut holder, Command::New { d: 1, fields: 2 })?;
+    match task {
+        Task::Records(records) => make_records(&mut holder, records)?,
+        Task::LongRecord => make_long_record(&mut holder)?,
     }
     call(&mut holder, Command::Leave)?;
     Ok(holder)
@@ -71,11 +92,12 @@ fn fold(collector: &mut CollectorHolder, holder: Holder)
     }
 }
 
-/// Two seats make twenty records each, in a thread each.
+/// Two seats do the task, in a thread each.
 fn in_two_threads<R: Threads>(
     rt: &R,
     first: Holder,
     second: Holder,
+    task: Task,
 ) -> (Result<Holder, Memory>, Result<Holder, Memory>)
     ensures first { IfOk result.0 (IsSameSeat first) }
     ensures second { IfOk result.1 (IsSameSeat second) }
@@ -84,15 +106,20 @@ fn in_two_threads<R: Threads>(
         rt,
         move || -> Result<Holder, Memory>
             ensures { IfOk result (IsSameSeat first) }
-        { make_records(first, 20) },
+        { work(first, task) },
         move || -> Result<Holder, Memory>
             ensures { IfOk result (IsSameSeat second) }
-        { make_records(second, 20) },
+        { work(second, task) },
     )
 }
 
 /// Two seats of a heap work so; then all is closed.
-fn run_two<R: Threads>(rt: &R, alloc: Global, heap: Heap) -> Result<Option<Closed>, Memory>
+pub(super) fn run_two<R: Threads>(
+    rt: &R,
+    alloc: Global,
+    heap: Heap,
+    task: Task,
+) -> Result<Option<Closed>, Memory>
     requires { IsHeap heap }
 {
     let (mut holders, mut collector) = HeapTable::make::<Log, Log>(alloc, heap)?;
@@ -102,7 +129,7 @@ fn run_two<R: Threads>(rt: &R, alloc: Global, heap: Heap) -> Result<Option<Close
     let Some(first) = holders.pop() else {
         return Ok(None);
     };
-    let (one, other) = in_two_threads(rt, first, second);
+    let (one, other) = in_two_threads(rt, first, second, task);
     let one = one?;
     let other = other?;
     fold(&mut collector, one);
@@ -119,7 +146,7 @@ fn run_two<R: Threads>(rt: &R, alloc: Global, heap: Heap) -> Result<Option<Close
 #[test]
 fn two_threads_make_forty_records(rt: HostRuntime) -> Result<(), Fail> {
     let heap = Heap::make(8, 0, 2).ok_or("the limits")?;
-    let closed = run_two(&rt, rt.alloc(), heap)?.ok_or("a seat hasn't left")?;
+    let closed = run_two(&rt, rt.alloc(), heap, Task::Records(20))?.ok_or("a seat hasn't left")?;
     let logs = closed.logs();
     same(&rt, &logs.len(), &3, &"the logs");
     let all: usize = logs

@@ -1,0 +1,213 @@
+//! Arrays are made part by part and a cell of one is reached through its spine, and spine words are refused.
+
+ghost use Rattle.std.specs.Prelude.{◌≡◌, ◌≤◌, []};
+ghost use Rattle.heap_model.specs.declared.command.Command.TheVariants.{Array};
+ghost use Rattle.heap_model.specs.Needs.{spine_need_of};
+ghost use Rattle.core_machine.specs.declared.place.Making.TheVariants.{Refusing};
+ghost use Rattle.core_machine.specs.declared.place.Place.TheVariants.{Making};
+
+use super::{kept, lone_seat, no_fragments, tells};
+use crate::tests::comparing::{holds, same};
+use array_spine::{Budget, SpineFull, bear_array, cell_at, drop_budget, take_budget};
+use core_machine::{Access, AccessStep, Step};
+use frag_claim::{Hand, gather};
+use heap_model::{Command, Entry, Id, Memory};
+use heap_table::Holder;
+use object_chain::Place;
+use std::test::Fail;
+
+/// Takes back the words of an array of so many cells, for which fragments were too few.
+fn give_words_back(holder: &mut Holder, budget: Budget, cells: u16)
+    requires refusing { holder.old.seat.place ≡ Making Refusing }
+    requires words { spine_need_of (Array 1 cells) ≡ budget.words }
+    requires room { 2 ≤ holder.old.spare }
+{
+    if holder.party().command() == (Command::Array { d: 1, cells }) {
+        drop_budget(holder, budget);
+    }
+}
+
+/// Makes an array of so many cells for register 1, part by part, or tells that its spine words are refused; none where it may not be begun, or
+/// fragments are too few.
+fn make_array(
+    holder: &mut Holder,
+    hand: &mut Hand,
+    cells: u16,
+    words: u16,
+) -> Result<Option<Result<Id, SpineFull>>, Memory>
+    requires words { spine_need_of (Array 1 cells) ≡ words }
+    requires few { words ≤ 1024 }
+    requires empty { hand.old.fragments.items ≡ [] }
+{
+    let command = Command::Array { d: 1, cells };
+    let need = words + 1;
+    holder.room(2 * usize::from(need) + 4)?;
+    if !holder.may_begin(&command) {
+        return Ok(None);
+    }
+    holder.begin(command);
+    // What is true of every seat's data is known from here on.
+    let _ = holder.party();
+    let mut reserve = kept(holder);
+    let budget = match take_budget(holder, words) {
+        Ok(budget) => budget,
+        Err(full) => return Ok(Some(Err(full))),
+    };
+    match gather(holder, &mut reserve, hand, need) {
+        Ok(()) => {
+            let id = bear_array(holder, hand.fragments.as_slice(), cells, budget, 1);
+            Ok(Some(Ok(id)))
+        }
+        Err(_) => {
+            give_words_back(holder, budget, cells);
+            Ok(None)
+        }
+    }
+}
+
+/// Begins a get of the cell of the array in register 1, and goes to it; none where it has no such cell.
+fn reach_cell(holder: &mut Holder, cell: u16) -> Result<Option<Place>, Memory> {
+    let command = Command::Get {
+        d: 2,
+        r: 1,
+        i: u32::from(cell),
+    };
+    holder.room(4)?;
+    if !holder.may_begin(&command) {
+        return Ok(None);
+    }
+    holder.begin(command);
+    let Some(open) = holder.due() else {
+        return Ok(None);
+    };
+    holder.step(&open);
+    holder.room(3)?;
+    let party = holder.party();
+    let core_machine::Place::Access(Access::Locating) = party.place() else {
+        return Ok(None);
+    };
+    let Command::Get { i, .. } = party.command() else {
+        return Ok(None);
+    };
+    if i != u32::from(cell) || u16::from(party.part()) != cell % 4 {
+        return Ok(None);
+    }
+    let sentinel = party.reached();
+    Ok(Some(cell_at(holder, sentinel, cell)))
+}
+
+/// The array gets the five free fragments of the first group and all four spine words: the next asks for one in vain.
+#[test]
+fn the_second_array_has_no_spine_words(rt: HostRuntime) -> Result<(), Fail> {
+    let mut holder = lone_seat(rt.alloc(), 2, 4)?;
+    let mut hand = no_fragments();
+    let made = make_array(&mut holder, &mut hand, 16, 4)?;
+    same(
+        &rt,
+        &made,
+        &Some(Ok(Id::Made { seat: 0, count: 0 })),
+        &"the id",
+    );
+    same(
+        &rt,
+        &hand.fragments.as_slice(),
+        &[11, 12, 13, 14, 15].as_slice(),
+        &"the hand",
+    );
+    let again = make_array(&mut holder, &mut no_fragments(), 1, 1)?;
+    same(
+        &rt,
+        &again,
+        &Some(Err(SpineFull { need: 1, used: 4 })),
+        &"the refusal",
+    );
+    tells(
+        &rt,
+        rt.alloc(),
+        holder.log(),
+        &[
+            "0 takes 5",
+            "0 array 1 16 = 0.0",
+            "0 array 1 1 = spine need 1 used 4",
+        ],
+    )
+}
+
+/// A heap without spine words refuses every array.
+#[test]
+fn no_array_without_spine_words(rt: HostRuntime) -> Result<(), Fail> {
+    let mut holder = lone_seat(rt.alloc(), 2, 0)?;
+    let mut hand = no_fragments();
+    let made = make_array(&mut holder, &mut hand, 4, 1)?;
+    same(
+        &rt,
+        &made,
+        &Some(Err(SpineFull { need: 1, used: 0 })),
+        &"the refusal",
+    );
+    holds(&rt, hand.fragments.is_empty(), &"the hand");
+    tells(
+        &rt,
+        rt.alloc(),
+        holder.log(),
+        &["0 array 1 4 = spine need 1 used 0"],
+    )
+}
+
+/// An array of twenty cells has six fragments, of which five are free: its five spine words are taken back, so that four of the eight are granted afterwards.
+#[test]
+fn an_array_without_fragments_gives_its_words_back(rt: HostRuntime) -> Result<(), Fail> {
+    let mut holder = lone_seat(rt.alloc(), 1, 8)?;
+    let mut hand = no_fragments();
+    let made = make_array(&mut holder, &mut hand, 20, 5)?;
+    same(&rt, &made, &None, &"the refusal");
+    tells(
+        &rt,
+        rt.alloc(),
+        holder.log(),
+        &[
+            "0 takes 5",
+            "0 gives back 5",
+            "0 array 1 20 = full need 6 found 5",
+        ],
+    )?;
+    let again = make_array(&mut holder, &mut no_fragments(), 16, 4)?;
+    same(
+        &rt,
+        &again,
+        &Some(Ok(Id::Made { seat: 0, count: 0 })),
+        &"the id",
+    );
+    Ok(())
+}
+
+/// The largest array has 1,025 fragments: five of the first group and sixteen of each of 64 more, of which the last gives four to the reserve.
+#[test]
+fn the_largest_array_is_reached(rt: HostRuntime) -> Result<(), Fail> {
+    let mut holder = lone_seat(rt.alloc(), 66, 1024)?;
+    let mut hand = no_fragments();
+    let made = make_array(&mut holder, &mut hand, 4096, 1024)?;
+    same(
+        &rt,
+        &made,
+        &Some(Ok(Id::Made { seat: 0, count: 0 })),
+        &"the id",
+    );
+    same(&rt, &holder.log().len(), &66, &"the entries");
+    let takes = Entry::Takes { seat: 0, count: 16 };
+    let whole = holder.log().iter().filter(|entry| **entry == takes).count();
+    same(&rt, &whole, &64, &"the whole groups");
+    let last = reach_cell(&mut holder, 4095)?;
+    same(
+        &rt,
+        &last,
+        &Some(Place {
+            fragment: 1035,
+            part: 3,
+        }),
+        &"the last cell",
+    );
+    let first = reach_cell(&mut holder, 0)?;
+    same(&rt, &first, &None, &"a get before the last one is over");
+    Ok(())
+}

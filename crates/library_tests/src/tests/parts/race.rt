@@ -1,0 +1,81 @@
+//! Two seats race for the last group in threads of their own: one gets it, and the other is refused.
+
+ghost use Rattle.heap_model.specs.Heap.{IsHeap};
+
+use crate::tests::comparing::{holds, same};
+use crate::tests::table::{Task, run_two};
+use heap_model::{Account, ApplyFault, Entry, Graph, Heap, Reply};
+use std::alloc::Global;
+use std::process::Abort;
+use std::test::Fail;
+
+/// How often they race.
+const RACES: u32 = 50;
+
+/// How many of the entries tell that fragments are too few.
+fn refusals(log: &[Entry]) -> usize {
+    log.iter()
+        .filter(|entry| {
+            matches!(
+                entry,
+                Entry::Said {
+                    reply: Reply::Full { .. },
+                    ..
+                }
+            )
+        })
+        .count()
+}
+
+/// Whether the entries may stand in a run, those of one seat behind all of the other's.
+fn may_follow(
+    rt: &impl Abort,
+    alloc: Global,
+    heap: Heap,
+    first: &[Entry],
+    second: &[Entry],
+) -> Result<bool, Fail>
+    requires { IsHeap heap }
+{
+    let mut graph = Graph::new(alloc, heap)?;
+    let mut account = Account::new(alloc, heap)?;
+    for entry in first.iter().chain(second) {
+        holds(rt, account.entries() < 1 << 32, &"an entry");
+        holds(rt, account.has_seat(entry), &"an entry");
+        match account.apply(&graph, entry, false) {
+            Ok(()) => (),
+            Err(ApplyFault::NotLegal) => return Ok(false),
+            Err(ApplyFault::Memory) => return Err("memory".into()),
+        }
+        graph.apply(entry)?;
+    }
+    Ok(true)
+}
+
+/// A heap of two groups has five fragments free in the first and sixteen in the second, and each seat asks for sixteen, one beginning at either group. So
+/// whoever claims the second group has its record, and the other is refused.
+#[test]
+fn one_of_two_gets_the_last_group(rt: HostRuntime) -> Result<(), Fail> {
+    let heap = Heap::make(2, 0, 2).ok_or("the limits")?;
+    for _ in 0..RACES {
+        let closed = run_two(&rt, rt.alloc(), heap, Task::LongRecord)?.ok_or("a seat hasn't left")?;
+        let logs = closed.logs();
+        let [one, other, _] = logs else {
+            return Err("the logs".into());
+        };
+        let lost = (refusals(one.as_slice()), refusals(other.as_slice()));
+        holds(&rt, lost == (0, 1) || lost == (1, 0), &"the refusals");
+        let legal = if lost == (0, 1) {
+            may_follow(&rt, rt.alloc(), heap, one.as_slice(), other.as_slice())?
+        } else {
+            may_follow(&rt, rt.alloc(), heap, other.as_slice(), one.as_slice())?
+        };
+        same(
+            &rt,
+            &legal,
+            &true,
+            &"the order in which the refused one comes last",
+        );
+    }
+    Ok(())
+}

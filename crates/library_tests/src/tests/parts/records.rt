@@ -1,0 +1,120 @@
+//! A record of many fields is made and its last field is reached, and one is refused.
+
+use super::{lone_seat, make_record, no_fragments, tells};
+use crate::tests::comparing::{holds, same};
+use core_machine::{Access, AccessStep, Step};
+use heap_model::{Command, Full, Id, Memory};
+use heap_table::Holder;
+use heap_words::{Meta, array_length, link_in};
+use object_chain::{Place, walk};
+use std::test::Fail;
+
+/// Begins a get of a field of the record in register 1, and goes to it; none where there is no such record or field.
+fn reach_field(holder: &mut Holder, field: u16) -> Result<Option<Place>, Memory> {
+    let get = Command::Get {
+        d: 2,
+        r: 1,
+        i: u32::from(field),
+    };
+    holder.room(2)?;
+    if !holder.may_begin(&get) {
+        return Ok(None);
+    }
+    holder.begin(get);
+    let party = holder.party();
+    let (core_machine::Place::Access(Access::LoadingMeta), Command::Get { i, .. }) = (
+        party.place(),
+        party.command(),
+    ) else {
+        return Ok(None);
+    };
+    if i != u32::from(field) {
+        return Ok(None);
+    }
+    let head = party.reached();
+    let word = holder.step(&Step::Access(AccessStep::WalkLoad { fragment: head }));
+    let meta = Meta {
+        array: false,
+        length: Meta::length_in(word),
+        next: link_in(word),
+    };
+    if array_length(word).is_some() || meta.length <= field {
+        return Ok(None);
+    }
+    holder.room(3)?;
+    Ok(Some(walk(holder, head, meta, field)))
+}
+
+/// The board has fragments 0 to 10, so a seat that begins at group 0 gets 11 to 15 there, and the next group's sixteen.
+#[test]
+fn a_long_record_is_made(rt: HostRuntime) -> Result<(), Fail> {
+    let mut holder = lone_seat(rt.alloc(), 4, 0)?;
+    let mut hand = no_fragments();
+    let made = make_record(&mut holder, &mut hand, 47, 16)?;
+    same(
+        &rt,
+        &made,
+        &Some(Ok(Id::Made { seat: 0, count: 0 })),
+        &"the id",
+    );
+    let first = [
+        11, 12, 13, 14, 15, 16, 17, 18, 19, 20, 21, 22, 23, 24, 25, 26,
+    ];
+    same(
+        &rt,
+        &hand.fragments.as_slice(),
+        &first.as_slice(),
+        &"the hand",
+    );
+    same(
+        &rt,
+        &holder.party().reserve(),
+        &[27, 28, 29, 30, 31].as_slice(),
+        &"the reserve",
+    );
+    same(&rt, &holder.party().cursor(), &1, &"the cursor");
+    tells(
+        &rt,
+        rt.alloc(),
+        holder.log(),
+        &["0 takes 5", "0 takes 16", "0 new 1 47 = 0.0"],
+    )?;
+    // Behind the head's two fields each chain fragment has three, so the last is in the fifteenth, which comes behind the head.
+    let last = reach_field(&mut holder, 46)?;
+    same(
+        &rt,
+        &last,
+        &Some(Place {
+            fragment: 26,
+            part: 3,
+        }),
+        &"the last field",
+    );
+    Ok(())
+}
+
+/// The one free group part has five fragments, and sixteen are needed.
+#[test]
+fn a_long_record_is_refused(rt: HostRuntime) -> Result<(), Fail> {
+    let mut holder = lone_seat(rt.alloc(), 1, 0)?;
+    let mut hand = no_fragments();
+    let made = make_record(&mut holder, &mut hand, 47, 16)?;
+    same(
+        &rt,
+        &made,
+        &Some(Err(Full { need: 16, found: 5 })),
+        &"the refusal",
+    );
+    holds(&rt, hand.fragments.is_empty(), &"the hand");
+    holds(&rt, holder.party().reserve().is_empty(), &"the reserve");
+    tells(
+        &rt,
+        rt.alloc(),
+        holder.log(),
+        &[
+            "0 takes 5",
+            "0 gives back 5",
+            "0 new 1 47 = full need 16 found 5",
+        ],
+    )
+}
