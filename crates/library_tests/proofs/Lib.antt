@@ -1,5 +1,2 @@
-pub mod LoneCalls
-pub mod LoneEntries
-pub mod LoneLemmas
-pub mod LoneLists
+pub mod FirstCalls
 pub mod Popped
