@@ -1,7 +1,4 @@
-pub mod LoneCalls
-pub mod LoneEntries
-pub mod LoneLemmas
-pub mod LoneLists
+pub mod FirstCalls
 pub mod Parts
 pub mod Players
 pub mod Popped

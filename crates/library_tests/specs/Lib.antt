@@ -1,2 +1,1 @@
-pub mod LoneSeat
 pub mod SameSeat

@@ -1,20 +1,22 @@
-//! The calls of a seat by their trait, on a small seat that is alone on its heap.
+//! The calls of a seat by their trait, on a seat of a table that is alone there.
 
-ghost use Rattle.std.specs.Prelude.{◌≡◌, ◌+◌, ◌*◌, ◌<◌, ◌≤◌, ◌^◌, false, length, IsTrue};
-ghost use Rattle.heap_model.specs.calls.SeatCalls.{IsReady};
+ghost use Rattle.std.specs.Prelude.{◌≡◌, ◌+◌, ◌*◌, ◌<◌, ◌≤◌, ◌^◌, false, length};
 ghost use Rattle.heap_model.specs.calls.SeatState.{own_graph_seat};
 
 use crate::tests::comparing::{holds, same};
-use heap_model::{Command, Entry, SeatCalls, seat_laws};
-use lone::Lone;
+use heap_model::{SeatCalls, seat_laws};
+use opening::opening;
+use playing::{parted, play};
 use reply_text::read_history;
 use std::test::Fail;
 
-mod lone;
+mod calling;
+mod opening;
+mod playing;
 
 /// What a seat does that is alone on a heap of one group and six spine words, and how many objects it has made and sets
 /// it has done then. The board leaves 5 fragments.
-const STORIES: [(&str, u32, u32); 4] = [
+const STORIES: [(&str, u32, u32); 5] = [
     // A record of 15 fields has 6 fragments, and so has an array of 17 cells. All that is free is claimed at once.
     (
         "0 takes 5\n\
@@ -87,75 +89,49 @@ const STORIES: [(&str, u32, u32); 4] = [
         0,
         1,
     ),
+    // An array of 5 cells has 3 fragments and 2 spine words. What is set in a cell is read from it.
+    (
+        "0 takes 5\n\
+         0 array 1 5 = 0.0\n\
+         0 num 2 7 = ok\n\
+         0 set 1 4 2 = was -\n\
+         0 get 3 1 4 = number 7 at 0:1\n\
+         0 same 2 3 = yes\n\
+         0 set 1 4 1 = was 0:1\n\
+         0 get 3 1 4 = object 0.0 at 0:2\n\
+         0 len 3 = 5\n\
+         0 same 1 3 = yes\n\
+         0 set 0 0 3 = was -\n\
+         0 get 4 0 0 = object 0.0 at 0:3\n\
+         0 gives back 2\n\
+         0 leave = ok\n\
+         space used 14 of 16 spine 2 of 6\n\
+         end used 14\n",
+        1,
+        3,
+    ),
 ];
-
-/// Whether the seat may be called by the command.
-fn may_call<S: SeatCalls>(seat: &S, command: &Command) -> bool
-    ensures { IsTrue result → IsReady (S.state seat.now) command.now }
-{
-    let room = 2 * command.need() as usize + 4;
-    let counts = seat.names_left() > 0 && seat.stamps_left() > 0;
-    command.is_in_range() && !seat.left() && seat.spare() >= room && counts
-}
-
-/// Calls the seat by the command.
-fn call<S: SeatCalls>(seat: &mut S, command: Command)
-    requires { IsReady (S.state seat.old) command }
-{
-    match command {
-        Command::New { d, fields } => {
-            let _ = seat.new_record(d, fields);
-        }
-        Command::Array { d, cells } => {
-            let _ = seat.new_array(d, cells);
-        }
-        Command::Get { d, r, i } => {
-            let _ = seat.get(d, r, i);
-        }
-        Command::Set { r, i, v } => {
-            let _ = seat.set(r, i, v);
-        }
-        Command::Num { d, n } => seat.num(d, n),
-        Command::Nil { d } => seat.nil(d),
-        Command::Copy { d, r } => seat.copy(d, r),
-        Command::Same { a, b } => {
-            let _ = seat.same(a, b);
-        }
-        Command::Len { r } => {
-            let _ = seat.len(r);
-        }
-        Command::Poll => {
-            let _ = seat.poll();
-        }
-        Command::Collect => {}
-        Command::Leave => seat.leave(),
-    }
-}
 
 #[test]
 fn does_as_told(rt: HostRuntime) -> Result<(), Fail> {
     let alloc = rt.alloc();
     for (story, made, sets) in STORIES {
         let text = format!(in alloc; "history 1 play\nheap 1 6 1\n{story}")?;
-        let mut seat = Lone::new(alloc)?;
-        let mut wanted = Vec::new(alloc);
-        for entry in read_history(alloc, text.as_bytes())?.entries.as_slice() {
-            if let Entry::Advance(_) = *entry {
-                seat.begin_phase();
-                continue;
-            }
-            wanted.push(*entry)?;
-            let Entry::Said { command, .. } = *entry else {
-                continue;
-            };
-            seat.room(100)?;
-            holds(&rt, may_call(&seat, &command), &story);
-            call(&mut seat, command);
-        }
+        holds(&rt, super::checked(alloc, &text)?.is_ok(), &story);
+        let history = read_history(alloc, text.as_bytes())?;
+        let (wanted, phases) = parted(alloc, history.entries.as_slice())?;
+        let (mut seat, mut collector) = opening(alloc)?;
+        play(
+            &rt,
+            &mut seat,
+            &mut collector,
+            history.entries.as_slice(),
+            story,
+        )?;
         same(&rt, &seat.log(), &wanted.as_slice(), &story);
+        same(&rt, &collector.log(), &phases.as_slice(), &story);
         same(&rt, &seat.names_left(), &(u32::MAX - made), &story);
         same(&rt, &seat.stamps_left(), &(67108863 - sets), &story);
-        holds(&rt, super::checked(alloc, &text)?.is_ok(), &story);
     }
     Ok(())
 }
@@ -186,7 +162,7 @@ fn make_and_poll<S: SeatCalls>(seat: &mut S)
 
 #[test]
 fn finds_its_room(rt: HostRuntime) -> Result<(), Fail> {
-    let mut seat = Lone::new(rt.alloc())?;
+    let (mut seat, _) = opening(rt.alloc())?;
     seat.room(16)?;
     holds(&rt, !seat.left() && seat.names_left() > 0, &"the beginning");
     make_and_poll(&mut seat);
