@@ -28,13 +28,14 @@ struct Table {
 
 impl Model for Table {
     ghost use Rattle.heap_table.specs.CollectorHeld.{CollectorHeld};
-    ghost use Rattle.library_tests.specs.SameSeat.{AreOfTable};
+    ghost use Rattle.std.specs.Prelude.{All};
+    ghost use Rattle.library_tests.specs.SameSeat.{IsOfTable};
 
     ghost Value = { CollectorHeld };
 
     ghost view = { λ table. table.collector };
 
-    ghost invariant = { λ table. AreOfTable table.collector table.players.items };
+    ghost invariant = { λ table. All (λ player. IsOfTable table.collector player.holder) table.players.items };
 }
 
 impl Table {
