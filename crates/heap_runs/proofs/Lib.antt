@@ -1,10 +1,12 @@
 pub mod Answering
 pub mod ArrayCalls
 pub mod Beside
+pub mod Behind
 pub mod Between
 pub mod Bounds
 pub mod Calling
 pub mod Collecting
+pub mod Folding
 pub mod Following
 pub mod Growing
 pub mod LastCycle

@@ -5,3 +5,4 @@ pub mod MachineHeap
 pub mod Play
 pub mod Playing
 pub mod Collecting
+pub mod Finishing
