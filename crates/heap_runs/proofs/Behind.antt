@@ -17,7 +17,7 @@ use Rattle.heap_model.specs.account.Windows.{up_to_cycle}
 use Rattle.core_rule.proofs.entries.PhaseEntries.{seats_phase}
 use Rattle.core_rule.proofs.runs.Plays.{keeps_there}
 use Rattle.heap_table.specs.Folded.{SeatsBefore}
-use Rattle.locked_heap.proofs.LastCycle.{left_before}
+use Rattle.heap_record.proofs.LastCycle.{left_before}
 use Rattle.heap_runs.specs.Finishing.{EndsBehindLeaves}
 
 -- the list is parted at an element that passes the test

@@ -1,6 +1,7 @@
 //! Heaps that plays are made on: whole calls of seats and turns of the collector, one after another.
 #![tactic(auto)]
 
+mod finishing;
 mod machine_heap;
 mod play_collector;
 mod play_heap;
