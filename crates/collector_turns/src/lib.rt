@@ -2,6 +2,7 @@
 #![tactic(auto)]
 
 mod collector;
+mod rooming;
 mod turning;
 
 pub use collector::Collector;

@@ -18,7 +18,7 @@ use Rattle.heap_runs.specs.Play.{AreTurns}
 use Rattle.heap_runs.specs.PlayHeap.{PlayState, seat_state_of}
 use Rattle.heap_runs.specs.Playing.{NotesCall, NotesSeatLine, NotesTurns, IsThere, DoesFew, IsPlaying}
 use Rattle.heap_runs.specs.Turning.{AddsTurns}
-use Rattle.locked_heap.specs.Recorded.{claimed_by}
+use Rattle.heap_record.specs.Recorded.{claimed_by}
 use Rattle.heap_runs.proofs.Slacking.{pace_adds}
 use Rattle.heap_runs.proofs.Told.{collect_stays}
 use Rattle.heap_runs.proofs.Following.{follows_call, follows_turns, follows_adds, turns_noted}

@@ -14,7 +14,7 @@ use Rattle.core_machine.specs.machine.Calls as machine
 use Rattle.core_machine.specs.machine.Machine.{State, seat_at}
 use Rattle.core_machine.specs.seat.Making.{next_object_id}
 use Rattle.core_machine.specs.table.Layout.{at}
-use Rattle.locked_heap.specs.Recorded.{Recorded}
+use Rattle.heap_record.specs.Recorded.{Recorded}
 use Rattle.heap_runs.specs.MachineHeap.{play_state_of}
 use Rattle.heap_runs.specs.PlayHeap.{PlayState, IsEnough, LacksWords, RefusesWords, RefusesFragments, AnswersArrayOnce, seat_state_of}
 

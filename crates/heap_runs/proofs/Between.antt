@@ -10,8 +10,8 @@ use Rattle.core_machine.specs.machine.Machine.{State, Event, Turns}
 use Rattle.core_rule.specs.Laws.{OneCallAtATime, NotesNow}
 use Rattle.core_rule.proofs.parties.MoreEvents.{OneCall-append}
 use Rattle.core_rule.proofs.parties.OneSeat.{call_alone, inner_alone}
-use Rattle.locked_heap.specs.Recorded.{Recorded, MakesCall, MakesInner, MakesTurn}
-use Rattle.locked_heap.proofs.Leading.{led_call, led_inner, led_turn}
+use Rattle.heap_record.specs.Recorded.{Recorded, MakesCall, MakesInner, MakesTurn}
+use Rattle.heap_record.proofs.Leading.{led_call, led_inner, led_turn}
 use Rattle.heap_runs.specs.MachineHeap.{IsBetweenCalls}
 
 module _ (old new : Recorded) (between : IsBetweenCalls old.machine.heap old.machine.state old.history) where

@@ -19,7 +19,7 @@ use Rattle.core_machine.specs.seat.Making.{next_object_id}
 use Rattle.core_machine.specs.seat.Seat.{Seat}
 use Rattle.core_rule.specs.Laws.{StandsFor, FreeIsUnused, WordsAreUsed}
 use Rattle.core_rule.proofs.parties.Standing.{words_used, own_reserve, answered_last, gone_is, made_is, phase_near, number_left}
-use Rattle.locked_heap.specs.Recorded.{Recorded, MakesCall}
+use Rattle.heap_record.specs.Recorded.{Recorded, MakesCall}
 use Rattle.heap_runs.specs.Collecting.{IsStillThere}
 use Rattle.heap_runs.specs.MachineHeap.{play_state_of, IsBetweenCalls}
 use Rattle.heap_runs.specs.PlayHeap.{MayCall, AnswersOnce, IsEnough, seat_state_of}

@@ -24,7 +24,7 @@ use Rattle.core_machine.specs.machine.Machine.{State, seat_at, Turns}
 use Rattle.core_machine.specs.machine.Machine as machines
 use Rattle.core_machine.specs.seat.Seat.{Seat}
 use Rattle.core_machine.specs.table.Layout.{at}
-use Rattle.locked_heap.specs.Recorded.{MakesInner, Recorded, MakesTurn}
+use Rattle.heap_record.specs.Recorded.{MakesInner, Recorded, MakesTurn}
 use Rattle.heap_runs.specs.Collecting.{IsStillThere, CollectGoesOn, EndsFor, StaysInCycle, IsUnderWayAt}
 use Rattle.heap_runs.specs.MachineHeap.{play_state_of, MovesOn, MovesAll, CollectsMachine}
 use Rattle.heap_runs.specs.Play.{TellsInCollect}

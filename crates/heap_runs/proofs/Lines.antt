@@ -14,7 +14,7 @@ use Rattle.script_text.specs.declared.script.Line.TheVariants as lines
 use Rattle.heap_runs.specs.Play.{ComesFirst, ComesInCollect, StandsForLine, StandForLines}
 use Rattle.heap_runs.specs.PlayHeap.{PlayState}
 use Rattle.heap_runs.specs.Playing.{NotesLine, NotesLines, NotesSeatLine, NotesTurns, Follows}
-use Rattle.locked_heap.specs.Recorded.{claimed_by}
+use Rattle.heap_record.specs.Recorded.{claimed_by}
 use Rattle.heap_runs.proofs.Serving.{serves_told}
 use Rattle.heap_runs.proofs.Slacking.{pace_adds}
 use Rattle.heap_runs.proofs.Told.{tells_call, noted_is}

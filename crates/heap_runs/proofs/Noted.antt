@@ -23,7 +23,7 @@ use Rattle.core_rule.specs.Laws.{StandsFor}
 use Rattle.core_rule.specs.Looks.{WasSeen}
 use Rattle.core_rule.proofs.parties.OneSeat.{after_inner}
 use Rattle.core_rule.proofs.parties.Standing.{word_is, answer_word_is}
-use Rattle.locked_heap.specs.Recorded.{MakesInner, Recorded}
+use Rattle.heap_record.specs.Recorded.{MakesInner, Recorded}
 use Rattle.heap_runs.specs.Collecting.{MayGoOn, IsStillThere, IsUnderWayAt, LastTurnIs, EndsFor, EndsWholeFor, seen_by}
 use Rattle.heap_runs.specs.MachineHeap.{IsBetweenCalls, CollectsMachine, play_state_of}
 use Rattle.heap_runs.specs.Play.{IsFirstFrom, TellsFirstCycle}

@@ -4,7 +4,7 @@ use Rattle.std.proofs.Math.Seq.{drop-append_seam}
 use Rattle.heap_model.specs.declared.calls.collector_calls.Turn.{Turn}
 use Rattle.heap_model.specs.declared.command.Command.{Command}
 use Rattle.heap_model.specs.declared.entry.Entry.{Entry}
-use Rattle.locked_heap.specs.Recorded.{claimed_by}
+use Rattle.heap_record.specs.Recorded.{claimed_by}
 use Rattle.slack_pace.specs.Slack as slack
 use Rattle.heap_runs.specs.PlayHeap.{PlayState, collector_state_of}
 use Rattle.heap_runs.specs.Playing.{NotesCall, NotesSlack, NotesPace, NotesSeatLine}

@@ -6,7 +6,7 @@ use Rattle.heap_model.specs.account.Phases.{IsBehind}
 use Rattle.core_machine.specs.machine.Machine.{Turns, next_turn, found_by, entries}
 use Rattle.core_rule.specs.Laws.{StandsFor, EachWaitIsBehind}
 use Rattle.core_rule.specs.TurnsLeft.{EachTurnLeavesFewer}
-use Rattle.locked_heap.specs.Recorded.{Recorded, MakesTurn}
+use Rattle.heap_record.specs.Recorded.{Recorded, MakesTurn}
 use Rattle.heap_runs.specs.MachineHeap.{play_state_of}
 use Rattle.heap_runs.specs.PlayHeap.{TakesTurn, WaitsRightly}
 

@@ -20,7 +20,7 @@ use Rattle.core_rule.specs.Laws.{StandsFor}
 use Rattle.core_rule.specs.TurnsLeft.{turns_left, turns_left_at}
 use Rattle.core_rule.proofs.parties.OneSeat.{after_inner}
 use Rattle.core_rule.proofs.parties.Standing.{word_is, answered_last, phase_near}
-use Rattle.locked_heap.specs.Recorded.{MakesInner, Recorded, MakesTurn}
+use Rattle.heap_record.specs.Recorded.{MakesInner, Recorded, MakesTurn}
 use Rattle.heap_runs.specs.Collecting.{IsStillThere}
 use Rattle.heap_runs.specs.MachineHeap.{IsBetweenCalls, play_state_of}
 use Rattle.heap_runs.specs.PlayHeap.{TakesTurn}

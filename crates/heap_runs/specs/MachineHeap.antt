@@ -11,7 +11,7 @@ use Rattle.core_machine.specs.machine.Machine.{State, seat_at, Turns, Can, state
 use Rattle.core_machine.specs.machine.Opening.{IsOpening}
 use Rattle.core_rule.specs.Laws.{OneCallAtATime}
 use Rattle.core_rule.specs.TurnsLeft.{turns_left}
-use Rattle.locked_heap.specs.Recorded.{Recorded, EventsLeadTo, MakesCall}
+use Rattle.heap_record.specs.Recorded.{Recorded, EventsLeadTo, MakesCall}
 use Rattle.heap_runs.specs.PlayHeap.{PlayState}
 
 -- what contracts see of it as a heap that is played on

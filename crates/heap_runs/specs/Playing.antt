@@ -15,7 +15,7 @@ use Rattle.heap_model.specs.calls.SeatCalls.{leave_entries}
 use Rattle.heap_model.specs.calls.SeatState.{own_graph_seat}
 use Rattle.script_text.specs.declared.script.Line.{Line}
 use Rattle.script_text.specs.declared.script.Line.TheVariants as lines
-use Rattle.locked_heap.specs.Recorded.{claimed_by}
+use Rattle.heap_record.specs.Recorded.{claimed_by}
 use Rattle.heap_runs.specs.Play.{ReachesCycleEnd, IsLastCycle}
 use Rattle.heap_runs.specs.PlayHeap.{PlayState, seat_state_of, AnswersCall}
 use Rattle.heap_runs.specs.Turning.{ServesCommand, AddsTurns, TurnsRiseBy}

@@ -1,7 +1,7 @@
 ghost use Rattle.std.specs.Prelude.{◌≡◌, ◌≢◌, ◌≤◌, ◌<◌, IfOk, OnOk, OnErr};
 ghost use Rattle.heap_model.specs.declared.command.Command.TheVariants.{Collect};
 ghost use Rattle.heap_model.specs.Heap.{IsHeap};
-ghost use Rattle.locked_heap.specs.Recorded.{StandsStill, MakesCall, MakesTurn};
+ghost use Rattle.heap_record.specs.Recorded.{StandsStill, MakesCall, MakesTurn};
 ghost use Rattle.heap_runs.specs.PlayHeap.{PlayState, IsPlayed, MayCall, AnswersOnce, AnswersCall, TakesTurn};
 ghost use Rattle.heap_runs.specs.MachineHeap.{play_state_of, IsFresh, CallsMachine};
 
@@ -9,7 +9,7 @@ use crate::play_heap::PlayHeap;
 use core_machine::Machine;
 use core_rule::law_every_run;
 use heap_model::{CollectorCalls, Command, Entry, Heap, Memory, Reply, Turn};
-use locked_heap::Recorder;
+use heap_record::Recorder;
 use std::alloc::Global;
 use std::marker::Model;
 
@@ -22,7 +22,7 @@ pub struct MachineHeap {
 }
 
 impl Model for MachineHeap {
-    ghost use Rattle.locked_heap.specs.Recorded.{Recorded};
+    ghost use Rattle.heap_record.specs.Recorded.{Recorded};
     ghost use Rattle.heap_runs.specs.MachineHeap.{IsBetweenCalls};
 
     ghost Value = { Recorded };

@@ -24,7 +24,7 @@ use Rattle.locked_heap.specs.Given.{Given, IsOfScript, IsSeatScript, script_of}
 use Rattle.locked_heap.specs.Locked.{IsRunFrom, AllHaveCome, IsNext}
 use Rattle.locked_heap.specs.Progress.{progress_at, IsAtCollect, HasCome}
 use Rattle.heap_model.specs.runs.Endings.{IsPaid}
-use Rattle.locked_heap.specs.Recorded.{Recorded, MakesCall}
+use Rattle.heap_record.specs.Recorded.{Recorded, MakesCall}
 use Rattle.heap_model.specs.runs.Told.{waits_told}
 use Rattle.locked_heap.proofs.Coming.{IsFresh, fresh_unless, come_next, come_left, all_come}
 use Rattle.locked_heap.proofs.FindsOn.{FindsOn, finds_on}

@@ -10,8 +10,8 @@ use Rattle.core_machine.specs.machine.Machine.{State, Event, Run, state_after_al
 use Rattle.core_rule.specs.Laws.{EveryRunKeeps, StandsFor}
 use Rattle.locked_heap.specs.Given.{Given}
 use Rattle.locked_heap.specs.Locked.{OpensAs, IsRunFrom}
-use Rattle.locked_heap.specs.Recorded.{Recorded, StandsStill, MakesCall, MakesInner, MakesTurn}
-use Rattle.locked_heap.proofs.Leading.{book_stands, led_call, led_inner, led_turn, led_still}
+use Rattle.heap_record.specs.Recorded.{Recorded, StandsStill, MakesCall, MakesInner, MakesTurn}
+use Rattle.heap_record.proofs.Leading.{book_stands, led_call, led_inner, led_turn, led_still}
 
 -- events lead from this opening of the heap to this state, with this history
 pub record RunOf (heap : Heap) (opening state : State) (told : List Entry) : Type 0 where

@@ -26,7 +26,7 @@ use Rattle.core_rule.proofs.parties.Standing.{word_is}
 use Rattle.locked_heap.specs.Locked.{LockedValue, AllHaveCome, IsNext, IsCollecting, IsQuiet, MayAnswer}
 use Rattle.locked_heap.specs.Progress.{progress_at, IsTargetOf, HasCome}
 use Rattle.heap_model.specs.runs.Endings.{IsPaid}
-use Rattle.locked_heap.specs.Recorded.{Recorded, MakesInner}
+use Rattle.heap_record.specs.Recorded.{Recorded, MakesInner}
 use Rattle.heap_model.specs.runs.Told.{waits_told}
 use Rattle.locked_heap.proofs.Coming.{StaysOn, IsFresh, paid_still, paid_more, come_begun, come_next, all_come, all_stay}
 use Rattle.locked_heap.proofs.FindsOn.{compared_on}

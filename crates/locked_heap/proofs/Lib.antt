@@ -1,9 +1,6 @@
-pub mod Leading
 pub mod GivenRuns
 pub mod HeapEntries
-pub mod Calls
-pub mod Inners
-pub mod MachineTurns
+pub mod TurnsOn
 pub mod FindsOn
 pub mod TellsNone
 pub mod Coming

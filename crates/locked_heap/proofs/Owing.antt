@@ -22,7 +22,7 @@ use Rattle.core_machine.specs.machine.Machine.{seat_at, Turns}
 use Rattle.core_machine.specs.machine.Machine as machines
 use Rattle.core_machine.specs.table.Layout.{at}
 use Rattle.locked_heap.specs.Locked.{LockedValue, OwesMore, OwesNoMore}
-use Rattle.locked_heap.specs.Recorded.{Recorded, StandsStill, MakesCall, MakesInner, MakesTurn}
+use Rattle.heap_record.specs.Recorded.{Recorded, StandsStill, MakesCall, MakesInner, MakesTurn}
 
 abbrev claimed : List Entry → ℕ
 claimed told = total (λ e. e.taken) told

@@ -10,7 +10,7 @@ use Rattle.locked_heap.specs.declared.progress.Progress.{Progress}
 use Rattle.locked_heap.specs.Given.{Given}
 use Rattle.locked_heap.specs.Locked.{LockedValue, IsParted, SomeAreThere, StandsLocked, ComesOneFurther}
 use Rattle.locked_heap.specs.Progress.{at_begin, progress_at}
-use Rattle.locked_heap.specs.Recorded.{Recorded, StandsStill, MakesCall}
+use Rattle.heap_record.specs.Recorded.{Recorded, StandsStill, MakesCall}
 use Rattle.locked_heap.proofs.GivenRuns.{run_still}
 
 -- where a seat is there not all have left

@@ -3,7 +3,7 @@ use Rattle.std.proofs.Common.{◌≡◌, ℕ, ◌<◌, ◌≤◌, Option, subst,
 use Rattle.heap_model.specs.declared.calls.collector_calls.Turn.{Turn}
 use Rattle.slack_pace.specs.Slack.{MakesEach, HasWaited, last_made}
 use Rattle.locked_heap.specs.Locked.{LockedValue, MakesSlack}
-use Rattle.locked_heap.specs.Recorded.{Recorded, StandsStill, MakesTurn, collector_of}
+use Rattle.heap_record.specs.Recorded.{Recorded, StandsStill, MakesTurn, collector_of}
 
 pub slack_makes : (asked told made : ℕ) (last : Option Turn) (ready : Recorded) (old new : LockedValue) → told ≡ asked → StandsStill old.recorded ready → made ≤ told → MakesEach MakesTurn made ready new.recorded
     → (made < told → HasWaited last) → last ≡ last_made made (collector_of new.recorded) → new.seats ≡ old.seats → new.over ≡ old.over → new.owed ≡ 0 → MakesSlack asked old new

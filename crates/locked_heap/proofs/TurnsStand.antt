@@ -5,11 +5,11 @@ use Rattle.heap_model.specs.declared.entry.Entry.{Entry}
 use Rattle.core_machine.specs.machine.Machine.{State}
 use Rattle.slack_pace.specs.Slack.{MakesOnward, MakesEach}
 use Rattle.locked_heap.specs.Given.{Given}
-use Rattle.locked_heap.specs.Locked.{LockedValue, AllHaveCome, SomeAreThere, StandsLocked, TurnsOn}
-use Rattle.locked_heap.specs.Recorded.{Recorded, StandsStill, MakesTurn}
+use Rattle.locked_heap.specs.Locked.{LockedValue, AllHaveCome, SomeAreThere, StandsLocked}
+use Rattle.heap_record.specs.Recorded.{Recorded, StandsStill, MakesTurn}
 use Rattle.locked_heap.proofs.Coming.{all_turned}
 use Rattle.locked_heap.proofs.GivenRuns.{run_still}
-use Rattle.locked_heap.proofs.MachineTurns.{turns_none, turns_more}
+use Rattle.locked_heap.proofs.TurnsOn.{TurnsOn, turns_none, turns_more}
 use Rattle.locked_heap.proofs.Parting.{not_parted}
 use Rattle.locked_heap.proofs.TellsNone.{none_collectors}
 

@@ -22,17 +22,18 @@ use Rattle.core_rule.proofs.parties.Standing.{none_short, words_used as words_to
 use Rattle.core_rule.proofs.runs.CountedFinds.{finds_by_law}
 use Rattle.locked_heap.specs.declared.ran.LockedRan.{LockedRan}
 use Rattle.locked_heap.specs.Given.{Given, script_of}
-use Rattle.locked_heap.specs.Locked.{IsRunFrom, LockedValue, AllHaveCome, AllGone, IsParted, EndsWhole}
+use Rattle.locked_heap.specs.Locked.{IsRunFrom, LockedValue, AllHaveCome, AllGone, IsParted}
 use Rattle.locked_heap.specs.Progress.{progress_at, leave_told}
 use Rattle.heap_model.specs.runs.Endings.{EndsEmpty, IsPaid}
 use Rattle.locked_heap.specs.Ran.{IsRun}
-use Rattle.locked_heap.specs.Recorded.{Recorded}
+use Rattle.heap_record.specs.Recorded.{Recorded}
 use Rattle.heap_model.specs.runs.Told.{commands_told, waits_told}
 use Rattle.locked_heap.proofs.Calling.{left_told}
 use Rattle.locked_heap.proofs.Coming.{paid_still, all_turned}
 use Rattle.locked_heap.proofs.LastCycle.{left_before, leaves_stay}
 use Rattle.locked_heap.proofs.GivenRuns.{run_stands, run_of}
 use Rattle.locked_heap.proofs.TellsNone.{none_collectors}
+use Rattle.locked_heap.proofs.TurnsOn.{EndsWhole}
 
 -- the history is legal
 legal_told : EveryRunKeeps → (given : Given) (recorded : Recorded) → IsRunFrom given recorded → IsLegal given.heap false recorded.history

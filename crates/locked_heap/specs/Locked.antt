@@ -1,6 +1,5 @@
 -- What contracts see of the heap under the lock.
 use Rattle.std.specs.Prelude.{◌≡◌, ◌≢◌, ℕ, ◌+◌, ◌-◌, ◌*◌, ◌^◌, ◌<◌, ◌≤◌, ◌⊎◌, ◌==◌, if◌then◌else◌, Bool, true, false, min, List, ◌∷◌, [], ◌++◌, length, drop, slice_get, Some, None}
-use Rattle.std.specs.List.{AllByRecursion}
 use Rattle.heap_model.specs.declared.command.Command.{Command}
 use Rattle.heap_model.specs.declared.command.Command.TheVariants.{Collect}
 use Rattle.heap_model.specs.declared.calls.collect.CollectReply.{CollectReply}
@@ -10,11 +9,9 @@ use Rattle.heap_model.specs.declared.calls.collect.Inner.TheVariants.{Look, Answ
 use Rattle.heap_model.specs.declared.calls.collector_calls.Turn.{Turn}
 use Rattle.heap_model.specs.declared.calls.collector_calls.Turn.TheVariants as turns
 use Rattle.heap_model.specs.declared.entry.Entry.{Entry}
-use Rattle.heap_model.specs.declared.entry.Entry.TheVariants.{Ends, Said}
+use Rattle.heap_model.specs.declared.entry.Entry.TheVariants.{Said}
 use Rattle.heap_model.specs.declared.heap.Heap.{Heap}
 use Rattle.heap_model.specs.PhasePlan.{cycle_phases}
-use Rattle.heap_model.specs.account.Noting.{is_collectors}
-use Rattle.heap_model.specs.account.PhaseCounts.{phase}
 use Rattle.heap_model.specs.account.Space.{total}
 use Rattle.core_machine.specs.machine.Machine.{State, seat_at, Event, BeginsInner, Can}
 use Rattle.core_machine.specs.declared.seat.looks.FoundBehind.{FoundBehind}
@@ -23,7 +20,7 @@ use Rattle.slack_pace.specs.Slack.{MakesEach, last_made, HasWaited}
 use Rattle.locked_heap.specs.declared.progress.Progress.{Progress}
 use Rattle.locked_heap.specs.Given.{Given, IsGiven, script_of}
 use Rattle.locked_heap.specs.Progress.{progress_at, HasCome}
-use Rattle.locked_heap.specs.Recorded.{Recorded, EventsLeadTo, StandsStill, MakesInner, MakesTurn, collector_of}
+use Rattle.heap_record.specs.Recorded.{Recorded, EventsLeadTo, StandsStill, MakesInner, MakesTurn, collector_of}
 use Rattle.heap_model.specs.runs.Told.{EndsWithLeave}
 
 -- they lead from the opening that was given
@@ -171,22 +168,3 @@ pub record MakesSlack (asked : ℕ) (old new : LockedValue) : Type 0 where
 -- no more slack is wanted: the seats' workers have returned, or every seat has left
 abbrev pub IsOver : Given → LockedValue → Type 0
 IsOver given locked = (locked.over ≡ true) ⊎ AllGone given locked.seats
-
--- turns were made, and nothing else
-pub record TurnsOn (old new : Recorded) : Type 0 where
-  pub turned : List Entry
-  pub grown : new.history ≡ old.history ++ turned
-  pub own : AllByRecursion (λ entry. is_collectors entry ≡ true) turned
-  pub seats_stay : new.machine.state.seats ≡ old.machine.state.seats
-  pub runs : (given : Given) → IsRunFrom given old → IsRunFrom given new
-
--- turns were made up to the end of the first cycle that begins not before the first of them
-pub record EndsWhole (old new : Recorded) : Type 0 where
-  pub on : TurnsOn old new
-  pub earlier : List Entry
-  pub own : AllByRecursion (λ entry. is_collectors entry ≡ true) earlier
-  pub cycle : ℕ
-  pub kept : ℕ
-  pub told : new.history ≡ old.history ++ (earlier ++ Ends cycle kept ∷ [])
-  pub began : phase old.history ≤ cycle_phases * cycle
-  pub first : cycle_phases * cycle < phase old.history + cycle_phases

@@ -6,10 +6,10 @@ ghost use Rattle.locked_heap.specs.Progress.{progress_at};
 
 use crate::handed::Handed;
 use crate::progress::Progress;
-use crate::recorder::Recorder;
 use core_machine::Machine;
 use core_rule::law_every_run;
 use heap_model::{Command, Memory};
+use heap_record::Recorder;
 use std::alloc::Global;
 use std::marker::{Model, PhantomData};
 

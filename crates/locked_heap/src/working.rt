@@ -6,6 +6,7 @@ use crate::handed::Handed;
 use crate::locked::Locked;
 use crate::progress::Progress;
 use heap_model::{Command, Gate, Memory};
+use heap_record::{SlackWork, work_slack};
 use slack_pace::Pace;
 use std::alloc::Global;
 use std::sync::{Mutex, Wait};
@@ -54,24 +55,6 @@ fn work<N: Handed, G: Gate, R: Wait>(
         if progress.gone {
             return Ok(progress);
         }
-    }
-    unreachable!()
-}
-
-/// Makes slack turns of the collector until each seat has left, or the seats' workers have returned.
-fn collect<N: Handed, R: Wait>(
-    rt: &R,
-    held: &Mutex<Locked<N>>,
-    pace: &mut Box<dyn Pace>,
-) -> Result<(), Memory> {
-    for _ in rt.forever() {
-        let mut locked = held.lock(rt);
-        if locked.is_over() {
-            return Ok(());
-        }
-        locked.make_slack(pace)?;
-        drop(locked);
-        yield_now();
     }
     unreachable!()
 }
@@ -128,7 +111,7 @@ pub fn work_all<N: Handed + Send + Sync, G: Gate, R: Threads + Wait + Sync>(
 {
     let (slack, seats) = join(
         rt,
-        move || collect(rt, held, &mut pace),
+        move || work_slack(rt, held, &mut pace),
         || -> Result<Vec<Progress>, Memory>
             requires scripts { map (λ script. script.items) scripts.now ≡ N.given.scripts }
             requires seated { length scripts.now ≡ N.given.heap.seats }

@@ -2,7 +2,7 @@ ghost use Rattle.std.specs.Prelude.{◌≡◌, IfOk};
 ghost use Rattle.core_machine.specs.seat.Looks.{noted_reply};
 ghost use Rattle.heap_runs.specs.PlayHeap.{AnswersCollect};
 ghost use Rattle.heap_runs.specs.MachineHeap.{play_state_of, IsBetweenCalls, CollectsMachine};
-ghost use Rattle.locked_heap.specs.Recorded.{MakesInner};
+ghost use Rattle.heap_record.specs.Recorded.{MakesInner};
 ghost use Rattle.heap_runs.specs.Collecting.{MayGoOn, IsStillThere, EndsFor, EndsWholeFor, seen_by};
 
 use crate::machine_heap::MachineHeap;

@@ -1,13 +1,13 @@
 ghost use Rattle.std.specs.Prelude.{◌≡◌, length, drop, IfOk, OnOk};
 ghost use Rattle.heap_runs.specs.PlayHeap.{MayCall};
-ghost use Rattle.locked_heap.specs.Recorded.{claimed_by};
+ghost use Rattle.heap_record.specs.Recorded.{claimed_by};
 ghost use Rattle.heap_runs.specs.Playing.{NotesCall, NotesSlack, NotesTurns, AllHaveLeft, NotesCycle};
 
 use crate::play_collector::make_slack;
 use crate::play_heap::PlayHeap;
 use crate::turning::{end_cycle, turn_line};
 use heap_model::{Command, Entry, Memory, TurnCommand};
-use locked_heap::claimed;
+use heap_record::claimed;
 use slack_pace::{MOST_SLACK_TURNS, Pace};
 
 /// Makes a whole call of the seat, notes its entries, and answers how many fragments it claimed.

@@ -1,30 +1,19 @@
-ghost use Rattle.std.specs.Prelude.{◌≡◌, ◌+◌, ◌*◌, ◌<◌, ◌≤◌, ◌↔◌, ℕ, IsTrue, Some, None, OnOk};
+ghost use Rattle.std.specs.Prelude.{◌≡◌, ◌<◌, ◌↔◌, ℕ, IsTrue, Some, None, OnOk};
 ghost use Rattle.heap_model.specs.declared.calls.collect.CollectReply.TheVariants.{Cycle};
 ghost use Rattle.heap_model.specs.declared.command.Command.TheVariants.{Collect};
 ghost use Rattle.core_machine.specs.machine.Machine.{BeginsInner, Can, seat_at};
 ghost use Rattle.core_machine.specs.seat.Looks.{MayNote};
 ghost use Rattle.locked_heap.specs.Locked.{IsNext, IsCollecting, ComesOneFurther, OwesNoMore, IsQuiet, IsPatient, MayAnswer, HasSeenEnd, TellsAnswer, AnswersWait, found_by_turn, CollectsOn};
 ghost use Rattle.locked_heap.specs.Progress.{progress_at};
-ghost use Rattle.locked_heap.specs.Recorded.{MakesInner};
+ghost use Rattle.heap_record.specs.Recorded.{MakesInner};
 
 use crate::handed::Handed;
 use crate::locked::Locked;
 use crate::progress::Progress;
 use core_rule::law_every_run;
-use heap_model::phase_plan::{CYCLE_PHASES, REST};
+use heap_model::phase_plan::CYCLE_PHASES;
 use heap_model::{CollectReply, CollectorCalls, Inner, Memory, Turn};
-
-/// The first cycle that begins at this phase or behind it.
-pub fn next_whole_cycle(phase: u64) -> u64
-    ensures behind { phase ≤ 7 * result }
-    ensures first { 7 * result < phase + 7 }
-{
-    if phase % CYCLE_PHASES == REST {
-        phase / CYCLE_PHASES
-    } else {
-        phase / CYCLE_PHASES + 1
-    }
-}
+use heap_record::next_whole_cycle;
 
 /// The inner call by which the seat finds out what a turn of its collect came to.
 fn found_by_turn(seat: u8, turn: Turn) -> Inner

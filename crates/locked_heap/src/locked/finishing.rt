@@ -2,36 +2,19 @@ ghost use Rattle.std.specs.Prelude.{◌≡◌, ◌<◌, map, length, IfOk, OnOk}
 ghost use Rattle.std.specs.List.{range_with_len};
 ghost use Rattle.core_machine.specs.machine.Machine.{seat_at};
 ghost use Rattle.locked_heap.specs.Given.{script_of};
-ghost use Rattle.locked_heap.specs.Locked.{SeatHasLeft, ComesOneFurther, OwesMore, KeepsGone, AllGone, EndsWhole};
+ghost use Rattle.locked_heap.specs.Locked.{SeatHasLeft, ComesOneFurther, OwesMore, KeepsGone, AllGone};
 ghost use Rattle.locked_heap.specs.Progress.{progress_at};
 ghost use Rattle.locked_heap.specs.Ran.{IsRun};
 
 use crate::handed::Handed;
 use crate::locked::Locked;
-use crate::locked::collecting::next_whole_cycle;
 use crate::progress::Progress;
 use crate::ran::LockedRan;
-use crate::recorder::Recorder;
 use core_rule::{law_every_run, law_sweep_exact};
-use heap_model::{CollectorCalls, Command, Memory, Turn};
+use heap_model::{Command, Memory};
+use heap_record::end_whole_cycle;
 use std::alloc::Global;
 use std::sync::Wait;
-
-/// Makes turns up to the end of the first cycle that begins not before the first of them.
-fn end_whole<R: Wait>(rt: &R, recorder: &mut Recorder) -> Result<(), Memory>
-    ensures { OnOk result (EndsWhole recorder.old recorder.new) }
-{
-    let target = next_whole_cycle(recorder.phase());
-    for _ in rt.forever() {
-        recorder.room(2)?;
-        if let Turn::Ended { cycle, .. } = recorder.turn() {
-            if cycle == target {
-                return Ok(());
-            }
-        }
-    }
-    unreachable!()
-}
 
 impl<N: Handed> Locked<N> {
     /// Goes on with the seat's script, which is this one, and answers how far it has come: makes its next command, or of a collect a part; lets the seat
@@ -112,7 +95,7 @@ impl<N: Handed> Locked<N> {
         self.known();
         let waits = self.finds_of_all(alloc)?;
         let mut recorder = self.recorder;
-        end_whole(rt, &mut recorder)?;
+        end_whole_cycle(rt, &mut recorder)?;
         Ok(LockedRan {
             history: recorder.into_history(),
             end_used: 0,

@@ -1,7 +1,7 @@
 use Rattle.std.proofs.Common.{sym, subst}
 use Rattle.heap_runs.specs.MachineHeap.{play_state_of}
 use Rattle.heap_runs.specs.PlayHeap.{MayCall, AnswersOnce}
-use Rattle.locked_heap.specs.Recorded.{Recorded}
+use Rattle.heap_record.specs.Recorded.{Recorded}
 use Rattle.heap_runs.proofs.Between.{between_call}
 use Rattle.heap_runs.proofs.Calling.{answers_call, may_begin}
 use Rattle.heap_runs.proofs.Standing.{stands}

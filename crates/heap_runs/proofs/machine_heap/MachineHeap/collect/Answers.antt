@@ -3,7 +3,7 @@ use Rattle.heap_model.specs.account.PhaseCounts.{phase}
 use Rattle.heap_model.specs.declared.calls.collect.Inner.{Inner}
 use Rattle.heap_model.specs.declared.reply.Reply.{Reply}
 use Rattle.core_machine.specs.seat.Looks.{FirstUpTo}
-use Rattle.locked_heap.specs.Recorded.{MakesInner, Recorded}
+use Rattle.heap_record.specs.Recorded.{MakesInner, Recorded}
 use Rattle.heap_runs.specs.MachineHeap.{play_state_of}
 use Rattle.heap_runs.specs.PlayHeap.{AnswersCollect}
 use Rattle.heap_runs.proofs.Noted.{first_looked, may_note, collect_machine, collect_answers}

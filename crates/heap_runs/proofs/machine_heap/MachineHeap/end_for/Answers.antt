@@ -1,7 +1,7 @@
 use Rattle.std.proofs.Common.{◌≡◌, ap, subst, ◌∙◌, arith}
 use Rattle.heap_model.specs.declared.calls.collector_calls.Turn.{Turn}
 use Rattle.heap_model.specs.declared.calls.collector_calls.Turn.TheVariants as turns
-use Rattle.locked_heap.specs.Recorded.{Recorded, MakesTurn}
+use Rattle.heap_record.specs.Recorded.{Recorded, MakesTurn}
 use Rattle.heap_runs.specs.MachineHeap.{play_state_of}
 use Rattle.heap_runs.specs.PlayHeap.{TakesTurn}
 use Rattle.heap_runs.proofs.Collecting.{goes_none, goes_then, goes_turn, goes_answer, stays_none, stays_turn, stays_wait, stays_answer, ends_waiting, ends_cycle}

@@ -3,7 +3,7 @@ use Rattle.heap_model.specs.declared.heap.Heap.{Heap}
 use Rattle.heap_model.specs.Heap.{IsHeap}
 use Rattle.core_machine.specs.machine.Opening.{IsOpening}
 use Rattle.core_rule.specs.Laws.{OneCallAtATime}
-use Rattle.locked_heap.proofs.Leading.{led_none}
+use Rattle.heap_record.proofs.Leading.{led_none}
 use Rattle.heap_runs.proofs.machine_heap.MachineHeap.make.Goals as goal
 
 pub invariant_of-result : goal.invariant_of-result

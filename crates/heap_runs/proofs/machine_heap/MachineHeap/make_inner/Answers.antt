@@ -1,5 +1,5 @@
 use Rattle.std.proofs.Common.{sym, subst}
-use Rattle.locked_heap.specs.Recorded.{Recorded}
+use Rattle.heap_record.specs.Recorded.{Recorded}
 use Rattle.heap_runs.specs.Collecting.{MayGoOn}
 use Rattle.heap_runs.proofs.Between.{between_inner}
 use Rattle.heap_runs.proofs.machine_heap.MachineHeap.make_inner.Goals as goal

@@ -1,5 +1,5 @@
 use Rattle.std.proofs.Common.{subst}
-use Rattle.locked_heap.specs.Recorded.{Recorded}
+use Rattle.heap_record.specs.Recorded.{Recorded}
 use Rattle.heap_runs.specs.MachineHeap.{play_state_of}
 use Rattle.heap_runs.specs.PlayHeap.{TakesTurn}
 use Rattle.heap_runs.proofs.Between.{between_turn}

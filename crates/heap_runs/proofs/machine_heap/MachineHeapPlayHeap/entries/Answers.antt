@@ -1,5 +1,5 @@
 use Rattle.std.proofs.Common.{subst}
-use Rattle.locked_heap.specs.Recorded.{Recorded}
+use Rattle.heap_record.specs.Recorded.{Recorded}
 use Rattle.heap_runs.specs.PlayHeap.{IsPlayed}
 use Rattle.heap_runs.proofs.Standing.{played}
 use Rattle.heap_runs.proofs.machine_heap.MachineHeapPlayHeap.entries.Goals as goal

@@ -2,7 +2,7 @@ use Rattle.std.proofs.Common.{◌≡◌, ◌∷◌, [], ◌++◌, List, length, 
 use Rattle.std.proofs.Math.Seq.{drop-append_seam}
 use Rattle.heap_model.specs.declared.entry.Entry.{Entry}
 use Rattle.heap_model.specs.declared.entry.Entry.TheVariants.{Said}
-use Rattle.locked_heap.specs.Recorded.{claimed_by}
+use Rattle.heap_record.specs.Recorded.{claimed_by}
 use Rattle.heap_runs.specs.PlayHeap.{PlayState}
 use Rattle.heap_runs.proofs.Told.{tells_call}
 use Rattle.heap_runs.proofs.playing.noting.note_call.Goals as goal

@@ -5,7 +5,7 @@ use Rattle.heap_model.specs.declared.command.Command.TheVariants.{Collect}
 use Rattle.core_machine.specs.machine.Machine.{BeginsInner, Can}
 use Rattle.locked_heap.specs.declared.progress.Progress.{Progress}
 use Rattle.locked_heap.specs.Locked.{LockedValue, IsNext, CollectsOn}
-use Rattle.locked_heap.specs.Recorded.{StandsStill, MakesInner}
+use Rattle.heap_record.specs.Recorded.{StandsStill, MakesInner}
 use Rattle.locked_heap.proofs.Owing.{owes_turn, owes_then}
 use Rattle.locked_heap.proofs.Parting.{some_there}
 use Rattle.locked_heap.proofs.TurnsStand.{turn_on, turns_stand}

@@ -4,8 +4,8 @@ use Rattle.heap_model.specs.declared.heap.Heap.{Heap}
 use Rattle.heap_model.specs.Heap.{IsHeap}
 use Rattle.locked_heap.specs.Locked.{OpensAs}
 use Rattle.locked_heap.specs.Progress.{at_begin}
-use Rattle.locked_heap.specs.Recorded.{Recorded}
-use Rattle.locked_heap.proofs.Leading.{led_none}
+use Rattle.heap_record.specs.Recorded.{Recorded}
+use Rattle.heap_record.proofs.Leading.{led_none}
 use Rattle.locked_heap.proofs.Opened.{all_opened, none_parted}
 use Rattle.locked_heap.proofs.locked.Locked.new.Goals as goal
 

@@ -1,0 +1,5 @@
+pub mod Leading
+pub mod Calls
+pub mod Inners
+pub mod MachineTurns
+pub mod TurnsInRoom

@@ -1,0 +1,60 @@
+use Rattle.std.proofs.Common.{◌-◌, List, length, drop, refl, sym, ap, subst, ◌∙◌, arith}
+use Rattle.heap_model.specs.declared.entry.Entry.{Entry}
+use Rattle.core_machine.specs.machine.Machine.{BeginsInner, Can}
+use Rattle.core_machine.specs.machine.Value.{MachineValue, log_of}
+use Rattle.heap_record.specs.contracts.recorder.Recorder.{the_view}
+use Rattle.heap_record.specs.Recorded.{Recorded, AnyEvents, MakesInner}
+use Rattle.heap_record.proofs.Calls.{noted_since}
+use Rattle.heap_record.proofs.Inners.{InnerFacts, inner_facts, makes_inner}
+use Rattle.heap_record.proofs.Leading.{led_inner}
+use Rattle.heap_record.proofs.recorder.Recorder.inner.Goals as goal
+use Rattle.heap_record.proofs.recorder.Recorder.inner.Goals.{After-play_inner, After-note_since}
+
+-- the machine's inner call
+facts : (c : After-play_inner) → InnerFacts (the_view c.self.inside) c.room.new.self c.play_inner.new.self c.args.seat c.args.inner
+facts c = inner_facts (the_view c.self.inside) c.room.new.self c.play_inner.new.self c.args.seat c.args.inner c.room.ensures.same c.room.ensures.others c.play_inner.ensures.plays c.play_inner.ensures.spent
+
+-- what contracts see once it was noted
+abbrev after : After-note_since → Recorded
+after c = record (the_view c.self.inside) { machine = c.play_inner.new.self; history = c.note_since.new.list.items; spare = c.note_since.new.spare }
+
+-- so it is what contracts say of it
+makes : (c : After-note_since) → InnerFacts (the_view c.self.inside) c.room.new.self c.play_inner.new.self c.args.seat c.args.inner → MakesInner (the_view c.self.inside) (after c) c.args.seat c.args.inner
+makes c made =
+    let old : Recorded = the_view c.self.inside in
+    makes_inner old (after c) c.room.new.self c.args.seat c.args.inner made (record {
+      same_heap = c.play_inner.ensures.heap ∙ ap (λ (m : MachineValue). m.heap) c.room.ensures.same;
+      noted = noted_since old c.room.new.self c.play_inner.new.self c.args.seat c.log-before.result.now c.reserve.new.self.items c.note_since.new.list.items c.note_since.ensures.items c.reserve.ensures.items c.log-before.ensures;
+      left = c.note_since.ensures.left ∙ ap (λ (l : List Entry). old.spare - length (drop (length l) (log_of c.play_inner.new.self c.args.seat))) c.log-before.ensures;
+      turns_stay = refl;
+      last_stays = refl;
+    })
+
+pub play_inner-requires-clause-can : goal.play_inner-requires-clause-can
+play_inner-requires-clause-can c =
+    rw c.room.ensures.same (subst (λ (v : Recorded). Can v.machine.heap v.machine.state (BeginsInner c.args.seat c.args.inner)) (sym c.self.view_is) c.requires.can)
+
+pub note_since-requires-clause-longer : goal.note_since-requires-clause-longer
+note_since-requires-clause-longer c = rw c.log-before.ensures (facts (goal.at.note_since-requires-clause-longer c).After-play_inner).longer
+
+pub note_since-requires-clause-room : goal.note_since-requires-clause-room
+note_since-requires-clause-room c =
+    let made = facts (goal.at.note_since-requires-clause-room c).After-play_inner in
+    rw c.log-before.ensures (omega (arith, made.few, c.in_ok-reserve.ensures.ok, c.in_ok-reserve.ensures.len))
+
+pub invariant_of-self-2 : goal.invariant_of-self-2
+invariant_of-self-2 c =
+    let here = goal.at.invariant_of-self-2 c in
+    let made = facts here.After-play_inner in
+    let told = c.note_since.ensures in (
+      led_inner AnyEvents (the_view c.self.inside) (after here.After-note_since) c.self.invariant.0 c.args.seat c.args.inner (makes here.After-note_since made) tt,
+      record {
+        own_room = omega (arith, made.own_room, c.self.invariant.1.own_room, told.left);
+        listed_room = omega (arith, c.self.invariant.1.listed_room, told.left, told.capacity, told.len, c.in_ok-reserve.ensures.capacity, c.in_ok-reserve.ensures.len);
+      },
+    )
+
+pub returns-clause-makes : goal.returns-clause-makes
+returns-clause-makes c =
+    let here = goal.at.returns-clause-makes c in
+    subst (λ (v : Recorded). MakesInner v (after here.After-note_since) c.args.seat c.args.inner) c.self.view_is (makes here.After-note_since (facts here.After-play_inner))

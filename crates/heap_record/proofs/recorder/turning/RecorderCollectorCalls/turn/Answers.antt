@@ -1,0 +1,68 @@
+use Rattle.std.proofs.Common.{◌-◌, List, Some, length, drop, refl, ap, subst, ◌∙◌, arith}
+use Rattle.heap_model.specs.declared.entry.Entry.{Entry}
+use Rattle.core_machine.specs.machine.Machine.{State}
+use Rattle.core_machine.specs.machine.Value.{log_of, spare_of}
+use Rattle.core_rule.proofs.parties.TurnLogs.{TurnFacts}
+use Rattle.heap_record.specs.contracts.recorder.Recorder.{the_view}
+use Rattle.heap_record.specs.Recorded.{Recorded, AnyEvents, MakesTurn}
+use Rattle.heap_record.proofs.Calls.{since, noted_since}
+use Rattle.heap_record.proofs.Leading.{led_turn}
+use Rattle.heap_record.proofs.MachineTurns.{noted_turn, makes_turn}
+use Rattle.heap_record.proofs.recorder.turning.RecorderCollectorCalls.turn.Goals as goal
+use Rattle.heap_record.proofs.recorder.turning.RecorderCollectorCalls.turn.Goals.{After-play_turn-turn, After-saturating_add-self-inside}
+
+-- the machine's turn
+facts : (c : After-play_turn-turn) → TurnFacts c.self.inside.machine c.play_turn-turn.new.self c.heap-collector.result.seats
+facts c =
+    let law = c.law_every_run.ensures in
+    noted_turn law.run law.step law.turns (the_view c.self.inside) c.play_turn-turn.new.self c.heap-collector.result c.self.invariant.0 c.play_turn-turn.ensures.can c.play_turn-turn.ensures.state c.heap-collector.ensures.heap
+
+-- what contracts see once it was noted
+abbrev after : After-saturating_add-self-inside → Recorded
+after c = record { machine = c.play_turn-turn.new.self; history = c.note_since.new.list.items; spare = c.note_since.new.spare; turns = c.saturating_add-self-inside.result; last_turn = Some c.play_turn-turn.result }
+
+-- so it is what contracts say of it
+makes : (c : After-saturating_add-self-inside) → TurnFacts c.self.inside.machine c.play_turn-turn.new.self c.heap-collector.result.seats → MakesTurn (the_view c.self.inside) (after c) c.play_turn-turn.result
+makes c made =
+    let law = c.law_every_run.ensures in
+    let turn = c.play_turn-turn.ensures in
+    let old : Recorded = the_view c.self.inside in
+    let two = c.play_turn-turn.new.self in
+    let party = c.heap-collector.result.seats in
+    makes_turn law.run law.turns old (after c) c.play_turn-turn.result (since old.machine two party) c.self.invariant.0 (record {
+      same_heap = turn.heap;
+      noted = noted_since old old.machine two party c.log-before.result.now old.history c.note_since.new.list.items c.note_since.ensures.items refl c.log-before.ensures;
+      left = c.note_since.ensures.left ∙ ap (λ (l : List Entry). old.spare - length (drop (length l) (log_of two party))) c.log-before.ensures;
+      turns_stay = refl;
+      last_stays = refl;
+    }) made.told turn.can turn.state turn.answer c.saturating_add-self-inside.ensures refl
+
+pub note_since-requires-clause-longer : goal.note_since-requires-clause-longer
+note_since-requires-clause-longer c = rw c.log-before.ensures (facts (goal.at.note_since-requires-clause-longer c).After-play_turn-turn).longer
+
+pub note_since-requires-clause-room : goal.note_since-requires-clause-room
+note_since-requires-clause-room c =
+    let made = facts (goal.at.note_since-requires-clause-room c).After-play_turn-turn in
+    rw (c.log-before.ensures, made.told) (omega (arith, made.few, c.self.invariant.1.listed_room, ap (λ (v : Recorded). v.spare) c.self.view_is, c.requires))
+
+pub invariant_of-self : goal.invariant_of-self
+invariant_of-self c =
+    let here = goal.at.invariant_of-self c in
+    let made = facts here.After-play_turn-turn in
+    let old : Recorded = the_view c.self.inside in
+    let told = c.note_since.ensures in
+    let many = ap (λ (l : List Entry). length (drop (length l) (log_of c.play_turn-turn.new.self c.heap-collector.result.seats))) c.log-before.ensures ∙ ap (length {A = Entry}) made.told in
+    let seats = ap (λ (t : State). spare_of c.play_turn-turn.new.self (length t.seats)) c.play_turn-turn.ensures.state in (
+      led_turn AnyEvents old (after here.After-saturating_add-self-inside) c.self.invariant.0 c.play_turn-turn.result (makes here.After-saturating_add-self-inside made) tt,
+      record {
+        own_room = omega (arith, seats, c.play_turn-turn.ensures.spent.own, made.many, many, c.self.invariant.1.own_room, told.left);
+        listed_room = omega (arith, c.self.invariant.1.listed_room, told.left, told.capacity, told.len);
+      },
+    )
+
+pub returns : goal.returns
+returns c =
+    let here = goal.at.returns c in
+    let made : MakesTurn c.args.self.now (after here.After-saturating_add-self-inside) c.play_turn-turn.result
+    = subst (λ (v : Recorded). MakesTurn v (after here.After-saturating_add-self-inside) c.play_turn-turn.result) c.self.view_is (makes here.After-saturating_add-self-inside (facts here.After-play_turn-turn)) in
+    record { turns = made.turned; turned = made }
