@@ -4,7 +4,6 @@ pub mod TurnsOn
 pub mod FindsOn
 pub mod TellsNone
 pub mod Coming
-pub mod LastCycle
 pub mod Opened
 pub mod Parting
 pub mod TurnsStand

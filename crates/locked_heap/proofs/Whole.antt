@@ -30,7 +30,7 @@ use Rattle.heap_record.specs.Recorded.{Recorded}
 use Rattle.heap_model.specs.runs.Told.{commands_told, waits_told}
 use Rattle.locked_heap.proofs.Calling.{left_told}
 use Rattle.locked_heap.proofs.Coming.{paid_still, all_turned}
-use Rattle.locked_heap.proofs.LastCycle.{left_before, leaves_stay}
+use Rattle.heap_record.proofs.LastCycle.{left_before, leaves_stay}
 use Rattle.locked_heap.proofs.GivenRuns.{run_stands, run_of}
 use Rattle.locked_heap.proofs.TellsNone.{none_collectors}
 use Rattle.locked_heap.proofs.TurnsOn.{EndsWhole}
