@@ -20,5 +20,6 @@ pub mod Standing
 pub mod Told
 pub mod TurnFacts
 pub mod TurnedMachine
+pub mod Unused
 pub mod Waiting
 pub mod Whole

@@ -111,9 +111,11 @@ impl<L: Entries, C: CountsEntries> CollectorHolder<L, C> {
         Ok(Holder::of(table, token, self.heap, number, party))
     }
 
-    /// The heap whose table it is.
+    /// The heap whose table it is, each of whose seats has a place.
     pub fn heap(&self) -> Heap
-        ensures { result ≡ self.now.heap }
+        ensures heap { result ≡ self.now.heap }
+        ensures limits { IsHeap result }
+        ensures places { length self.now.known.seats ≡ result.seats }
     {
         self.heap
     }

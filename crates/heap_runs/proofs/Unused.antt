@@ -1,0 +1,77 @@
+-- A table that is closed behind a cycle that began after every seat had left.
+use Rattle.std.proofs.Common.{◌≡◌, ℕ, ◌+◌, ◌*◌, ◌<◌, ◌≤◌, true, List, [], ◌∷◌, ◌++◌, length, map, filter, Some, None, Option, inl, inr, refl, sym, ap, subst, ◌∙◌, arith}
+use Rattle.std.specs.Prelude.{All}
+use Rattle.std.specs.List.{AllByRecursion, range_with_len}
+use Rattle.std.specs.Option.{option_map_or}
+use Rattle.std.proofs.lemmas.Bool.Decides.{eqb_tells}
+use Rattle.std.proofs.lemmas.List.{length-map}
+use Rattle.std.proofs.lemmas.List.FromFn.{length-range_with_len}
+use Rattle.atomic_table.specs.Seated.{TableId}
+use Rattle.heap_model.specs.PhasePlan.{cycle_phases}
+use Rattle.heap_model.specs.Logs.{logs_of}
+use Rattle.heap_model.specs.declared.entry.Entry.{Entry}
+use Rattle.heap_model.specs.declared.entry.Entry.TheVariants.{Ends}
+use Rattle.heap_model.specs.declared.heap.Heap.{Heap}
+use Rattle.heap_model.specs.account.Effects.{is_of}
+use Rattle.heap_model.specs.account.Noting.{is_collectors}
+use Rattle.heap_model.specs.account.PhaseCounts.{has_left}
+use Rattle.heap_model.specs.account.Space.{fragments_gained, fragments_lost, words_granted, words_returned}
+use Rattle.core_machine.specs.seat.Seat.{Seat}
+use Rattle.core_rule.specs.SweepLaws.{EachLastCycleBalances}
+use Rattle.heap_table.specs.Closed.{ClosedTable, HasOneHistory, logs_known}
+use Rattle.heap_table.specs.Known.{CollectorKnown}
+use Rattle.heap_table.specs.SeatHeld.{SeatHeld}
+use Rattle.heap_runs.specs.Finishing.{HasGone, EndsUnused}
+use Rattle.heap_runs.proofs.Behind.{gone_told, ends_behind}
+use Rattle.heap_runs.proofs.Folding.{places_of}
+
+-- lists that are the same with one element more are the same, and so is the element
+snoc_same : {X : Type 0} → (xs ys : List X) (x y : X) → xs ++ x ∷ [] ≡ ys ++ y ∷ [] → (xs ≡ ys) × (x ≡ y)
+snoc_same [] [] x y same = (refl, cc same)
+snoc_same [] (b ∷ []) x y same = absurd (cc same)
+snoc_same [] (b ∷ (c ∷ ys)) x y same = absurd (cc same)
+snoc_same (a ∷ []) [] x y same = absurd (cc same)
+snoc_same (a ∷ (c ∷ xs)) [] x y same = absurd (cc same)
+snoc_same (a ∷ xs) (b ∷ ys) x y same =
+    let rest = snoc_same xs ys x y (cc same) in
+    let first : a ≡ b = cc same in
+    (ap (λ z. z ∷ xs) first ∙ ap (λ l. b ∷ l) rest.0, rest.1)
+
+-- the logs in the places of seats are the seats' own lists
+logs_there : (seats : List SeatHeld) → map (λ place. option_map_or (λ (seat : Seat). seat.mine) place []) (places_of seats) ≡ map (λ (held : SeatHeld). held.seat.mine) seats
+logs_there [] = refl
+logs_there (held ∷ seats) = ap (λ l. held.seat.mine ∷ l) (logs_there seats)
+
+pub logs_are : (known : CollectorKnown) (seats : List SeatHeld) → known.seats ≡ places_of seats → logs_known known ≡ map (λ (held : SeatHeld). held.seat.mine) seats ++ known.collector.log ∷ []
+logs_are known seats places = ap (λ l. map (λ place. option_map_or (λ (seat : Seat). seat.mine) place []) l ++ known.collector.log ∷ []) places ∙ ap (λ l. l ++ known.collector.log ∷ []) (logs_there seats)
+
+module _ (table : TableId) (heap : Heap) (history : List Entry) where
+  -- of seats that follow one another, whose lists are their parts of the history, each has left by the history
+  gone_from : (k : ℕ) (seats : List SeatHeld) → map (λ held. held.number) seats ≡ range_with_len k (length seats)
+      → map (λ held. held.seat.mine) seats ≡ map (λ n. filter (is_of n) history) (range_with_len k (length seats)) → AllByRecursion (HasGone table heap) seats
+      → (n : ℕ) → k ≤ n → n < k + length seats → has_left n history ≡ true
+  gone_from k [] numbers parts gone n from to = absurd (omega (arith, from, to))
+  gone_from k (held ∷ seats) numbers parts gone n from to =
+      let number : held.number ≡ k = cc numbers in
+      let mine : held.seat.mine ≡ filter (is_of k) history = cc parts in
+      elim (eqb_tells n k) as (λ _. has_left n history ≡ true) [
+        | inl same ↦ gone_told n history (subst (λ m. has_left m (filter (is_of m) history) ≡ true) (sym same.1) (rw (sym mine, sym number) gone.0.told))
+        | inr apart ↦ gone_from (k + 1) seats (cc numbers) (cc parts) gone.1 n (omega (arith, from, apart.1)) (omega (arith, to))
+      ]
+
+-- its one history ends behind the leaves, and nothing is in use
+pub ends_unused : EachLastCycleBalances → (table : TableId) (closed : ClosedTable) (seats : List SeatHeld) (earlier : List Entry) (cycle kept : ℕ) → HasOneHistory closed
+    → closed.logs ≡ map (λ held. held.seat.mine) seats ++ (earlier ++ Ends cycle kept ∷ []) ∷ [] → map (λ held. held.number) seats ≡ range_with_len 0 closed.heap.seats
+    → AllByRecursion (HasGone table closed.heap) seats → closed.folded ≤ cycle_phases * cycle → EndsUnused closed
+ends_unused balances table closed seats earlier cycle kept one logs numbers gone began =
+    let many : length seats ≡ closed.heap.seats = sym (length-map (λ held. held.number) seats) ∙ ap length numbers ∙ length-range_with_len 0 closed.heap.seats in
+    let both = snoc_same (map (λ held. held.seat.mine) seats) (map (λ n. filter (is_of n) one.history) (range_with_len 0 closed.heap.seats)) _ (filter is_collectors one.history) (sym logs ∙ one.logs_are) in
+    let ends = ends_behind closed.heap false one.history one.legal closed.folded one.seats_before earlier cycle kept (sym both.1) began
+        (λ n below. gone_from table closed.heap one.history 0 seats (numbers ∙ ap (range_with_len 0) (sym many)) (both.0 ∙ ap (λ m. map (λ n. filter (is_of n) one.history) (range_with_len 0 m)) (sym many)) gone n (omega arith) (omega (arith, below, many))) in
+    let balance = balances closed.heap one.state one.book ends.before ends.cycle ends.kept one.stands.rule (one.its_history ∙ ends.last) ends.left in
+    record {
+      one = one;
+      ends = ends;
+      none_used = subst (λ h. fragments_gained closed.heap h ≡ fragments_lost h) one.its_history balance.0;
+      all_returned = subst (λ h. words_granted h ≡ words_returned h) one.its_history balance.1;
+    }
