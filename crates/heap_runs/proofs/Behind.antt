@@ -6,6 +6,7 @@ use Rattle.std.proofs.lemmas.List.Folds.{list_any-append}
 use Rattle.std.proofs.lemmas.List.Sums.{sum_by-append}
 use Rattle.std.proofs.lemmas.Map.Views.{any-filter_same}
 use Rattle.heap_model.specs.PhasePlan.{cycle_phases}
+use Rattle.heap_model.specs.declared.command.Command.TheVariants.{Leave}
 use Rattle.heap_model.specs.declared.entry.Entry.{Entry}
 use Rattle.heap_model.specs.declared.entry.Entry.TheVariants as entries
 use Rattle.heap_model.specs.declared.heap.Heap.{Heap}
@@ -31,12 +32,12 @@ record PartsAt {X : Type 0} (test : X → Bool) (all : List X) : Type 0 where
 -- where some element passes there is such a place
 first_passing : {X : Type 0} (test : X → Bool) (all : List X) → list_any test all ≡ true → PartsAt test all
 first_passing test [] some = absurd (cc some)
-first_passing {X} test (x ∷ all) some = by (test x) refl some
+first_passing {X} test (x ∷ all) some = by (first_passing test all) (test x) refl some
   where
-    by : (b : Bool) → test x ≡ b → (b || list_any test all) ≡ true → PartsAt test (x ∷ all)
-    by true passes some_ = record { before = []; found = x; rest = all; passes = passes; parts = refl }
-    by false fails some_ = let later = first_passing test all some_ in
-        record { before = x ∷ later.before; found = later.found; rest = later.rest; passes = later.passes; parts = ap (λ (l : List X). x ∷ l) later.parts }
+    by : (list_any test all ≡ true → PartsAt test all) → (b : Bool) → test x ≡ b → (b || list_any test all) ≡ true → PartsAt test (x ∷ all)
+    by later true passes some_ = record { before = []; found = x; rest = all; passes = passes; parts = refl }
+    by later false fails some_ = let there = later some_ in
+        record { before = x ∷ there.before; found = there.found; rest = there.rest; passes = there.passes; parts = ap (λ (l : List X). x ∷ l) there.parts }
 
 -- the list is parted at the last element that passes the test
 record PartsAtLast {X : Type 0} (test : X → Bool) (all : List X) (last : X) : Type 0 where
@@ -49,22 +50,20 @@ record PartsAtLast {X : Type 0} (test : X → Bool) (all : List X) (last : X) : 
 last_passing : {X : Type 0} (test : X → Bool) (all earlier : List X) (last : X) → filter test all ≡ earlier ++ last ∷ [] → PartsAtLast test all last
 last_passing test [] [] last is = absurd (cc is)
 last_passing test [] (e ∷ earlier) last is = absurd (cc is)
-last_passing {X} test (x ∷ all) earlier last is = by (test x) earlier is
+last_passing {X} test (x ∷ all) earlier last is = by (last_passing test all) (test x) earlier is
   where
     onward : PartsAtLast test all last → PartsAtLast test (x ∷ all) last
     onward later = record { before = x ∷ later.before; rest = later.rest; none = later.none; parts = ap (λ (l : List X). x ∷ l) later.parts }
 
-    by : (b : Bool) (early : List X) → (if b then x ∷ filter test all else filter test all) ≡ early ++ last ∷ [] → PartsAtLast test (x ∷ all) last
-    by false early is_ = onward (last_passing test all early last is_)
-    by true [] is_ = record { before = []; rest = all; none = cc is_; parts = let same : x ≡ last = cc is_ in ap (λ (y : X). y ∷ all) same }
-    by true (e ∷ early) is_ = onward (last_passing test all early last (cc is_))
+    by : ((early : List X) (y : X) → filter test all ≡ early ++ y ∷ [] → PartsAtLast test all y) → (b : Bool) (early : List X) → (if b then x ∷ filter test all else filter test all) ≡ early ++ last ∷ []
+        → PartsAtLast test (x ∷ all) last
+    by later false early is_ = onward (later early last is_)
+    by later true [] is_ = record { before = []; rest = all; none = cc is_; parts = let same : x ≡ last = cc is_ in ap (λ (y : X). y ∷ all) same }
+    by later true (e ∷ early) is_ = onward (later early last (cc is_))
 
 -- a seat's leave is its own entry
 leaves_own : (number : ℕ) (entry : Entry) → is_leave_of number entry ≡ true → is_of number entry ≡ true
-leaves_own number (entries.Said other command reply) leaves = by command leaves
-  where
-    by : (command_ : _) → is_leave_of number (entries.Said other command_ reply) ≡ true → is_of number (entries.Said other command reply) ≡ true
-    by command_ leaves_ = cc leaves_
+leaves_own number (entries.Said other Leave reply) leaves = leaves
 leaves_own number _ leaves = absurd (cc leaves)
 
 -- and no collector's
@@ -112,18 +111,18 @@ module _ (heap : Heap) (play : Bool) (history : List Entry) (legal : IsLegal hea
   left_early : (number : ℕ) → has_left number history ≡ true → has_left number (up_to_cycle at.before) ≡ true
   left_early number left =
       let there : has_left number at.before ≡ true
-          = sym (or-false (has_left number at.before)) ∙ sym (list_any-append (is_leave_of number) at.before (ends ∷ [])) ∙ ap (has_left number) (sym ended) ∙ left in
+      = sym (or-false (has_left number at.before)) ∙ sym (list_any-append (is_leave_of number) at.before (ends ∷ [])) ∙ ap (has_left number) (sym ended) ∙ left in
       let leave = first_passing (is_leave_of number) at.before there in
       let seats = leaves_seat number leave.found leave.passes in
       let parts : history ≡ leave.before ++ leave.found ∷ (leave.rest ++ ends ∷ [])
-          = ended ∙ ap (λ (l : List Entry). l ++ ends ∷ []) leave.parts ∙ append_assoc leave.before (leave.found ∷ leave.rest) (ends ∷ []) in
+      = ended ∙ ap (λ (l : List Entry). l ++ ends ∷ []) leave.parts ∙ append_assoc leave.before (leave.found ∷ leave.rest) (ends ∷ []) in
       let no_phase : filter is_collectors (leave.found ∷ []) ≡ [] = rw seats refl in
       let front = leave.before ++ leave.found ∷ [] in
       let whole : at.before ≡ front ++ leave.rest = leave.parts ∙ sym (append_assoc leave.before (leave.found ∷ []) leave.rest) in
       let early : phase front ≤ cycle_phases * cycle
-          = omega (arith, seats_phase leave.before (leave.found ∷ []) no_phase, late leave.before (leave.rest ++ ends ∷ []) leave.found parts seats, began) in
+      = omega (arith, seats_phase leave.before (leave.found ∷ []) no_phase, late leave.before (leave.rest ++ ends ∷ []) leave.found parts seats, began) in
       let in_front : has_left number front ≡ true
-          = list_any-append (is_leave_of number) leave.before (leave.found ∷ []) ∙ rw leave.passes (or-true (has_left number leave.before)) in
+      = list_any-append (is_leave_of number) leave.before (leave.found ∷ []) ∙ rw leave.passes (or-true (has_left number leave.before)) in
       subst (λ (l : List Entry). has_left number (up_to_cycle l) ≡ true) (sym whole)
       (left_before heap play front leave.rest cycle kept number (subst (IsLegal heap play) (ended ∙ ap (λ (l : List Entry). l ++ ends ∷ []) whole) legal) early in_front)
 

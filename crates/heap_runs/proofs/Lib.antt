@@ -6,6 +6,7 @@ pub mod Between
 pub mod Bounds
 pub mod Calling
 pub mod Collecting
+pub mod Finished
 pub mod Folding
 pub mod Following
 pub mod Growing
@@ -20,6 +21,7 @@ pub mod Standing
 pub mod Told
 pub mod TurnFacts
 pub mod TurnedMachine
+pub mod TurnsKeep
 pub mod Unused
 pub mod Waiting
 pub mod Whole

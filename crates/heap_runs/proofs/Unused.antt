@@ -1,5 +1,5 @@
 -- A table that is closed behind a cycle that began after every seat had left.
-use Rattle.std.proofs.Common.{◌≡◌, ℕ, ◌+◌, ◌*◌, ◌<◌, ◌≤◌, true, List, [], ◌∷◌, ◌++◌, length, map, filter, Some, None, Option, inl, inr, refl, sym, ap, subst, ◌∙◌, arith}
+use Rattle.std.proofs.Common.{◌≡◌, ℕ, ◌+◌, ◌*◌, ◌<◌, ◌≤◌, true, false, List, [], ◌∷◌, ◌++◌, length, map, filter, Some, None, Option, inl, inr, refl, sym, ap, subst, ◌∙◌, arith}
 use Rattle.std.specs.Prelude.{All}
 use Rattle.std.specs.List.{AllByRecursion, range_with_len}
 use Rattle.std.specs.Option.{option_map_or}
@@ -64,10 +64,10 @@ pub ends_unused : EachLastCycleBalances → (table : TableId) (closed : ClosedTa
     → closed.logs ≡ map (λ held. held.seat.mine) seats ++ (earlier ++ Ends cycle kept ∷ []) ∷ [] → map (λ held. held.number) seats ≡ range_with_len 0 closed.heap.seats
     → AllByRecursion (HasGone table closed.heap) seats → closed.folded ≤ cycle_phases * cycle → EndsUnused closed
 ends_unused balances table closed seats earlier cycle kept one logs numbers gone began =
-    let many : length seats ≡ closed.heap.seats = sym (length-map (λ held. held.number) seats) ∙ ap length numbers ∙ length-range_with_len 0 closed.heap.seats in
+    let many : length seats ≡ closed.heap.seats = sym (length-map seats (λ (held : SeatHeld). held.number)) ∙ ap length numbers ∙ length-range_with_len 0 closed.heap.seats in
     let both = snoc_same (map (λ held. held.seat.mine) seats) (map (λ n. filter (is_of n) one.history) (range_with_len 0 closed.heap.seats)) _ (filter is_collectors one.history) (sym logs ∙ one.logs_are) in
     let ends = ends_behind closed.heap false one.history one.legal closed.folded one.seats_before earlier cycle kept (sym both.1) began
-        (λ n below. gone_from table closed.heap one.history 0 seats (numbers ∙ ap (range_with_len 0) (sym many)) (both.0 ∙ ap (λ m. map (λ n. filter (is_of n) one.history) (range_with_len 0 m)) (sym many)) gone n (omega arith) (omega (arith, below, many))) in
+    (λ n below. gone_from table closed.heap one.history 0 seats (numbers ∙ ap (range_with_len 0) (sym many)) (both.0 ∙ ap (λ m. map (λ n. filter (is_of n) one.history) (range_with_len 0 m)) (sym many)) gone n (omega arith) (omega (arith, below, many))) in
     let balance = balances closed.heap one.state one.book ends.before ends.cycle ends.kept one.stands.rule (one.its_history ∙ ends.last) ends.left in
     record {
       one = one;

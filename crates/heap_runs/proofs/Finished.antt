@@ -1,0 +1,88 @@
+-- A table whose seats were folded in, whose last cycle has ended, and which was closed.
+use Rattle.std.proofs.Common.{◌≡◌, ℕ, zero, suc, ◌+◌, ◌*◌, ◌<◌, ◌≤◌, List, [], ◌∷◌, ◌++◌, length, map, fold, None, Some, refl, sym, ap, subst, ◌∙◌, append_assoc, arith}
+use Rattle.std.specs.Prelude.{All}
+use Rattle.std.specs.List.{AllByRecursion, range_with_len}
+use Rattle.std.proofs.lemmas.List.{length-map}
+use Rattle.std.proofs.lemmas.List.FromFn.{length-range_with_len}
+use Rattle.std.proofs.lemmas.List.Elements.{recursion_from_All}
+use lib.ListN.{get_elem?}
+use mathlib.Core.Option.{some}
+use Rattle.heap_model.specs.Heap.{IsHeap}
+use Rattle.heap_model.specs.declared.entry.Entry.{Entry}
+use Rattle.heap_model.specs.declared.entry.Entry.TheVariants.{Ends}
+use Rattle.heap_model.specs.declared.heap.Heap.{Heap}
+use Rattle.core_machine.specs.seat.Seat.{Seat}
+use Rattle.core_machine.specs.collector.Collector.{Collector}
+use Rattle.core_rule.specs.SweepLaws.{EachLastCycleBalances}
+use Rattle.heap_table.specs.Closed.{ClosedTable, HasOneHistory, logs_known}
+use Rattle.heap_table.specs.CollectorHeld.{CollectorHeld}
+use Rattle.heap_table.specs.Folded.{IsFolded, AllFolded}
+use Rattle.heap_table.specs.Known.{CollectorKnown}
+use Rattle.heap_table.specs.SeatHeld.{SeatHeld}
+use Rattle.heap_record.specs.LastCycle.{EndsWholeCycle}
+use Rattle.collector_turns.specs.Collector.{CollectorValue, state_of}
+use Rattle.collector_turns.specs.Turning.{TakesTurn, MakesRoom}
+use Rattle.heap_runs.specs.Finishing.{HasGone, HasLogs, EndsUnused, folded_in}
+use Rattle.heap_runs.proofs.Folding.{places_of, all_places, folded_then, folded_now}
+use Rattle.heap_runs.proofs.TurnsKeep.{KeepsFolded, turns_keep}
+use Rattle.heap_runs.proofs.Unused.{logs_are, ends_unused}
+
+-- each of these seats stands in its place
+placed : (seats : List SeatHeld) (n : ℕ) → n < length seats → (seat : Seat) × IsFolded (places_of seats) n seat
+placed [] n below = absurd (omega (arith, below))
+placed (held ∷ seats) zero below = (held.seat, refl)
+placed (held ∷ seats) (suc n) below = placed seats n (omega (arith, below))
+
+module _ (start folded last : CollectorHeld) (seats : List SeatHeld) (begun ended : CollectorValue) (limits : IsHeap start.heap) (places : length start.known.seats ≡ start.heap.seats)
+    (numbers : map (λ held. held.number) seats ≡ range_with_len 0 start.heap.seats) (folds : folded ≡ record start { known = fold folded_in start.known seats })
+    (begins : begun ≡ record { holder = folded; last_turn = None }) (cycle : EndsWholeCycle state_of MakesRoom TakesTurn begun ended) (last_is : last ≡ ended.holder) where
+  kept : KeepsFolded begun ended
+  kept = turns_keep cycle.turns begun ended cycle.made
+
+  many : length seats ≡ start.heap.seats
+  many = sym (length-map seats (λ (held : SeatHeld). held.number)) ∙ ap length numbers ∙ length-range_with_len 0 start.heap.seats
+
+  pub heap_is : last.heap ≡ start.heap
+  heap_is = ap (λ (h : CollectorHeld). h.heap) last_is ∙ kept.heap_stays ∙ ap (λ (v : CollectorValue). v.holder.heap) begins ∙ ap (λ (h : CollectorHeld). h.heap) folds
+
+  known_begun : begun.holder.known ≡ fold folded_in start.known seats
+  known_begun = ap (λ (v : CollectorValue). v.holder.known) begins ∙ ap (λ (h : CollectorHeld). h.known) folds
+
+  seats_are : last.known.seats ≡ places_of seats
+  seats_are = ap (λ (h : CollectorHeld). h.known.seats) last_is ∙ kept.seats_stay ∙ ap (λ (k : CollectorKnown). k.seats) known_begun
+      ∙ all_places seats start.known (numbers ∙ ap (range_with_len 0) (sym places))
+
+  -- every seat was folded in
+  pub all_folded : AllFolded last.heap last.known.seats
+  all_folded number below =
+      let there = placed seats number (omega (arith, below, many, ap (λ (h : Heap). h.seats) heap_is)) in
+      (there.0, subst (λ l. IsFolded l number there.0) (sym seats_are) there.1)
+
+  collector_begun : begun.holder.known.collector ≡ start.known.collector
+  collector_begun = ap (λ (k : CollectorKnown). k.collector) known_begun ∙ folded_then seats start.known
+
+  folded_is : last.known.folded ≡ start.known.collector.phase
+  folded_is = ap (λ (h : CollectorHeld). h.known.folded) last_is ∙ kept.folded_stays ∙ ap (λ (k : CollectorKnown). k.folded) known_begun
+      ∙ folded_now seats start.known (omega (arith, many, limits.some_seat))
+
+  log_is : last.known.collector.log ≡ start.known.collector.log ++ (cycle.earlier ++ Ends cycle.cycle cycle.kept ∷ [])
+  log_is = ap (λ (h : CollectorHeld). h.known.collector.log) last_is ∙ cycle.told
+      ∙ ap (λ (c : Collector). c.log ++ (cycle.earlier ++ Ends cycle.cycle cycle.kept ∷ [])) collector_begun
+
+  module _ (closed : ClosedTable) (logs : closed.logs ≡ logs_known last.known) where
+    known_logs : closed.logs ≡ map (λ held. held.seat.mine) seats ++ (start.known.collector.log ++ (cycle.earlier ++ Ends cycle.cycle cycle.kept ∷ [])) ∷ []
+    known_logs = logs ∙ logs_are last.known seats seats_are ∙ ap (λ (l : List Entry). map (λ held. held.seat.mine) seats ++ l ∷ []) log_is
+
+    -- the logs are the seats' and the collector's
+    pub has_logs : HasLogs seats start.known.collector.log closed
+    has_logs = record { turned = cycle.earlier ++ Ends cycle.cycle cycle.kept ∷ []; logs_are = known_logs }
+
+    -- and nothing is in use
+    pub all_unused : EachLastCycleBalances → HasOneHistory closed → closed.heap ≡ last.heap → closed.folded ≡ last.known.folded → All (HasGone start.table start.heap) seats → EndsUnused closed
+    all_unused balances one heap_closed folded_closed gone =
+        let same : closed.heap ≡ start.heap = heap_closed ∙ heap_is in
+        ends_unused balances start.table closed seats (start.known.collector.log ++ cycle.earlier) cycle.cycle cycle.kept one
+        (known_logs ∙ ap (λ (l : List Entry). map (λ held. held.seat.mine) seats ++ l ∷ []) (sym (append_assoc start.known.collector.log cycle.earlier (Ends cycle.cycle cycle.kept ∷ []))))
+        (numbers ∙ ap (λ (h : Heap). range_with_len 0 h.seats) (sym same))
+        (recursion_from_All (HasGone start.table closed.heap) seats (subst (λ (h : Heap). All (HasGone start.table h) seats) (sym same) gone))
+        (omega (arith, cycle.began, folded_closed, folded_is, ap (λ (c : Collector). c.phase) collector_begun))
