@@ -1,3 +1,4 @@
 pub mod Checking
 pub mod Legal
 pub mod Lines
+pub mod Merging

@@ -1,0 +1,9 @@
+-- The exchange of neighbours, and what is left of logs.
+pub mod Changes
+pub mod Commuting
+pub mod Exchange
+pub mod Finding
+pub mod Parts
+pub mod Places
+pub mod Rests
+pub mod Sound
