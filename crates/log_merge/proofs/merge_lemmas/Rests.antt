@@ -26,6 +26,7 @@ use Rattle.heap_model.specs.graph.Changes.{write}
 use Rattle.heap_model.specs.graph.Growth.{after_entry, after_reply, graph_after}
 use Rattle.heap_model.specs.graph.Legal.{Accepts, AcceptsAll}
 use Rattle.log_merge.specs.Merging.{is_in_log, part_of, left_of, HasGet, HasPendingGet, WaitsForNone, IsReady, IsNext}
+use Rattle.log_merge.specs.Placing.{IsCompletion}
 use Rattle.log_merge.proofs.merge_lemmas.Changes.{Own, own, own_after, change_of, seat_changed, after_reply-changed, own-changed}
 use Rattle.log_merge.proofs.merge_lemmas.Sound.{IsSound}
 use Rattle.log_merge.proofs.merge_lemmas.Finding.{present_within, IsSound-opening, IsSound-after, own-after_other, Writes, IsGetOf, NoGets, IsGone-written, NoGets-gone}
@@ -81,7 +82,7 @@ own_step g h (entries.Said other command reply) number is same within there =
     subst (λ n. own (after_reply g n command reply) number ≡ own (after_reply h n command reply) number) (sym (eqb-true other number is)) (said_step g h number command reply same within there)
 own_step g h _ number is same within there = same
 
-not_of : (number : ℕ) (e : Entry) → is_of number e ≡ false → seat_of e ≡ Some number → ⊥
+pub not_of : (number : ℕ) (e : Entry) → is_of number e ≡ false → seat_of e ≡ Some number → ⊥
 not_of number e not_mine is = both_ways (is_of number e) not_mine (is_of-seat_of number e number is ∙ eq-eqb number number refl)
 
 own_history : (es : List Entry) (g h : Graph) (number : ℕ) → own g number ≡ own h number → number < length g.seats → number < length h.seats
@@ -94,7 +95,7 @@ own_history (e ∷ es) g h number same within there = elim (cases_Bool (is_of nu
       ∙ ap (λ xs. own (graph_after h xs) number) (sym (filter-no (is_of number) e es other))
 ]
 
-own_parts : (heap : Heap) (number : ℕ) (placed front : List Entry) → number < heap.seats → own (graph_of heap (placed ++ front)) number ≡ own (graph_of heap (part_of heap number placed ++ part_of heap number front)) number
+pub own_parts : (heap : Heap) (number : ℕ) (placed front : List Entry) → number < heap.seats → own (graph_of heap (placed ++ front)) number ≡ own (graph_of heap (part_of heap number placed ++ part_of heap number front)) number
 own_parts heap number placed front within =
     let there : number < length (opening heap).seats = omega (arith, seats-opening heap) in
     own_history (placed ++ front) (opening heap) (opening heap) number refl there there
@@ -103,12 +104,7 @@ own_parts heap number placed front within =
 pub graph_of-append : (heap : Heap) (placed front : List Entry) → graph_of heap (placed ++ front) ≡ graph_after (graph_of heap placed) front
 graph_of-append heap placed front = fold-append after_entry (opening heap) placed front
 
--- what is left of the logs, in some order, is legal behind what was placed
-pub record IsCompletion (heap : Heap) (logs : List (List Entry)) (placed rest : List Entry) : Type 0 where
-  pub legal : AcceptsAll (opening heap) (placed ++ rest)
-  pub kept : logs ≡ logs_of heap (placed ++ rest)
-
-rest_accepted : (heap : Heap) (logs : List (List Entry)) (placed rest : List Entry) → IsCompletion heap logs placed rest → AcceptsAll (graph_of heap placed) rest
+pub rest_accepted : (heap : Heap) (logs : List (List Entry)) (placed rest : List Entry) → IsCompletion heap logs placed rest → AcceptsAll (graph_of heap placed) rest
 rest_accepted heap logs placed rest completion = (AcceptsAll-parts (opening heap) placed rest completion.legal).1
 
 pub placed_sound : (heap : Heap) (logs : List (List Entry)) (placed rest : List Entry) → IsCompletion heap logs placed rest → IsSound (graph_of heap placed)
@@ -124,13 +120,13 @@ no_get_at g [] back x value j t none gets = none.0 gets
 no_get_at g (e ∷ front) back x value j t none gets = no_get_at (after_entry g e) front back x value j t none.1 gets
 
 -- in which log a seat's entry stands
-in_log_seat : (heap : Heap) (number seat : ℕ) (command : Command) (reply : Reply) → is_in_log heap number (entries.Said seat command reply) ≡ true → (number < heap.seats) × (seat ≡ number)
+pub in_log_seat : (heap : Heap) (number seat : ℕ) (command : Command) (reply : Reply) → is_in_log heap number (entries.Said seat command reply) ≡ true → (number < heap.seats) × (seat ≡ number)
 in_log_seat heap number seat command reply is = elim (cases_lt number heap.seats) [
   | inl within ↦ (within, eqb-true seat number (sym (in_seats_log heap number within (entries.Said seat command reply)) ∙ is))
   | inr past ↦ absurd (let no : false ≡ true = sym (in_collectors_log heap number past (entries.Said seat command reply)) ∙ is in cc)
 ]
 
-seat_in_log : (heap : Heap) (seat : ℕ) (command : Command) (reply : Reply) → seat < heap.seats → is_in_log heap seat (entries.Said seat command reply) ≡ true
+pub seat_in_log : (heap : Heap) (seat : ℕ) (command : Command) (reply : Reply) → seat < heap.seats → is_in_log heap seat (entries.Said seat command reply) ≡ true
 seat_in_log heap seat command reply within = in_seats_log heap seat within (entries.Said seat command reply) ∙ eq-eqb seat seat refl
 
 -- a get that is left of a log stands in the rest
@@ -239,7 +235,7 @@ none_is_due heap logs placed rest front back (entries.Said seat (commands.Set r 
 none_is_due heap logs placed rest front back _ number completion parted none waits = λ value j t writes. absurd writes
 
 -- the seat of an entry of a seat's log
-of_seat : (number : ℕ) (e : Entry) → is_of number e ≡ true → seat_of e ≡ Some number
+pub of_seat : (number : ℕ) (e : Entry) → is_of number e ≡ true → seat_of e ≡ Some number
 of_seat number (entries.Said other command reply) is = ap Some (eqb-true other number is)
 of_seat number (entries.Takes other count) is = ap Some (eqb-true other number is)
 of_seat number (entries.GivesBack other count) is = ap Some (eqb-true other number is)
