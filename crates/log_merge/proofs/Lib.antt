@@ -2,3 +2,4 @@ mod AccountLemmas
 mod LegalLemmas
 mod LineLemmas
 mod PassingLemmas
+mod merge_lemmas

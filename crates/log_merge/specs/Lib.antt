@@ -1,3 +1,7 @@
 pub mod Checking
 pub mod Legal
 pub mod Lines
+pub mod Merging
+pub mod PendingGets
+pub mod Placing
+pub mod Registers

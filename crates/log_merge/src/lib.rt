@@ -1,10 +1,12 @@
-//! The checking of histories: whether each line is legal after those before it.
+//! The checking of histories, and the merging of logs: whether each line is legal after those before it, and an order in which logs are.
 #![tactic(auto)]
 
 mod checker;
 mod checking;
 mod fault;
+mod merging;
 mod totals;
 
 pub use checking::check;
 pub use fault::CheckFault;
+pub use merging::merge;

@@ -1,0 +1,13 @@
+-- The exchange of neighbours, and what is left of logs.
+pub mod Changes
+pub mod Commuting
+pub mod Counting
+pub mod Exchange
+pub mod Finding
+pub mod Kinds
+pub mod MergerLemmas
+pub mod Merges
+pub mod Parts
+pub mod Places
+pub mod Rests
+pub mod Sound

@@ -1,0 +1,277 @@
+-- In the graph of a legal history nothing refers to what was not made yet, and no stamp is that of a set to come.
+use Rattle.std.proofs.Common.{◌≡◌, ℕ, ◌+◌, ◌<◌, ◌≤◌, inl, inr, Bool, true, false, List, [], length, get_or, set, replicate, slice_get, Option, Some, None, Ok, refl, sym, ap, ◌∙◌, subst, arith}
+use Rattle.std.specs.List.{All}
+use Rattle.std.proofs.lemmas.Bool.{cases_lt, cases_eq, cases_order}
+use Rattle.std.proofs.lemmas.List.{get_or-set_same, get_or-set_other, get_or_past, set_past}
+use Rattle.std.proofs.lemmas.List.Elements.{All-nil, All-cons, All-get_or, All-append, All-set, All-weaker, All-replicate}
+use Rattle.std.proofs.lemmas.Option.{slice_get_within, get_or_from_slice_get}
+use Rattle.heap_model.specs.Limits.{stamp_limit, register_count}
+use Rattle.heap_model.specs.declared.id.Id.TheVariants.{Board, Made}
+use Rattle.heap_model.specs.declared.id.Value.{Value}
+use Rattle.heap_model.specs.declared.id.Value.TheVariants.{Nil, Number, Object}
+use Rattle.heap_model.specs.declared.graph.cell.Cell.{Cell}
+use Rattle.heap_model.specs.declared.command.Command.{Command}
+use Rattle.heap_model.specs.declared.command.Command.TheVariants as commands
+use Rattle.heap_model.specs.declared.reply.Reply.{Reply}
+use Rattle.heap_model.specs.declared.reply.Reply.TheVariants as replies
+use Rattle.heap_model.specs.graph.Objects.{graph_seat, register_value, absent_graph_seat, target_node, cell_or_refusal, or_no_field}
+use Rattle.heap_model.specs.graph.Replies.{Says, Sets, Gets}
+use Rattle.heap_model.specs.graph.Graph.{Node, GraphSeat, Graph, fresh, unset}
+use Rattle.heap_model.specs.graph.Changes.{with_cell, with_object_cell, write, set_stamp}
+use Rattle.log_merge.proofs.merge_lemmas.Changes.{Own, own, Change, grown, with_object, with_set, change_of, seat_changed, changed, own-changed, own-changed_other}
+use Rattle.log_merge.proofs.merge_lemmas.Places.{look, IsKnown}
+
+-- the stamp is none that a set to come will have
+abbrev pub IsOld : Graph → ℕ → Type 0
+IsOld g stamp = (seat n : ℕ) → (own g seat).sets < n → n < stamp_limit → stamp ≡ set_stamp seat n → ⊥
+
+abbrev pub IsSoundCell : Graph → Cell → Type 0
+IsSoundCell g cell = IsKnown g cell.value × IsOld g cell.stamp
+
+-- each cell of the seat's objects
+abbrev pub AllOfSeat : (Cell → Type 0) → GraphSeat → Type 0
+AllOfSeat P seat = All (λ o. All P o.cells) seat.objects
+
+-- each cell of the graph
+pub record AllCells (P : Cell → Type 0) (g : Graph) : Type 0 where
+  pub board : All P g.board.cells
+  pub seats : All (AllOfSeat P) g.seats
+
+-- each register and each cell is sound
+pub record IsSound (g : Graph) : Type 0 where
+  pub registers : (seat r : ℕ) → IsKnown g (register_value g seat r)
+  pub cells : AllCells (IsSoundCell g) g
+
+-- what holds of each element and of the default
+pub holds_or : {A : Type 0} (P : A → Type 0) (xs : List A) (i : ℕ) (d : A) → All P xs → P d → P (get_or xs i d)
+holds_or P xs i d all other = elim (cases_lt i (length xs)) [
+  | inl within ↦ All-get_or P xs i d within all
+  | inr past ↦ subst P (sym (get_or_past xs i d past)) other
+]
+
+holds_at : {A : Type 0} (P : A → Type 0) (xs : List A) (i : ℕ) (x : A) → All P xs → slice_get xs i ≡ Some x → P x
+holds_at P xs i x all here = subst P (get_or_from_slice_get xs i x x here) (All-get_or P xs i x (slice_get_within xs i x here) all)
+
+-- of each cell that is found
+cell_holds : (P : Cell → Type 0) (o : Option Node) (i : ℕ) (cell : Cell) → ((n : Node) → o ≡ Some n → All P n.cells) → cell_or_refusal o i ≡ Ok cell → P cell
+cell_holds P None i cell all found = absurd cc
+cell_holds P (Some n) i cell all found = option (slice_get n.cells i) refl found
+  where
+    option : (found : Option Cell) → slice_get n.cells i ≡ found → or_no_field found ≡ Ok cell → P cell
+    option None here is = absurd cc
+    option (Some c) here is = (let same : c ≡ cell = cc in subst P same (holds_at P n.cells i c (all n refl) here))
+
+pub AllCells-look : (P : Cell → Type 0) (g : Graph) (value : Value) (i : ℕ) (cell : Cell) → AllCells P g → look g value i ≡ Ok cell → P cell
+AllCells-look P g Nil i cell all found = absurd cc
+AllCells-look P g (Number n) i cell all found = absurd cc
+AllCells-look P g (Object Board) i cell all found = holds_at_board (slice_get g.board.cells i) refl found
+  where
+    holds_at_board : (c : Option Cell) → slice_get g.board.cells i ≡ c → or_no_field c ≡ Ok cell → P cell
+    holds_at_board None here is = absurd cc
+    holds_at_board (Some c) here is = (let same : c ≡ cell = cc in subst P same (holds_at P g.board.cells i c all.board here))
+AllCells-look P g (Object (Made number count)) i cell all found =
+    let objects : AllOfSeat P (graph_seat g number) = holds_or (AllOfSeat P) g.seats number absent_graph_seat all.seats (All-nil (λ (o : Node). All P o.cells)) in
+    cell_holds P (slice_get (graph_seat g number).objects count) i cell (λ n here. holds_at (λ (o : Node). All P o.cells) (graph_seat g number).objects count n objects here) found
+
+-- a cell is written
+AllCells-write : (P : Cell → Type 0) (g : Graph) (value : Value) (i : ℕ) (cell : Cell) → AllCells P g → P cell → AllCells P (write g value i cell)
+AllCells-write P g Nil i cell all here = all
+AllCells-write P g (Number n) i cell all here = all
+AllCells-write P g (Object Board) i cell all here = record { board = All-set P g.board.cells i cell here all.board; seats = all.seats }
+AllCells-write P g (Object (Made number count)) i cell all here =
+    let Q = λ (o : Node). All P o.cells in
+    let s = graph_seat g number in
+    let objects : AllOfSeat P s = holds_or (AllOfSeat P) g.seats number absent_graph_seat all.seats (All-nil Q) in
+    let o = get_or s.objects count (fresh false 0) in
+    let cells : Q o = holds_or Q s.objects count (fresh false 0) objects (All-nil P) in
+    record {
+      board = all.board;
+      seats = All-set (AllOfSeat P) g.seats number (with_object_cell s count i cell) (All-set Q s.objects count (with_cell o i cell) (All-set P o.cells i cell here cells) objects) all.seats;
+    }
+
+-- a seat grows
+AllCells-seat_changed : (P : Cell → Type 0) (g : Graph) (number : ℕ) (c : Change) → AllCells P g → All (λ (o : Node). All P o.cells) c.more → AllCells P (seat_changed g number c)
+AllCells-seat_changed P g number c all more =
+    let Q = λ (o : Node). All P o.cells in
+    let s = graph_seat g number in
+    let objects : AllOfSeat P s = holds_or (AllOfSeat P) g.seats number absent_graph_seat all.seats (All-nil Q) in
+    record {
+      board = all.board;
+      seats = All-set (AllOfSeat P) g.seats number (grown s c) (All-append Q s.objects c.more objects more) all.seats;
+    }
+
+AllCells-weaker : (P Q : Cell → Type 0) (g : Graph) → ((c : Cell) → P c → Q c) → AllCells P g → AllCells Q g
+AllCells-weaker P Q g weaker all = record {
+  board = All-weaker P Q weaker g.board.cells all.board;
+  seats = All-weaker (AllOfSeat P) (AllOfSeat Q) (λ s. All-weaker (λ (o : Node). All P o.cells) (λ (o : Node). All Q o.cells) (λ o. All-weaker P Q weaker o.cells) s.objects) g.seats all.seats;
+}
+
+-- objects and sets only become more
+pub record Grows (g h : Graph) : Type 0 where
+  pub made : (seat : ℕ) → (own g seat).made ≤ (own h seat).made
+  pub sets : (seat : ℕ) → (own g seat).sets ≤ (own h seat).sets
+
+pub IsKnown-grows : (g h : Graph) (value : Value) → Grows g h → IsKnown g value → IsKnown h value
+IsKnown-grows g h Nil grows known = tt
+IsKnown-grows g h (Number n) grows known = tt
+IsKnown-grows g h (Object Board) grows known = tt
+IsKnown-grows g h (Object (Made number count)) grows known = omega (arith, grows.made number, known)
+
+pub IsOld-grows : (g h : Graph) (stamp : ℕ) → Grows g h → IsOld g stamp → IsOld h stamp
+IsOld-grows g h stamp grows old = λ seat n later few is. old seat n (omega (arith, grows.sets seat, later)) few is
+
+pub Grows-changed : (g : Graph) (number : ℕ) (c : Change) → number < length g.seats → (own g number).sets ≤ c.sets → Grows g (changed g number c)
+Grows-changed g number c within sets = record {
+  made = λ seat. elim (cases_eq seat number) [
+    | inl same ↦ subst (λ n. (own g n).made ≤ (own (changed g number c) n).made) (sym same) (let e = ap (λ (o : Own). o.made) (own-changed g number c within) in omega (arith, e))
+    | inr apart ↦ (let e = ap (λ (o : Own). o.made) (own-changed_other g number seat c apart) in omega (arith, e))
+  ];
+  sets = λ seat. elim (cases_eq seat number) [
+    | inl same ↦ subst (λ n. (own g n).sets ≤ (own (changed g number c) n).sets) (sym same) (let e = ap (λ (o : Own). o.sets) (own-changed g number c within) in omega (arith, e))
+    | inr apart ↦ (let e = ap (λ (o : Own). o.sets) (own-changed_other g number seat c apart) in omega (arith, e))
+  ];
+}
+
+-- what the set of a seat finds
+pub record IsSetAt (g : Graph) (number : ℕ) (value : Value) (i stamp : ℕ) : Type 0 where
+  pub cell : Cell
+  pub found : look g value i ≡ Ok cell
+  pub shown : cell.stamp ≡ stamp
+  pub few : (own g number).sets + 1 < stamp_limit
+
+cell_set : (c : Option Cell) (sets stamp : ℕ) → Sets sets (or_no_field c) (replies.Was stamp) → (cell : Cell) × (or_no_field c ≡ Ok cell) × (cell.stamp ≡ stamp) × (sets + 1 < stamp_limit)
+cell_set None sets stamp says = absurd (let e : replies.Was stamp ≡ replies.NoField = says in cc)
+cell_set (Some cell) sets stamp says = (let e : replies.Was stamp ≡ replies.Was cell.stamp = says.0 in (cell, refl, cc, says.1))
+
+node_set : (o : Option Node) (i sets stamp : ℕ) → Sets sets (cell_or_refusal o i) (replies.Was stamp) → (cell : Cell) × (cell_or_refusal o i ≡ Ok cell) × (cell.stamp ≡ stamp) × (sets + 1 < stamp_limit)
+node_set None i sets stamp says = absurd (let e : replies.Was stamp ≡ replies.NoObject = says in cc)
+node_set (Some n) i sets stamp says = cell_set (slice_get n.cells i) sets stamp says
+
+pub set_found : (g : Graph) (number r i v stamp : ℕ) → Says g number (commands.Set r i v) (replies.Was stamp) → IsSetAt g number (register_value g number r) i stamp
+set_found g number r i v stamp says =
+    let all = node_set (target_node g (register_value g number r)) i (own g number).sets stamp says in
+    record { cell = all.0; found = all.1; shown = all.2; few = all.3 }
+
+-- what a get finds
+cell_got : (c : Option Cell) (value : Value) (stamp : ℕ) → Gets (or_no_field c) (replies.Got value stamp) → (cell : Cell) × (or_no_field c ≡ Ok cell) × (cell.value ≡ value) × (cell.stamp ≡ stamp)
+cell_got None value stamp says = absurd (let e : replies.Got value stamp ≡ replies.NoField = says in cc)
+cell_got (Some cell) value stamp says = (let e : replies.Got value stamp ≡ replies.Got cell.value cell.stamp = says in (cell, refl, cc, cc))
+
+node_got : (o : Option Node) (i : ℕ) (value : Value) (stamp : ℕ) → Gets (cell_or_refusal o i) (replies.Got value stamp) → (cell : Cell) × (cell_or_refusal o i ≡ Ok cell) × (cell.value ≡ value) × (cell.stamp ≡ stamp)
+node_got None i value stamp says = absurd (let e : replies.Got value stamp ≡ replies.NoObject = says in cc)
+node_got (Some n) i value stamp says = cell_got (slice_get n.cells i) value stamp says
+
+pub get_found : (g : Graph) (number d r i : ℕ) (value : Value) (stamp : ℕ) → Says g number (commands.Get d r i) (replies.Got value stamp)
+    → (cell : Cell) × (look g (register_value g number r) i ≡ Ok cell) × (cell.value ≡ value) × (cell.stamp ≡ stamp)
+get_found g number d r i value stamp says = node_got (target_node g (register_value g number r)) i value stamp says
+
+-- a change that keeps the graph sound
+pub record IsSoundChange (g : Graph) (number : ℕ) (c : Change) : Type 0 where
+  pub registers : (r : ℕ) → IsKnown (changed g number c) (get_or c.registers r Nil)
+  pub more : All (λ (o : Node). All (λ cell. cell ≡ unset) o.cells) c.more
+  pub sets : (own g number).sets ≤ c.sets
+  pub place : IsKnown g c.place
+  pub cell : IsSoundCell (changed g number c) c.cell
+
+-- the stamps 0 and of a set that was done are old
+pub IsOld-none : (g : Graph) → IsOld g 0
+IsOld-none g = λ seat n later few is. omega (arith, is)
+
+IsOld-stamp : (g : Graph) (number sets : ℕ) → (own g number).sets ≡ sets → sets < stamp_limit → IsOld g (set_stamp number sets)
+IsOld-stamp g number sets is few = λ seat n later below same. elim (cases_order seat number) [
+  | inl equal ↦ (let mine : (own g number).sets < n = subst (λ s. (own g s).sets < n) equal later in omega (arith, mine, is, same, equal))
+  | inr apart ↦ elim apart [ inl before ↦ omega (arith, before, same, few, below) | inr behind ↦ omega (arith, behind, same, few, below) ]
+]
+
+-- a sound value in a register
+set_known : (g : Graph) (registers : List Value) (d : ℕ) (value : Value) → ((r : ℕ) → IsKnown g (get_or registers r Nil)) → IsKnown g value → (r : ℕ) → IsKnown g (get_or (set registers d value) r Nil)
+set_known g registers d value all known r = elim (cases_eq r d) [
+  | inr apart ↦ subst (IsKnown g) (sym (get_or-set_other registers d r value Nil apart)) (all r)
+  | inl same ↦ elim (cases_lt d (length registers)) [
+    | inl within ↦ subst (IsKnown g) (sym (ap (λ x. get_or (set registers d value) x Nil) same ∙ get_or-set_same registers d value Nil within)) known
+    | inr past ↦ subst (λ xs. IsKnown g (get_or xs r Nil)) (sym (set_past registers d value past)) (all r)
+  ]
+]
+
+-- only the registers change
+quiet_change : (g : Graph) (number : ℕ) (registers : List Value) (left : Bool) → number < length g.seats → ((r : ℕ) → IsKnown g (get_or registers r Nil))
+    → IsSoundChange g number (record { registers = registers; more = []; sets = (own g number).sets; left = left; place = Nil; index = 0; cell = unset })
+quiet_change g number registers left within known =
+    let c : Change = record { registers = registers; more = []; sets = (own g number).sets; left = left; place = Nil; index = 0; cell = unset } in
+    let grows : Grows g (changed g number c) = Grows-changed g number c within (omega arith) in
+    record {
+      registers = λ r. IsKnown-grows g (changed g number c) (get_or registers r Nil) grows (known r);
+      more = All-nil (λ (o : Node). All (λ (cell : Cell). cell ≡ unset) o.cells);
+      sets = omega arith;
+      place = tt;
+      cell = (tt, IsOld-none (changed g number c));
+    }
+
+-- an object is made
+made_change : (g : Graph) (number d : ℕ) (array : Bool) (cells : ℕ) → number < length g.seats → ((r : ℕ) → IsKnown g (register_value g number r)) → IsSoundChange g number (with_object (own g number) number d (fresh array cells))
+made_change g number d array cells within known =
+    let c = with_object (own g number) number d (fresh array cells) in
+    let h = changed g number c in
+    let grows : Grows g h = Grows-changed g number c within (omega arith) in
+    let one_more = ap (λ (o : Own). o.made) (own-changed g number c within) in
+    let made : (own g number).made < (own h number).made = omega (arith, one_more) in
+    record {
+      registers = λ r. set_known h (own g number).registers d (Object (Made number (own g number).made)) (λ q. IsKnown-grows g h (register_value g number q) grows (known q)) made r;
+      more = All-cons (λ (o : Node). All (λ (cell : Cell). cell ≡ unset) o.cells) (fresh array cells) [] (All-replicate (λ (cell : Cell). cell ≡ unset) cells unset refl) (All-nil (λ (o : Node). All (λ (cell : Cell). cell ≡ unset) o.cells));
+      sets = omega arith;
+      place = tt;
+      cell = (tt, IsOld-none h);
+    }
+
+-- a cell is set
+set_change : (g : Graph) (number r i v : ℕ) → number < length g.seats → ((q : ℕ) → IsKnown g (register_value g number q)) → (own g number).sets + 1 < stamp_limit → IsSoundChange g number (with_set (own g number) number r i v)
+set_change g number r i v within known few =
+    let c = with_set (own g number) number r i v in
+    let h = changed g number c in
+    let grows : Grows g h = Grows-changed g number c within (omega arith) in
+    record {
+      registers = λ q. IsKnown-grows g h (register_value g number q) grows (known q);
+      more = All-nil (λ (o : Node). All (λ (cell : Cell). cell ≡ unset) o.cells);
+      sets = omega arith;
+      place = known r;
+      cell = (IsKnown-grows g h (register_value g number v) grows (known v), IsOld-stamp h number ((own g number).sets + 1) (ap (λ (o : Own). o.sets) (own-changed g number c within)) few);
+    }
+
+-- registers that are nil
+nil_known : (g : Graph) (r : ℕ) → IsKnown g (get_or (replicate register_count Nil) r Nil)
+nil_known g r = holds_or (IsKnown g) (replicate register_count Nil) r Nil (All-replicate (IsKnown g) register_count Nil tt) tt
+
+-- what a seat does keeps the graph sound
+pub sound_change : (g : Graph) (number : ℕ) (command : Command) (reply : Reply) → IsSound g → number < length g.seats → Says g number command reply → IsSoundChange g number (change_of (own g number) number command reply)
+sound_change g number (commands.New d fields) (replies.Made id) sound within says = made_change g number d false fields within (sound.registers number)
+sound_change g number (commands.Array d cells) (replies.Made id) sound within says = made_change g number d true cells within (sound.registers number)
+sound_change g number (commands.Get d r i) (replies.Got value stamp) sound within says =
+    let got = get_found g number d r i value stamp says in
+    let known : IsKnown g value = subst (IsKnown g) got.2 (AllCells-look (IsSoundCell g) g (register_value g number r) i got.0 sound.cells got.1).0 in
+    quiet_change g number (set (own g number).registers d value) (own g number).left within (set_known g (own g number).registers d value (sound.registers number) known)
+sound_change g number (commands.Set r i v) (replies.Was stamp) sound within says = set_change g number r i v within (sound.registers number) (set_found g number r i v stamp says).few
+sound_change g number (commands.Num d n) reply sound within says =
+    quiet_change g number (set (own g number).registers d (Number n)) (own g number).left within (set_known g (own g number).registers d (Number n) (sound.registers number) tt)
+sound_change g number (commands.Nil d) reply sound within says =
+    quiet_change g number (set (own g number).registers d Nil) (own g number).left within (set_known g (own g number).registers d Nil (sound.registers number) tt)
+sound_change g number (commands.Copy d r) reply sound within says =
+    quiet_change g number (set (own g number).registers d (register_value g number r)) (own g number).left within (set_known g (own g number).registers d (register_value g number r) (sound.registers number) (sound.registers number r))
+sound_change g number commands.Leave reply sound within says = quiet_change g number (replicate register_count Nil) true within (nil_known g)
+sound_change g number _ reply sound within says = quiet_change g number (own g number).registers (own g number).left within (sound.registers number)
+
+-- the graph stays sound
+pub IsSound-changed : (g : Graph) (number : ℕ) (c : Change) → IsSound g → number < length g.seats → IsSoundChange g number c → IsSound (changed g number c)
+IsSound-changed g number c sound within keeps =
+    let h = changed g number c in
+    let grows : Grows g h = Grows-changed g number c within keeps.sets in
+    let Q = λ (o : Node). All (IsSoundCell h) o.cells in
+    let old : AllCells (IsSoundCell h) g = AllCells-weaker (IsSoundCell g) (IsSoundCell h) g (λ cell is. (IsKnown-grows g h cell.value grows is.0, IsOld-grows g h cell.stamp grows is.1)) sound.cells in
+    let blank : (cell : Cell) → cell ≡ unset → IsSoundCell h cell = λ cell is. subst (IsSoundCell h) (sym is) (tt, IsOld-none h) in
+    let more : All Q c.more = All-weaker (λ (o : Node). All (λ (cell : Cell). cell ≡ unset) o.cells) Q (λ o. All-weaker (λ (cell : Cell). cell ≡ unset) (IsSoundCell h) blank o.cells) c.more keeps.more in
+    record {
+      registers = λ seat r. elim (cases_eq seat number) [
+        | inl same ↦ subst (λ n. IsKnown h (register_value h n r)) (sym same) (subst (λ (o : Own). IsKnown h (get_or o.registers r Nil)) (sym (own-changed g number c within)) (keeps.registers r))
+        | inr apart ↦ subst (λ (o : Own). IsKnown h (get_or o.registers r Nil)) (sym (own-changed_other g number seat c apart)) (IsKnown-grows g h (register_value g seat r) grows (sound.registers seat r))
+      ];
+      cells = AllCells-write (IsSoundCell h) (seat_changed g number c) c.place c.index c.cell (AllCells-seat_changed (IsSoundCell h) g number c old more) keeps.cell;
+    }
