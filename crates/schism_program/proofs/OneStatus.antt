@@ -1,6 +1,9 @@
 -- Words and input call for one status alone.
-use Rattle.std.proofs.Common.{◌≡◌, ◌≢◌, ℕ, Bool, List, [], ◌∷◌, Option, Some, decimal, refl, sym, ap, subst, ◌∙◌, arith}
-use Rattle.std.specs.Prelude.{unwrap_or}
+use Rattle.std.proofs.Common.{◌≡◌, ℕ, List, [], Option, Some, refl, sym, ap, subst, ◌∙◌, arith}
+use Rattle.form_words.specs.declared.work.Work.{Work}
+use Rattle.form_words.specs.declared.work.Work.TheVariants.{Play, Run, Check, Make}
+use Rattle.form_words.specs.Works.{AskFor}
+use Rattle.form_words.proofs.AskedWork.{asked_once}
 use Rattle.script_text.specs.declared.cause.Cause.{Cause}
 use Rattle.script_text.specs.declared.cause.LineFault.{LineFault}
 use Rattle.script_text.specs.declared.script.Form.TheVariants as forms
@@ -12,43 +15,36 @@ use Rattle.log_merge.specs.Legal.{IsLegalHistory}
 use Rattle.log_merge.specs.Lines.{IsFirstIllegal}
 use Rattle.schism_program.specs.declared.status.Status.{Status}
 use Rattle.schism_program.specs.declared.status.Status.TheVariants.{Done, Refused, Usage, TooLong, NotLegal}
-use Rattle.schism_program.specs.declared.work.Work.{Work}
-use Rattle.schism_program.specs.declared.setting.Settings.{Settings}
-use Rattle.schism_program.specs.declared.work.Work.TheVariants.{Play, Run, Check, Make}
 use Rattle.schism_program.specs.Due.{IsDue, IsDueTo, IsInput}
 use Rattle.schism_program.specs.Outcome.{IsRead}
-use Rattle.schism_program.specs.Settings.{no_settings, GiveSettings}
-use Rattle.schism_program.specs.Works.{form_word, usual_patience, AskFor, Completes, FailsAt, IsIllegalAt, IsRunSettings, MakesText, MayBeMade, Suits}
+use Rattle.schism_program.specs.Works.{FailsAt, IsIllegalAt, MakesText, Suits}
 use Rattle.schism_program.proofs.FirstLines.{same_first}
-use Rattle.schism_program.proofs.Forms.{check_make, first_same, play_check, play_make, play_run, rest_same, run_check, run_make}
-use Rattle.schism_program.proofs.GivenSettings.{same_settings}
-use Rattle.schism_program.proofs.RangeNumbers.{same_number}
 
 -- what a text was made of suits the work
 pub made_suits : (work : Work) (input text : List ℕ) → MakesText work input text → Suits work input
-made_suits (Play steady brief) input text plays = (plays.script, plays.spelled)
-made_suits (Run locked patience) input text runs = (runs.script, runs.spelled)
+made_suits (Play pace brief) input text plays = (plays.script, plays.spelled)
+made_suits (Run pace locked patience) input text runs = (runs.script, runs.spelled)
 made_suits Check input text finds = (finds.history, finds.spelled, finds.legal)
 made_suits (Make start seats lines) input text made = tt
 
 -- what suits the work has no fault
 suits_none : (work : Work) (input : List ℕ) (line : ℕ) (cause : Cause) → Suits work input → ¬ FailsAt work input line cause
-suits_none (Play steady brief) input line cause (script, spelled) fault = let none = first_fault-none forms.Play input script spelled in cc
-suits_none (Run locked patience) input line cause (script, spelled) fault = let none = first_fault-none forms.Run input script spelled in cc
+suits_none (Play pace brief) input line cause (script, spelled) fault = let none = first_fault-none forms.Play input script spelled in cc
+suits_none (Run pace locked patience) input line cause (script, spelled) fault = let none = first_fault-none forms.Run input script spelled in cc
 suits_none Check input line cause (history, spelled, legal) fault = let none = first_history_fault-none input history spelled in cc
 suits_none (Make start seats lines) input line cause suits fault = fault
 
 -- and no line that isn't legal
 suits_legal : (work : Work) (input : List ℕ) (line : ℕ) → Suits work input → ¬ IsIllegalAt work input line
-suits_legal (Play steady brief) input line suits illegal = illegal
-suits_legal (Run locked patience) input line suits illegal = illegal
+suits_legal (Play pace brief) input line suits illegal = illegal
+suits_legal (Run pace locked patience) input line suits illegal = illegal
 suits_legal (Make start seats lines) input line suits illegal = illegal
 suits_legal Check input line (history, spelled, legal) illegal = illegal.illegal (subst IsLegalHistory (same_history input history illegal.history spelled illegal.spelled) legal)
 
 -- what has a line that isn't legal has no fault
 illegal_none : (work : Work) (input : List ℕ) (line number : ℕ) (cause : Cause) → IsIllegalAt work input line → ¬ FailsAt work input number cause
-illegal_none (Play steady brief) input line number cause illegal fault = illegal
-illegal_none (Run locked patience) input line number cause illegal fault = illegal
+illegal_none (Play pace brief) input line number cause illegal fault = illegal
+illegal_none (Run pace locked patience) input line number cause illegal fault = illegal
 illegal_none (Make start seats lines) input line number cause illegal fault = illegal
 illegal_none Check input line number cause illegal fault = let none = first_history_fault-none input illegal.history illegal.spelled in cc
 
@@ -59,15 +55,15 @@ same_fault line line' cause cause' same =
     ap (λ (f : LineFault). Refused f.line f.cause) fault
 
 fails_once : (work : Work) (input : List ℕ) (line line' : ℕ) (cause cause' : Cause) → FailsAt work input line cause → FailsAt work input line' cause' → Refused line cause ≡ Refused line' cause'
-fails_once (Play steady brief) input line line' cause cause' fault fault' = same_fault line line' cause cause' (sym fault ∙ fault')
-fails_once (Run locked patience) input line line' cause cause' fault fault' = same_fault line line' cause cause' (sym fault ∙ fault')
+fails_once (Play pace brief) input line line' cause cause' fault fault' = same_fault line line' cause cause' (sym fault ∙ fault')
+fails_once (Run pace locked patience) input line line' cause cause' fault fault' = same_fault line line' cause cause' (sym fault ∙ fault')
 fails_once Check input line line' cause cause' fault fault' = same_fault line line' cause cause' (sym fault ∙ fault')
 fails_once (Make start seats lines) input line line' cause cause' fault fault' = absurd fault
 
 -- one line is the first that isn't legal
 illegal_once : (work : Work) (input : List ℕ) (line line' : ℕ) → IsIllegalAt work input line → IsIllegalAt work input line' → line ≡ line'
-illegal_once (Play steady brief) input line line' illegal illegal' = absurd illegal
-illegal_once (Run locked patience) input line line' illegal illegal' = absurd illegal
+illegal_once (Play pace brief) input line line' illegal illegal' = absurd illegal
+illegal_once (Run pace locked patience) input line line' illegal illegal' = absurd illegal
 illegal_once (Make start seats lines) input line line' illegal illegal' = absurd illegal
 illegal_once Check input line line' illegal illegal' =
     let same = same_history input illegal.history illegal'.history illegal.spelled illegal'.spelled in
@@ -99,52 +95,10 @@ due_once work input _ other due due' = absurd due
 
 -- a work has one input
 same_input : (work : Work) (left left' : Option (List ℕ)) (input input' : List ℕ) → IsRead work left left' input → IsInput work left input' → input ≡ input'
-same_input (Play steady brief) left left' input input' all its = let gives : GivesAll (Some input') left' input = subst (λ (l : Option (List ℕ)). GivesAll l left' input) its all in gives.0
-same_input (Run locked patience) left left' input input' all its = let gives : GivesAll (Some input') left' input = subst (λ (l : Option (List ℕ)). GivesAll l left' input) its all in gives.0
+same_input (Play pace brief) left left' input input' all its = let gives : GivesAll (Some input') left' input = subst (λ (l : Option (List ℕ)). GivesAll l left' input) its all in gives.0
+same_input (Run pace locked patience) left left' input input' all its = let gives : GivesAll (Some input') left' input = subst (λ (l : Option (List ℕ)). GivesAll l left' input) its all in gives.0
 same_input Check left left' input input' all its = let gives : GivesAll (Some input') left' input = subst (λ (l : Option (List ℕ)). GivesAll l left' input) its all in gives.0
 same_input (Make start seats lines) left left' input input' all its = all.0 ∙ sym its
-
--- numbers that are spelled alike are the same, and so are the scripts that are made of them
-same_made : (start seats lines start' seats' lines' : ℕ) → MayBeMade start seats lines → MayBeMade start' seats' lines' → decimal start ≡ decimal start' → decimal seats ≡ decimal seats' → decimal lines ≡ decimal lines'
-    → Make start seats lines ≡ Make start' seats' lines'
-same_made start seats lines start' seats' lines' fits fits' a b c =
-    let first = same_number start start' (omega (arith, fits.0)) (omega (arith, fits'.0)) a in
-    let second = same_number seats seats' (omega (arith, fits.1.0)) (omega (arith, fits'.1.0)) b in
-    let third = same_number lines lines' (omega (arith, fits.1.1)) (omega (arith, fits'.1.1)) c in
-    cc
-
--- settings say one run
-same_run : (locked locked' : Bool) (patience patience' : ℕ) (settings others : Settings) → settings ≡ others → IsRunSettings locked patience settings → IsRunSettings locked' patience' others → Run locked patience ≡ Run locked' patience'
-same_run locked locked' patience patience' settings others same is is' =
-    let lock : locked ≡ locked' = sym is.locked_is ∙ ap (λ (s : Settings). s.locked) same ∙ is'.locked_is in
-    let waits : patience ≡ patience' = is.patience_is ∙ ap (λ (s : Settings). unwrap_or s.patience usual_patience) same ∙ sym is'.patience_is in
-    cc
-
--- words ask for one work
-pub asked_once : (words : List (List ℕ)) (one other : Work) → AskFor words one → AskFor words other → one ≡ other
-asked_once words one other asked asked' = by one other asked.completes asked'.completes (sym asked.begins ∙ asked'.begins) where
-  by : (one other : Work) → Completes asked.rest one → Completes asked'.rest other → form_word one ∷ asked.rest ≡ form_word other ∷ asked'.rest → one ≡ other
-  by (Play steady brief) (Play steady' brief') gives gives' same =
-      let settings = same_settings no_settings _ _ asked.rest gives (subst (λ rest. GiveSettings no_settings rest (record no_settings { steady = steady'; brief = brief' })) (sym (rest_same same)) gives') in
-      ap (λ (s : Settings). Play s.steady s.brief) settings
-  by (Run locked patience) (Run locked' patience') (settings, gives, is) (others, gives', is') same =
-      same_run locked locked' patience patience' settings others (same_settings no_settings settings others asked.rest gives (subst (λ rest. GiveSettings no_settings rest others) (sym (rest_same same)) gives')) is is'
-  by Check Check none none' same = refl
-  by (Make start seats lines) (Make start' seats' lines') made made' same =
-      let words : decimal start ∷ decimal seats ∷ decimal lines ∷ [] ≡ decimal start' ∷ decimal seats' ∷ decimal lines' ∷ [] = sym made.1 ∙ rest_same same ∙ made'.1 in
-      same_made start seats lines start' seats' lines' made.0 made'.0 (first_same words) (first_same (rest_same words)) (first_same (rest_same (rest_same words)))
-  by (Play steady brief) (Run locked patience) gives settings same = absurd (play_run (first_same same))
-  by (Play steady brief) Check gives none same = absurd (play_check (first_same same))
-  by (Play steady brief) (Make start seats lines) gives made same = absurd (play_make (first_same same))
-  by (Run locked patience) (Play steady brief) settings gives same = absurd (play_run (sym (first_same same)))
-  by (Run locked patience) Check settings none same = absurd (run_check (first_same same))
-  by (Run locked patience) (Make start seats lines) settings made same = absurd (run_make (first_same same))
-  by Check (Play steady brief) none gives same = absurd (play_check (sym (first_same same)))
-  by Check (Run locked patience) none settings same = absurd (run_check (sym (first_same same)))
-  by Check (Make start seats lines) none made same = absurd (check_make (first_same same))
-  by (Make start seats lines) (Play steady brief) made gives same = absurd (play_make (sym (first_same same)))
-  by (Make start seats lines) (Run locked patience) made settings same = absurd (run_make (sym (first_same same)))
-  by (Make start seats lines) Check made none same = absurd (check_make (sym (first_same same)))
 
 -- so where its input was read, and it calls for this status, no other is due
 pub only_due : (words : List (List ℕ)) (left left' : Option (List ℕ)) (work : Work) (input : List ℕ) (one other : Status) → AskFor words work → IsRead work left left' input → IsDueTo work input one → IsDue words left other → one ≡ other

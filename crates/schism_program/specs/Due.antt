@@ -1,10 +1,11 @@
 -- The status that words and input call for.
 use Rattle.std.specs.Prelude.{◌≡◌, ℕ, ◌<◌, ◌≤◌, List, [], length, Option, Some}
+use Rattle.form_words.specs.declared.work.Work.{Work}
+use Rattle.form_words.specs.declared.work.Work.TheVariants.{Make}
+use Rattle.form_words.specs.Works.{most_bytes, AskFor, IsForm}
 use Rattle.schism_program.specs.declared.status.Status.{Status}
 use Rattle.schism_program.specs.declared.status.Status.TheVariants.{Done, Refused, Usage, TooLong, NotLegal}
-use Rattle.schism_program.specs.declared.work.Work.{Work}
-use Rattle.schism_program.specs.declared.work.Work.TheVariants.{Make}
-use Rattle.schism_program.specs.Works.{most_bytes, AskFor, FailsAt, IsForm, IsIllegalAt, Suits}
+use Rattle.schism_program.specs.Works.{FailsAt, IsIllegalAt, Suits}
 
 -- the input is within the work's limit
 abbrev pub IsShort : Work → List ℕ → Type 0

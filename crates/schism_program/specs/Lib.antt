@@ -1,4 +1,3 @@
-pub mod Settings
 pub mod Status
 pub mod Serving
 pub mod Running

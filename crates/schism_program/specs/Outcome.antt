@@ -1,13 +1,14 @@
 -- What the program's statuses say of what it read and wrote.
 use Rattle.std.specs.Prelude.{◌≡◌, ℕ, ◌+◌, ◌≤◌, List, [], length, Option}
+use Rattle.form_words.specs.declared.work.Work.{Work}
+use Rattle.form_words.specs.declared.work.Work.TheVariants.{Make}
+use Rattle.form_words.specs.Works.{most_bytes, AskFor, HasInput}
 use Rattle.script_text.specs.declared.cause.Cause.{Cause}
 use Rattle.io_edge.specs.Left.{GivesAll, LosesNext, LosesUpTo}
 use Rattle.io_edge.specs.Taken.{Takes, TakesFront}
 use Rattle.schism_program.specs.declared.status.Status.{Status}
 use Rattle.schism_program.specs.declared.status.Status.TheVariants as statuses
-use Rattle.schism_program.specs.declared.work.Work.{Work}
-use Rattle.schism_program.specs.declared.work.Work.TheVariants.{Make}
-use Rattle.schism_program.specs.Works.{most_bytes, AskFor, FailsAt, IsIllegalAt, MakesText, HasInput}
+use Rattle.schism_program.specs.Works.{FailsAt, IsIllegalAt, MakesText}
 
 -- all that was left was read, where the work has an input; where it has none, nothing was
 abbrev pub IsRead : Work → Option (List ℕ) → Option (List ℕ) → List ℕ → Type 0

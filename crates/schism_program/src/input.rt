@@ -1,10 +1,10 @@
 ghost use Rattle.std.specs.Prelude.{◌≡◌, ◌+◌, ◌≤◌, IfOk, OnOk, IsErrOf, vec_len};
+ghost use Rattle.form_words.specs.Works.{most_bytes, HasInput};
 ghost use Rattle.io_edge.specs.Left.{LosesNext};
 ghost use Rattle.io_edge.specs.ReadAll.{CountsReadFault};
 ghost use Rattle.schism_program.specs.Outcome.{IsRead, IsReadUpTo};
-ghost use Rattle.schism_program.specs.Works.{most_bytes, HasInput};
 
-use crate::work::Work;
+use form_words::Work;
 use io_edge::{ReadAllFault, Source, read_all};
 use std::alloc::Global;
 

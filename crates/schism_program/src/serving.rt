@@ -1,16 +1,17 @@
 ghost use Rattle.std.specs.Prelude.{◌≡◌, ℕ, Err, IfOk, IsSome, is_some};
+ghost use Rattle.form_words.specs.Works.{IsWork, MayBeMade};
 ghost use Rattle.script_text.specs.declared.cause.LineFault.{LineFault as ALineFault};
 ghost use Rattle.script_text.specs.declared.script.Form.TheVariants.{Play};
 ghost use Rattle.script_text.specs.Grammar.{IsScript};
 ghost use Rattle.script_text.specs.Writing.{IsOfForm};
 ghost use Rattle.script_text.specs.Text.{text_of};
 ghost use Rattle.schism_program.specs.Serving.{told_lines, FailsAsScript, IsMadeText, Plays};
-ghost use Rattle.schism_program.specs.Works.{FailsAt, IsIllegalAt, IsWork, MakesText, MayBeMade};
+ghost use Rattle.schism_program.specs.Works.{FailsAt, IsIllegalAt, MakesText};
 
 use crate::fault::WorkFault;
 use crate::running::run_text;
 use crate::verdict::verdict;
-use crate::work::Work;
+use form_words::{PaceName, Work};
 use heap_model::{Gate, Memory};
 use heap_runs::{MachineHeap, play};
 use reply_text::{History, render_brief, render_history};
@@ -91,15 +92,16 @@ pub fn made_text<G: Gate, R: Threads + Wait + Sync>(
         IsIllegalAt work input.now line }
 {
     match work {
+        Work::Play { pace: None, brief } => played_text(alloc, input, None, brief),
         Work::Play {
-            steady: true,
+            pace: Some(PaceName::Steady),
             brief,
         } => played_text(alloc, input, Some(paces.steady), brief),
-        Work::Play {
-            steady: false,
-            brief,
-        } => played_text(alloc, input, None, brief),
-        Work::Run { patience, .. } => run_text(rt, alloc, input, paces.steady, patience, gate),
+        Work::Run {
+            pace: PaceName::Steady,
+            patience,
+            ..
+        } => run_text(rt, alloc, input, paces.steady, patience, gate),
         Work::Check => verdict(alloc, input),
         Work::Make {
             start,

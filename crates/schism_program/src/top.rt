@@ -1,16 +1,16 @@
 ghost use Rattle.std.specs.Prelude.{◌≡◌, ◌≢◌, ℕ, ◌↔◌, ◌⊎◌, map};
 ghost use Rattle.script_text.specs.declared.cause.Cause.{Cause};
+ghost use Rattle.form_words.specs.Works.{AskFor, IsForm, HasInput};
+ghost use Rattle.form_words.specs.declared.work.Work.{Work as AWork};
 ghost use Rattle.io_edge.specs.Faults.{Rose};
 ghost use Rattle.schism_program.specs.Due.{IsDue};
 ghost use Rattle.schism_program.specs.Outcome.{IsNotLegal, IsRefusedAt, IsWriting, ReadsNoMore, ReadsTooMuch, WritesAll, WritesFront};
-ghost use Rattle.schism_program.specs.Works.{AskFor, IsForm, HasInput};
-ghost use Rattle.schism_program.specs.declared.work.Work.{Work as AWork};
 
 use crate::fault::WorkFault;
 use crate::input::read_input;
 use crate::serving::made_text;
 use crate::status::Status;
-use crate::work::Work;
+use form_words::Work;
 use heap_model::Gate;
 use io_edge::{ReadAllFault, Sink, Source, write_all};
 use script_text::LineFault;

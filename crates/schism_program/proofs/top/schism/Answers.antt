@@ -1,7 +1,8 @@
 use Rattle.std.proofs.Common.{◌≤◌, length, inl, rules}
+use Rattle.form_words.specs.Works.{most_bytes}
 use Rattle.schism_program.specs.declared.status.Status.TheVariants as statuses
 use Rattle.schism_program.specs.Due.{IsDueTo}
-use Rattle.schism_program.specs.Works.{most_bytes, FailsAt, MakesText}
+use Rattle.schism_program.specs.Works.{FailsAt, MakesText}
 use Rattle.schism_program.proofs.OneStatus.{made_suits, only_due}
 use Rattle.schism_program.proofs.top.schism.Goals as goal
 

@@ -1,0 +1,62 @@
+-- Words that begin with the word of a form and don't go on as it does are no form.
+use Rattle.std.proofs.Common.{◌≡◌, ℕ, Bool, true, false, List, ◌∷◌, Option, Some, None, inl, inr, refl, sym, ap, ◌∙◌, subst}
+use Rattle.std.specs.Prelude.{codes, is_some, IfNone, IfSome, ◌⊎◌}
+use Rattle.form_words.specs.declared.pace.PaceName.{PaceName}
+use Rattle.form_words.specs.declared.setting.Settings.{Settings}
+use Rattle.form_words.specs.declared.work.Work.{Work}
+use Rattle.form_words.specs.declared.work.Work.TheVariants.{Play, Run, Check, Make}
+use Rattle.form_words.specs.Settings.{no_settings, GiveSettings}
+use Rattle.form_words.specs.Works.{form_word, AskFor, Completes, IsForm, IsWork}
+use Rattle.form_words.proofs.AskedWork.{completed_within, work_of, work_of-asked}
+use Rattle.form_words.proofs.GivenSettings.{settings_of-given}
+
+-- words that are a form go on as the form of their first word does
+goes_on : (form : List ℕ) (rest : List (List ℕ)) (work other : Work) → AskFor (form ∷ rest) work → work_of (form ∷ rest) ≡ Some other → Completes rest other
+goes_on form rest work other asked told =
+    let found = work_of-asked (form ∷ rest) work asked in
+    let same : work ≡ other = cc in
+    let begun : form ∷ rest ≡ form_word work ∷ asked.rest = asked.begins in
+    let behind : asked.rest ≡ rest = cc in
+    subst (Completes rest) same (subst (λ words. Completes words work) behind asked.completes)
+
+-- so the words are no form where they don't
+no_form : (form : List ℕ) (words rest : List (List ℕ)) (other : Work) → words ≡ form ∷ rest → work_of (form ∷ rest) ≡ Some other → ¬ Completes rest other → ¬ IsForm words
+no_form form words rest other begins told none (work, asked) = none (goes_on form rest work other (subst (λ ws. AskFor ws work) begins asked) told)
+
+pub no_play : (words rest : List (List ℕ)) (found : Option Work) → words ≡ codes "play" ∷ rest → IfNone found ((pace : Option PaceName) (brief : Bool) → ¬ Completes rest (Play pace brief)) → IfNone found (¬ IsForm words)
+no_play words rest None begins none = no_form (codes "play") words rest _ begins refl (none _ _)
+no_play words rest (Some work) begins none = tt
+
+pub no_run : (words rest : List (List ℕ)) (found : Option Work) → words ≡ codes "run" ∷ rest → IfNone found ((pace : PaceName) (locked : Bool) (patience : ℕ) → ¬ Completes rest (Run pace locked patience)) → IfNone found (¬ IsForm words)
+no_run words rest None begins none = no_form (codes "run") words rest _ begins refl (none _ _ _)
+no_run words rest (Some work) begins none = tt
+
+pub no_check : (words rest : List (List ℕ)) (found : Option Work) → words ≡ codes "check" ∷ rest → IfNone found (¬ Completes rest Check) → IfNone found (¬ IsForm words)
+no_check words rest None begins none = no_form (codes "check") words rest Check begins refl none
+no_check words rest (Some work) begins none = tt
+
+pub no_make : (words rest : List (List ℕ)) (found : Option Work) → words ≡ codes "make" ∷ rest → IfNone found ((start seats lines : ℕ) → ¬ Completes rest (Make start seats lines)) → IfNone found (¬ IsForm words)
+no_make words rest None begins none = no_form (codes "make") words rest _ begins refl (none _ _ _)
+no_make words rest (Some work) begins none = tt
+
+-- settings of a run alone are no play's
+pub none_play : (words : List (List ℕ)) (settings : Settings) → GiveSettings no_settings words settings → (settings.locked ≡ true) ⊎ (is_some settings.patience ≡ true) → (pace : Option PaceName) (brief : Bool) → ¬ Completes words (Play pace brief)
+none_play words settings gives own pace brief gives' = by own where
+  same : settings ≡ record no_settings { pace = pace; brief = brief }
+  same = sym (settings_of-given words settings gives) ∙ settings_of-given words _ gives'
+
+  by : (settings.locked ≡ true) ⊎ (is_some settings.patience ≡ true) → ⊥
+  by (inl locked) = let none : settings.locked ≡ false = ap (λ (s : Settings). s.locked) same in cc
+  by (inr patience) = let none : is_some settings.patience ≡ false = ap (λ (s : Settings). is_some s.patience) same in cc
+
+-- and a brief is no run's
+pub none_run : (words : List (List ℕ)) (settings : Settings) → GiveSettings no_settings words settings → settings.brief ≡ true → (pace : PaceName) (locked : Bool) (patience : ℕ) → ¬ Completes words (Run pace locked patience)
+none_run words settings gives brief pace locked patience (others, gives', is) =
+    let same : settings ≡ others = sym (settings_of-given words settings gives) ∙ settings_of-given words others gives' in
+    let none : settings.brief ≡ false = ap (λ (s : Settings). s.brief) same ∙ is.not_brief in
+    cc
+
+-- what was found has its numbers in their ranges
+pub found_within : (form : List ℕ) (rest : List (List ℕ)) (found : Option Work) → IfSome found (λ work. (form_word work ≡ form) × Completes rest work) → IfSome found IsWork
+found_within form rest None is = tt
+found_within form rest (Some work) is = completed_within rest work is.1

@@ -1,0 +1,4 @@
+pub mod RangeNumbers
+pub mod GivenSettings
+pub mod AskedWork
+pub mod Forms

@@ -1,0 +1,10 @@
+//! The words after the program's name: which forms they have, with their settings, and the work that they ask for.
+#![tactic(auto)]
+
+mod pace;
+mod range;
+mod setting;
+mod work;
+
+pub use pace::PaceName;
+pub use work::{MOST_HISTORY, MOST_SCRIPT, Work};
