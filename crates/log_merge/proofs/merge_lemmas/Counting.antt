@@ -37,7 +37,7 @@ use Rattle.log_merge.proofs.merge_lemmas.Parts.{filter-yes, filter-no, part_of-s
 use Rattle.log_merge.proofs.merge_lemmas.Rests.{not_of}
 
 -- sums that differ nowhere
-sums_same : (f h : ℕ → ℕ) (from count : ℕ) → ((n : ℕ) → from ≤ n → n < from + count → h n ≡ f n) → sum_by h (range_with_len from count) ≡ sum_by f (range_with_len from count)
+pub sums_same : (f h : ℕ → ℕ) (from count : ℕ) → ((n : ℕ) → from ≤ n → n < from + count → h n ≡ f n) → sum_by h (range_with_len from count) ≡ sum_by f (range_with_len from count)
 sums_same f h from zero same = refl
 sums_same f h from (suc count) same =
     let first : h from ≡ f from = same from (omega arith) (omega arith) in
