@@ -5,3 +5,6 @@ pub mod MachineHeap
 pub mod Play
 pub mod Playing
 pub mod Collecting
+pub mod Role
+pub mod CollectCall
+pub mod SeatWork
