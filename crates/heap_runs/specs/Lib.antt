@@ -6,3 +6,6 @@ pub mod Play
 pub mod Playing
 pub mod Collecting
 pub mod Finishing
+pub mod Role
+pub mod CollectCall
+pub mod SeatWork

@@ -6,11 +6,16 @@ mod machine_heap;
 mod play_collector;
 mod play_heap;
 mod playing;
+mod role;
+mod seat_collect;
+mod seat_work;
 mod turning;
 
 pub use machine_heap::MachineHeap;
 pub use play_heap::PlayHeap;
 pub use playing::play;
+pub use role::{Held, HeldName};
+pub use seat_collect::collect_call;
 pub use turning::turn_line;
 
 #[cfg(test)]

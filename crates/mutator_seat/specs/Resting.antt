@@ -12,6 +12,10 @@ use Rattle.heap_table.specs.SeatHeld.{SeatHeld}
 abbrev pub seat_state : SeatHeld → SeatState
 seat_state held = record { heap = held.heap; number = held.number; mine = held.seat.mine; spare = held.spare }
 
+-- the seat has room for more entries, and else is as it was
+abbrev pub MakesRoom : SeatHeld → SeatHeld → Type 0
+MakesRoom old new = new ≡ record old { spare = new.spare }
+
 -- no call is in flight, each entry of the seat is its own, and it has done fewer sets than there are stamps: so it is with each seat of a heap that opens
 pub record IsBetweenCalls (held : SeatHeld) : Type 0 where
   pub idle : held.seat.place ≡ Idle

@@ -1,4 +1,4 @@
-ghost use Rattle.std.specs.Prelude.{◌≡◌, ◌≤◌, ◌↔◌, length, IsTrue, IsErr, IfOk, IfErr, IfSome};
+ghost use Rattle.std.specs.Prelude.{◌≡◌, ◌≤◌, ◌↔◌, length, IsTrue, IsErr, IfOk, IfErr, IfSome, OnOk, OnErr};
 ghost use Rattle.heap_model.specs.declared.command.Command.TheVariants.{New, Array, Get, Set, Num, Nil, Copy, Same, Len, Poll, Leave};
 ghost use Rattle.heap_model.specs.declared.reply.Reply.TheVariants.{Phase, Done};
 ghost use Rattle.heap_model.specs.Needs.{record_fragments};
@@ -6,7 +6,7 @@ ghost use Rattle.heap_model.specs.calls.SeatCalls.{IsReady, Adds};
 ghost use Rattle.heap_model.specs.calls.SeatReplies.{record_reply, array_reply, get_reply, set_reply, same_reply, len_reply, next_id, LacksFragments, LacksSpace, KeepsNothing};
 ghost use Rattle.heap_model.specs.calls.SeatState.{held_value, HoldsNoObject, own_object};
 ghost use Rattle.mutator_seat.specs.Calls.{MakesCall};
-ghost use Rattle.mutator_seat.specs.Resting.{seat_state};
+ghost use Rattle.mutator_seat.specs.Resting.{seat_state, MakesRoom};
 
 use crate::answers::{array_of, cell_of, equal_of, length_of, phase_of, record_of, stamp_of};
 use crate::seat::Seat;
@@ -125,7 +125,13 @@ impl<L: ShowsLast> SeatCalls for Seat<L> {
         self.call(&Command::Leave);
     }
 
-    fn room(&mut self, n: usize) -> Result<(), Memory> {
+    fn room(&mut self, n: usize) -> Result<(), Memory>
+        ensures same { seat_state self.new ≡ record (seat_state self.old) { spare = (seat_state self.new).spare } }
+        ensures more { (seat_state self.old).spare ≤ (seat_state self.new).spare }
+        ensures room { OnOk result (n ≤ (seat_state self.new).spare) }
+        ensures memory { OnErr result (seat_state self.new ≡ seat_state self.old) }
+        ensures stays { MakesRoom self.old self.new }
+    {
         self.holder.room(n)
     }
 

@@ -1,0 +1,216 @@
+-- How a seat goes on with its script, by what its own entries tell.
+use Rattle.std.proofs.Common.{◌≡◌, ◌≢◌, ℕ, ◌+◌, ◌-◌, ◌*◌, ◌^◌, ◌<◌, ◌≤◌, ◌⊎◌, true, false, List, [], ◌∷◌, ◌++◌, length, take, refl, sym, ap, subst, ◌∙◌, inl, inr, append_assoc, append-nil, length-append, arith}
+use Rattle.std.specs.Prelude.{All, slice_index_or}
+use Rattle.std.proofs.lemmas.List.{length-take-le, take_more, take_all}
+use Rattle.heap_model.specs.Limits.{name_limit, stamp_limit}
+use Rattle.heap_model.specs.Needs.{need_of}
+use Rattle.heap_model.specs.calls.SeatCalls.{HasNumber, IsReady}
+use Rattle.heap_model.specs.calls.SeatState.{own_graph_seat}
+use Rattle.heap_model.specs.calls.SeatLaws.{EachCallCounts, CountsUp}
+use Rattle.heap_model.specs.declared.calls.collect.CollectReply.{CollectReply}
+use Rattle.heap_model.specs.declared.calls.collect.CollectReply.TheVariants as notes
+use Rattle.heap_model.specs.declared.command.Command.{Command}
+use Rattle.heap_model.specs.declared.command.Command.TheVariants as commands
+use Rattle.heap_model.specs.declared.entry.Entry.{Entry}
+use Rattle.heap_model.specs.declared.entry.Entry.TheVariants.{Said}
+use Rattle.heap_model.specs.declared.reply.Reply.{Reply}
+use Rattle.heap_model.specs.declared.reply.Reply.TheVariants.{Done}
+use Rattle.heap_model.specs.graph.Graph.{GraphSeat}
+use Rattle.heap_model.specs.runs.Told.{commands_told, waits_told}
+use Rattle.core_machine.specs.calls.Kept.{Kept}
+use Rattle.core_machine.specs.seat.Commands.{IsServed}
+use Rattle.core_machine.specs.seat.Looks.{noted_reply}
+use Rattle.heap_table.specs.SeatHeld.{SeatHeld}
+use Rattle.mutator_seat.specs.Calls.{MakesCall}
+use Rattle.mutator_seat.specs.Resting.{seat_state, MakesRoom}
+use Rattle.mutator_seat.proofs.Entries.{call_adds}
+use Rattle.mutator_seat.proofs.Replied.{is_done}
+use Rattle.heap_runs.specs.CollectCall.{IsPresent, IsPatient, IsCauseOf, AnswersCollect}
+use Rattle.heap_runs.specs.SeatWork.{IsOfScript, objects_of, sets_of, MayWork, MayMakeNext, IsPaidSince, HasMade, GoesOn, HasWorked}
+use Rattle.heap_runs.proofs.LooksOn.{around_room, same_graph_seat, same_present}
+use Rattle.heap_runs.proofs.SeatTells.{commands_more, waits_more, waits_of, TellsOne, one_called, one_noted}
+
+-- every command but a collect is served
+pub served_once : (command : Command) → command ≢ commands.Collect → IsServed command
+served_once commands.Collect once = absurd (once refl)
+served_once _ once = tt
+
+-- replies are paid by the finds of their time
+none_paid : (patience before now : ℕ) → before ≤ now → IsPaidSince patience 0 before now
+none_paid patience before now on = let none : patience * 0 ≡ 0 = grind arith in inl (omega (arith, none, on))
+
+paid_then : (patience first later all before now new : ℕ) → all ≡ first + later → IsPaidSince patience first before now → IsPaidSince patience later now new → IsPaidSince patience all before new
+paid_then patience first later all before now new is paid (inr last) = inr last
+paid_then patience first later all before now new is (inr last) (inl more) = let none : 0 ≤ patience * later = grind arith in inr (omega (arith, last, more, none))
+paid_then patience first later all before now new is (inl one) (inl more) =
+    let each : patience * (first + later) ≡ patience * first + patience * later = grind arith in
+    inl (subst (λ (n : ℕ). before + patience * n ≤ new) (sym is) (omega (arith, one, more, each)))
+
+-- what was told of one part and of the next is told of both
+pub made_then : (patience : ℕ) (old now new : SeatHeld) (front behind : List Command) → HasMade patience old now front → HasMade patience now new behind → HasMade patience old new (front ++ behind)
+made_then patience old now new front behind one more =
+    let same : commands_told old.number more.part ≡ behind = ap (λ (n : ℕ). commands_told n more.part) (sym one.number_stays) ∙ more.answered in
+    record {
+      table_stays = more.table_stays ∙ one.table_stays;
+      heap_stays = more.heap_stays ∙ one.heap_stays;
+      number_stays = more.number_stays ∙ one.number_stays;
+      part = one.part ++ more.part;
+      mine = more.mine ∙ ap (λ (l : List Entry). l ++ more.part) one.mine ∙ append_assoc old.seat.mine one.part more.part;
+      answered = commands_more old.number one.part more.part ∙ ap (λ (l : List Command). l ++ commands_told old.number more.part) one.answered ∙ ap (λ (l : List Command). front ++ l) same;
+      paid = paid_then patience (waits_told old.number one.part) (waits_told now.number more.part) (waits_told old.number (one.part ++ more.part)) old.seat.looks.waits now.seat.looks.waits new.seat.looks.waits
+          (waits_more old.number one.part more.part ∙ ap (λ (n : ℕ). waits_told old.number one.part + waits_told n more.part) (sym one.number_stays)) one.paid more.paid;
+    }
+
+-- where nothing is told but that a seat is the same, no command is answered
+pub room_made : (patience : ℕ) (old new : SeatHeld) → MakesRoom old new → HasMade patience old new []
+room_made patience old new room = record {
+  table_stays = ap (λ (h : SeatHeld). h.table) room;
+  heap_stays = ap (λ (h : SeatHeld). h.heap) room;
+  number_stays = ap (λ (h : SeatHeld). h.number) room;
+  part = [];
+  mine = ap (λ (h : SeatHeld). h.seat.mine) room ∙ sym (append-nil old.seat.mine);
+  answered = refl;
+  paid = none_paid patience old.seat.looks.waits new.seat.looks.waits (omega (arith, ap (λ (h : SeatHeld). h.seat.looks.waits) room));
+}
+
+-- a whole call answers its command
+pub call_made : (patience : ℕ) (old new : SeatHeld) (command : Command) (reply : Reply) → command ≢ commands.Collect → MakesCall old new command reply → HasMade patience old new (command ∷ [])
+call_made patience old new command reply once call =
+    let one = one_called old.number call.first command reply once call.beside in
+    record {
+      table_stays = call.makes.table_stays;
+      heap_stays = call.makes.heap_stays;
+      number_stays = call.makes.number_stays;
+      part = call.first ++ Said old.number command reply ∷ [];
+      mine = call.told;
+      answered = one.commands;
+      paid = subst (λ (n : ℕ). IsPaidSince patience n old.seat.looks.waits new.seat.looks.waits) (sym one.counted)
+          (none_paid patience old.seat.looks.waits new.seat.looks.waits (omega (arith, call.waits_stay)));
+    }
+
+-- a collect is paid where it was answered that it waits
+collect_paid : (patience : ℕ) (old new : SeatHeld) (reply : CollectReply) → AnswersCollect patience old new reply → (came : CollectReply) → (looked found : SeatHeld) → IsCauseOf patience old looked found came
+    → new.seat.looks.waits ≡ found.seat.looks.waits → IsPaidSince patience (waits_of came) old.seat.looks.waits new.seat.looks.waits
+collect_paid patience old new reply answers (notes.Cycle cycle) looked found cause same = none_paid patience old.seat.looks.waits new.seat.looks.waits answers.waits
+collect_paid patience old new reply answers (notes.Waits other answered phase) looked found cause same =
+    let once : patience * 1 ≡ patience = grind arith in
+    elim cause.0 as (λ _. IsPaidSince patience 1 old.seat.looks.waits new.seat.looks.waits) [
+      | inl enough ↦ inl (omega (arith, enough, same, once))
+      | inr last ↦ inr (omega (arith, last, same))
+    ]
+
+pub collect_made : (patience : ℕ) (old new : SeatHeld) (reply : CollectReply) → AnswersCollect patience old new reply → HasMade patience old new (commands.Collect ∷ [])
+collect_made patience old new reply answers =
+    let one = one_noted old.number answers.answers reply answers.own in
+    record {
+      table_stays = answers.same.table_stays;
+      heap_stays = answers.same.heap_stays;
+      number_stays = answers.same.number_stays;
+      part = answers.answers ++ Said old.number commands.Collect (noted_reply reply) ∷ [];
+      mine = answers.mine;
+      answered = one.commands;
+      paid = subst (λ (n : ℕ). IsPaidSince patience n old.seat.looks.waits new.seat.looks.waits) (sym one.counted)
+          (collect_paid patience old new reply answers reply answers.looked answers.found answers.cause answers.finds_stay);
+    }
+
+-- by its own entries the seat is as before: it goes on
+same_goes : (patience : ℕ) (old new : SeatHeld) (made : List Command) → HasMade patience old new made → own_graph_seat (seat_state new) ≡ own_graph_seat (seat_state old) → IsPresent old → GoesOn patience old new made
+same_goes patience old new made has stays present = record {
+  made = has;
+  present = ap (λ (s : GraphSeat). s.left) stays ∙ present;
+  objects = omega (arith, ap (λ (s : GraphSeat). length s.objects) stays);
+  sets = omega (arith, ap (λ (s : GraphSeat). s.sets) stays);
+}
+
+-- so it is after a collect, and with more room
+pub collect_goes : (patience : ℕ) (old new : SeatHeld) (reply : CollectReply) → AnswersCollect patience old new reply → IsPresent old → GoesOn patience old new (commands.Collect ∷ [])
+collect_goes patience old new reply answers present =
+    same_goes patience old new (commands.Collect ∷ []) (collect_made patience old new reply answers) (same_graph_seat old new answers.same) present
+
+room_goes : (patience : ℕ) (old new : SeatHeld) → MakesRoom old new → IsPresent old → GoesOn patience old new []
+room_goes patience old new room present = same_goes patience old new [] (room_made patience old new room) (same_graph_seat old new (around_room old new room).same) present
+
+pub none_goes : (patience : ℕ) (held : SeatHeld) → IsPresent held → GoesOn patience held held []
+none_goes patience held present = room_goes patience held held refl present
+
+-- a whole call that is no leave goes on too
+call_goes : EachCallCounts → (patience : ℕ) (old new : SeatHeld) (command : Command) (reply : Reply) → command ≢ commands.Collect → command ≢ commands.Leave → MakesCall old new command reply → IsPresent old
+    → GoesOn patience old new (command ∷ [])
+call_goes counts patience old new command reply once stays call present =
+    let up : CountsUp (seat_state old) (seat_state new) command = counts (seat_state old) (seat_state new) command reply (call_adds old new command reply call) in
+    record {
+      made = call_made patience old new command reply once call;
+      present = up.present_stays stays ∙ present;
+      objects = omega (arith, up.made_more);
+      sets = omega (arith, up.sets_more);
+    }
+
+-- and so do commands and more of them
+pub goes_then : (patience : ℕ) (old now new : SeatHeld) (front behind : List Command) → GoesOn patience old now front → GoesOn patience now new behind → GoesOn patience old new (front ++ behind)
+goes_then patience old now new front behind one more = record {
+  made = made_then patience old now new front behind one.made more.made;
+  present = more.present;
+  objects = omega (arith, one.objects, more.objects, length-append front behind);
+  sets = omega (arith, one.sets, more.sets, length-append front behind);
+}
+
+pub ready_call_goes : EachCallCounts → (patience : ℕ) (old ready new : SeatHeld) (command : Command) (reply : Reply) → command ≢ commands.Collect → command ≢ commands.Leave → MakesRoom old ready → MakesCall ready new command reply
+    → IsPresent old → GoesOn patience old new (command ∷ [])
+ready_call_goes counts patience old ready new command reply once stays room call present =
+    let first = room_goes patience old ready room present in
+    goes_then patience old ready new [] (command ∷ []) first (call_goes counts patience ready new command reply once stays call first.present)
+
+-- with more room the seat may be given the same command
+number_same : (old new : SeatHeld) (command : Command) → own_graph_seat (seat_state new) ≡ own_graph_seat (seat_state old) → HasNumber (seat_state old) command → HasNumber (seat_state new) command
+number_same old new (commands.New d fields) same has = omega (arith, has, ap (λ (s : GraphSeat). length s.objects) same)
+number_same old new (commands.Array d cells) same has = omega (arith, has, ap (λ (s : GraphSeat). length s.objects) same)
+number_same old new (commands.Set r i v) same has = omega (arith, has, ap (λ (s : GraphSeat). s.sets) same)
+number_same old new _ same has = tt
+
+pub ready_next : (old ready : SeatHeld) (command : Command) → MayMakeNext old command → MakesRoom old ready → 2 * need_of command + 4 ≤ ready.spare → IsReady (seat_state ready) command
+ready_next old ready command may room enough =
+    let same = (around_room old ready room).same in
+    record {
+      present = same_present old ready same may.present;
+      in_range = may.of_script.0;
+      room = enough;
+      numbered = number_same old ready command (same_graph_seat old ready same) may.numbered;
+    }
+
+-- a name and a stamp are left for the next command
+number_left : (held : SeatHeld) (command : Command) → objects_of held + 1 < name_limit → sets_of held + 1 < stamp_limit → HasNumber (seat_state held) command
+number_left held (commands.New d fields) names stamps = names
+number_left held (commands.Array d cells) names stamps = names
+number_left held (commands.Set r i v) names stamps = stamps
+number_left held _ names stamps = tt
+
+pub may_next : (patience : ℕ) (old now : SeatHeld) (script : List Command) (place : ℕ) (command : Command) → MayWork old script → GoesOn patience old now (take place script) → place < length script → command ≡ slice_index_or script place command
+    → MayMakeNext now command
+may_next patience old now script place command may goes within is =
+    let made : length (take place script) ≡ place = length-take-le place script (omega arith) in
+    record {
+      present = goes.present;
+      of_script = subst IsOfScript (sym is) (may.each place command within);
+      numbered = number_left now command (omega (arith, goes.objects, may.names, made, within)) (omega (arith, goes.sets, may.stamps, made, within));
+    }
+
+-- one command more
+pub goes_more : (patience : ℕ) (old now new : SeatHeld) (script : List Command) (place : ℕ) (command other : Command) → place < length script → command ≡ slice_index_or script place other → GoesOn patience old now (take place script)
+    → GoesOn patience now new (command ∷ []) → GoesOn patience old new (take (place + 1) script)
+goes_more patience old now new script place command other within is one more =
+    let further : take (place + 1) script ≡ take place script ++ command ∷ [] = take_more script place other within ∙ ap (λ (c : Command). take place script ++ c ∷ []) (sym is) in
+    subst (GoesOn patience old new) (sym further) (goes_then patience old now new (take place script) (command ∷ []) one more)
+
+-- at the end of the script the seat leaves
+pub worked : (patience : ℕ) (old now ready new : SeatHeld) (script : List Command) (place : ℕ) → length script ≤ place → GoesOn patience old now (take place script) → (reply : Reply) → MakesRoom now ready → MakesCall ready new commands.Leave reply
+    → HasWorked patience old script new
+worked patience old now ready new script place over goes reply room called =
+    let call : MakesCall ready new commands.Leave Done = is_done ready new commands.Leave reply tt called in
+    let whole : take place script ≡ script = take_all place script over in
+    let all : HasMade patience old now script = subst (HasMade patience old now) whole goes.made in
+    let leave : HasMade patience now new (commands.Leave ∷ []) =
+    made_then patience now ready new [] (commands.Leave ∷ []) (room_made patience now ready room) (call_made patience ready new commands.Leave Done (λ same. cc same) call) in
+    record {
+      made = made_then patience old now new script (commands.Leave ∷ []) all leave;
+      left = ap (λ (k : Kept). k.left) call.stands;
+    }

@@ -1,0 +1,10 @@
+use Rattle.heap_model.specs.declared.calls.collect.Inner.TheVariants.{Look}
+use Rattle.heap_runs.proofs.LooksOn.{around_room, around_call, around_then}
+use Rattle.heap_runs.proofs.seat_collect.find_out.Goals as goal
+
+pub returns-in_err-room-clause-around : goal.returns-in_err-room-clause-around
+returns-in_err-room-clause-around c = around_then c.args.seat.now c.ask.new.seat c.room.new.self c.ask.ensures.around (around_room c.ask.new.seat c.room.new.self c.room.ensures.stays)
+
+pub returns-clause-around : goal.returns-clause-around
+returns-clause-around c =
+    around_then c.args.seat.now c.ask.new.seat c.look.new.self c.ask.ensures.around (around_call c.ask.new.seat c.room.new.self c.look.new.self Look tt c.room.ensures.stays c.look.ensures.made)

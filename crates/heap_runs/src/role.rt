@@ -1,0 +1,103 @@
+ghost use Rattle.std.specs.Prelude.{◌≡◌, ◌+◌, ◌-◌, ◌^◌, min, IfOk, OnOk, OnErr};
+ghost use Rattle.collector_turns.specs.Turning.{MakesRoom};
+ghost use Rattle.heap_runs.specs.Role.{IsOfRun, MakesOneTurn, MakesSlack};
+
+use collector_turns::Collector;
+use heap_model::{CollectorCalls, Memory, Turn};
+use slack_pace::{MOST_SLACK_TURNS, Pace, slack};
+use std::marker::{Brand, PhantomData};
+
+/// The name of a run on a table: which table it is, of which heap, and what its collector had told before. Each run picks it for itself.
+pub trait HeldName {
+    ghost use Rattle.atomic_table.specs.Seated.{TableId};
+    ghost use Rattle.heap_model.specs.declared.entry.Entry.{Entry};
+    ghost use Rattle.heap_model.specs.declared.heap.Heap.{Heap};
+    ghost use Rattle.std.specs.Prelude.{List};
+
+    ghost table: { TableId };
+
+    ghost heap: { Heap };
+
+    ghost before: { List Entry };
+}
+
+impl HeldName for Brand {
+    ghost use Rattle.std.specs.Prelude.{[]};
+    ghost use Rattle.heap_runs.specs.Role.{no_table};
+
+    ghost table = { no_table };
+
+    ghost heap = { record { groups = 0; spine = 0; seats = 0 } };
+
+    ghost before = { [] };
+}
+
+/// What the parties of a run share under one lock, and no word of the heap: the collector, the pace of its slack turns, how many fragments were claimed since it last made them,
+/// and how many seats' workers have ended.
+#[derive(Drop)]
+pub struct Held<N: HeldName, P = Box<dyn Pace>> {
+    pub collector: Collector,
+    pub pace: P,
+    pub owed: u64,
+    pub gone: u16,
+    pub name: PhantomData<N>,
+    pub ghost of_run: { IsOfRun N.table N.heap N.before collector },
+}
+
+impl<N: HeldName, P> Held<N, P> {
+    /// Makes one turn of the collector, and answers what it came to.
+    pub fn turn(&mut self) -> Result<Turn, Memory>
+        ensures turn { IfOk result (MakesOneTurn self.old.collector self.new.collector) }
+        ensures still { OnErr result (MakesRoom self.old.collector self.new.collector) }
+        ensures owed { self.new.owed ≡ self.old.owed }
+        ensures gone { self.new.gone ≡ self.old.gone }
+    {
+        self.collector.room(2)?;
+        Ok(self.collector.turn())
+    }
+
+    /// So many fragments more were claimed.
+    pub fn owe(&mut self, claimed: u64)
+        ensures owed { self.new.owed ≡ min (self.old.owed + claimed) (2 ^ 64 - 1) }
+        ensures collector { self.new.collector ≡ self.old.collector }
+        ensures gone { self.new.gone ≡ self.old.gone }
+    {
+        self.owed = self.owed.saturating_add(claimed);
+    }
+
+    /// One seat's worker more has ended.
+    pub fn end_one(&mut self)
+        ensures gone { self.new.gone ≡ min (self.old.gone + 1) (2 ^ 16 - 1) }
+        ensures collector { self.new.collector ≡ self.old.collector }
+        ensures owed { self.new.owed ≡ self.old.owed }
+    {
+        self.gone = self.gone.saturating_add(1);
+    }
+
+    /// So many seats' workers have ended.
+    pub fn end_all(&mut self, count: u16)
+        ensures gone { self.new.gone ≡ count }
+        ensures collector { self.new.collector ≡ self.old.collector }
+        ensures owed { self.new.owed ≡ self.old.owed }
+    {
+        self.gone = count;
+    }
+}
+
+impl<N: HeldName> Held<N> {
+    /// Makes the turns that the pace asks for, by what was claimed since it was asked last, or those up to the first that waits.
+    pub fn make_slack(&mut self) -> Result<(), Memory>
+        ensures came { OnOk result (came self.old.pace self.old.owed (kept self.new.pace)) }
+        ensures slack { OnOk result (MakesSlack (asks self.old.pace self.old.owed) self.old.collector self.new.collector) }
+        ensures paid { OnOk result (self.new.owed ≡ 0) }
+        ensures still { OnErr result (MakesRoom self.old.collector self.new.collector) }
+        ensures owed { OnErr result (self.new.owed ≡ self.old.owed) }
+        ensures gone { self.new.gone ≡ self.old.gone }
+    {
+        self.collector.room(MOST_SLACK_TURNS as usize + 2)?;
+        let claimed = self.owed;
+        slack(&mut self.pace, &mut self.collector, claimed);
+        self.owed = 0;
+        Ok(())
+    }
+}
