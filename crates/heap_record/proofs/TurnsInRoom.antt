@@ -1,12 +1,15 @@
 -- What turns of a collector come to, with the room that was made for each.
-use Rattle.std.proofs.Common.{◌≡◌, ℕ, suc, ◌+◌, ◌*◌, ◌<◌, ◌≤◌, List, [], ◌∷◌, ◌++◌, inl, inr, refl, sym, ap, ◌∙◌, append_assoc, arith}
+use Rattle.std.proofs.Common.{◌≡◌, ℕ, suc, ◌+◌, ◌*◌, ◌<◌, ◌≤◌, true, List, [], ◌∷◌, ◌++◌, inl, inr, refl, sym, ap, ◌∙◌, append_assoc, arith}
+use Rattle.std.specs.List.{AllByRecursion}
 use Rattle.std.proofs.lemmas.List.{append-nil}
 use Rattle.heap_model.specs.declared.calls.collector_calls.Turn.{Turn}
 use Rattle.heap_model.specs.declared.calls.collector_calls.Turn.TheVariants as turns
 use Rattle.heap_model.specs.declared.entry.Entry.{Entry}
+use Rattle.heap_model.specs.declared.entry.Entry.TheVariants as entries
 use Rattle.heap_model.specs.declared.entry.Entry.TheVariants.{Ends}
+use Rattle.heap_model.specs.account.Turned.{is_of_heap}
 use Rattle.heap_model.specs.PhasePlan.{cycle_phases}
-use Rattle.heap_model.specs.calls.CollectorCalls.{CollectorState, ComesTo, Turns}
+use Rattle.heap_model.specs.calls.CollectorCalls.{CollectorState, StepsTo, ComesTo, Turns}
 use Rattle.slack_pace.specs.Slack.{CountsTurns}
 use Rattle.heap_record.specs.LastCycle.{MakesInRoom, EndsWholeCycle}
 
@@ -16,23 +19,39 @@ pub record HasMade {Whole : Type 0} (state : Whole → CollectorState) (Rooms : 
   pub made : MakesInRoom Rooms Does turns old new
   pub counted : CountsTurns turns (state old) (state new)
   pub told : List Entry
+  pub own : AllByRecursion (λ entry. is_of_heap entry ≡ true) told
   pub grown : (state new).log ≡ (state old).log ++ told
 
 -- room changes neither the log nor the phase nor the turns
 abbrev pub IsRoom : CollectorState → CollectorState → Type 0
 IsRoom old new = new ≡ record old { spare = new.spare }
 
+-- a step's entry answers no command of the collector
+step_of_heap : (now : ℕ) (entry : Entry) (later : ℕ) → StepsTo now entry later → is_of_heap entry ≡ true
+step_of_heap now (entries.Turned command reply) later steps = absurd steps
+step_of_heap now _ later steps = refl
+
 -- what a turn tells
-told_by : (old new : CollectorState) (turn : Turn) → ComesTo old new turn → (more : List Entry) × (new.log ≡ old.log ++ more)
-told_by old new turns.Stepped (inl none) = ([], none.0 ∙ sym (append-nil old.log))
-told_by old new turns.Stepped (inr steps) = (steps.0 ∷ [], steps.2)
-told_by old new (turns.Waits seat answered phase) comes = ([], comes.0.0 ∙ sym (append-nil old.log))
-told_by old new (turns.Ended cycle kept) comes = (Ends cycle kept ∷ [], comes.0)
+record Tells (old new : CollectorState) : Type 0 where
+  more : List Entry
+  own : AllByRecursion (λ entry. is_of_heap entry ≡ true) more
+  grown : new.log ≡ old.log ++ more
+
+told_by : (old new : CollectorState) (turn : Turn) → ComesTo old new turn → Tells old new
+told_by old new turns.Stepped (inl none) = record { more = []; own = tt; grown = none.0 ∙ sym (append-nil old.log) }
+told_by old new turns.Stepped (inr steps) = record { more = steps.0 ∷ []; own = (step_of_heap old.phase steps.0 new.phase steps.1, tt); grown = steps.2 }
+told_by old new (turns.Waits seat answered phase) comes = record { more = []; own = tt; grown = comes.0.0 ∙ sym (append-nil old.log) }
+told_by old new (turns.Ended cycle kept) comes = record { more = Ends cycle kept ∷ []; own = (refl, tt); grown = comes.0 }
+
+both_own : (front more : List Entry) → AllByRecursion (λ entry. is_of_heap entry ≡ true) front → AllByRecursion (λ entry. is_of_heap entry ≡ true) more
+    → AllByRecursion (λ entry. is_of_heap entry ≡ true) (front ++ more)
+both_own [] more own then_ = then_
+both_own (entry ∷ front) more own then_ = (own.0, both_own front more own.1 then_)
 
 module _ (Whole : Type 0) (state : Whole → CollectorState) (Rooms : Whole → Whole → Type 0) (Does : Whole → Whole → Turn → Type 0) where
   -- none was made yet
   pub made_none : (old : Whole) → HasMade state Rooms Does old old
-  made_none old = record { turns = 0; made = refl; counted = omega arith; told = []; grown = sym (append-nil (state old).log) }
+  made_none old = record { turns = 0; made = refl; counted = omega arith; told = []; own = tt; grown = sym (append-nil (state old).log) }
 
   module _ (old now ready new : Whole) (so_far : HasMade state Rooms Does old now) (is_room : IsRoom (state now) (state ready)) (rooms : Rooms now ready) where
     one_more : (turn : Turn) → Turns (state ready) (state new) turn → CountsTurns (suc so_far.turns) (state old) (state new)
@@ -50,8 +69,9 @@ module _ (Whole : Type 0) (state : Whole → CollectorState) (Rooms : Whole → 
           turns = suc so_far.turns;
           made = (now, ready, turn, so_far.made, rooms, does);
           counted = one_more turn turned;
-          told = so_far.told ++ tells.0;
-          grown = more_told tells.0 tells.1;
+          told = so_far.told ++ tells.more;
+          own = both_own so_far.told tells.more so_far.own tells.own;
+          grown = more_told tells.more tells.grown;
         }
 
     -- and one that ended the cycle that was wanted
@@ -62,6 +82,7 @@ module _ (Whole : Type 0) (state : Whole → CollectorState) (Rooms : Whole → 
       made = (now, ready, turns.Ended cycle kept, so_far.made, rooms, does);
       counted = one_more (turns.Ended cycle kept) turned;
       earlier = so_far.told;
+      own = so_far.own;
       cycle = cycle;
       kept = kept;
       told = more_told (Ends cycle kept ∷ []) turned.comes_to.0;

@@ -1,10 +1,12 @@
 -- Turns of a collector, with the room that was made for each, up to the end of a cycle.
-use Rattle.std.specs.Prelude.{◌≡◌, ℕ, zero, suc, ◌+◌, ◌*◌, ◌<◌, ◌≤◌, List, [], ◌∷◌, ◌++◌, Some}
+use Rattle.std.specs.Prelude.{◌≡◌, ℕ, zero, suc, ◌+◌, ◌*◌, ◌<◌, ◌≤◌, true, List, [], ◌∷◌, ◌++◌, Some}
+use Rattle.std.specs.List.{AllByRecursion}
 use Rattle.heap_model.specs.declared.calls.collector_calls.Turn.{Turn}
 use Rattle.heap_model.specs.declared.calls.collector_calls.Turn.TheVariants.{Ended}
 use Rattle.heap_model.specs.declared.entry.Entry.{Entry}
 use Rattle.heap_model.specs.declared.entry.Entry.TheVariants.{Ends}
 use Rattle.heap_model.specs.PhasePlan.{cycle_phases}
+use Rattle.heap_model.specs.account.Turned.{is_of_heap}
 use Rattle.heap_model.specs.calls.CollectorCalls.{CollectorState}
 use Rattle.slack_pace.specs.Slack.{CountsTurns}
 
@@ -19,6 +21,8 @@ pub record EndsWholeCycle {Whole : Type 0} (state : Whole → CollectorState) (R
   pub made : MakesInRoom Rooms Does turns old new
   pub counted : CountsTurns turns (state old) (state new)
   pub earlier : List Entry
+  -- no entry answers a command of the collector
+  pub own : AllByRecursion (λ entry. is_of_heap entry ≡ true) earlier
   pub cycle : ℕ
   pub kept : ℕ
   pub told : (state new).log ≡ (state old).log ++ (earlier ++ Ends cycle kept ∷ [])

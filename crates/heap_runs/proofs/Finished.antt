@@ -1,5 +1,5 @@
 -- A table whose seats were folded in, whose last cycle has ended, and which was closed.
-use Rattle.std.proofs.Common.{◌≡◌, ℕ, zero, suc, ◌+◌, ◌*◌, ◌<◌, ◌≤◌, List, [], ◌∷◌, ◌++◌, length, map, fold, None, Some, refl, sym, ap, subst, ◌∙◌, append_assoc, arith}
+use Rattle.std.proofs.Common.{◌≡◌, ℕ, zero, suc, ◌+◌, ◌*◌, ◌<◌, ◌≤◌, true, List, [], ◌∷◌, ◌++◌, length, map, fold, None, Some, refl, sym, ap, subst, ◌∙◌, append_assoc, arith}
 use Rattle.std.specs.Prelude.{All}
 use Rattle.std.specs.List.{AllByRecursion, range_with_len}
 use Rattle.std.proofs.lemmas.List.{length-map}
@@ -8,6 +8,7 @@ use Rattle.std.proofs.lemmas.List.Elements.{recursion_from_All}
 use lib.ListN.{get_elem?}
 use mathlib.Core.Option.{some}
 use Rattle.heap_model.specs.Heap.{IsHeap}
+use Rattle.heap_model.specs.account.Turned.{is_of_heap}
 use Rattle.heap_model.specs.declared.entry.Entry.{Entry}
 use Rattle.heap_model.specs.declared.entry.Entry.TheVariants.{Ends}
 use Rattle.heap_model.specs.declared.heap.Heap.{Heap}
@@ -75,7 +76,11 @@ module _ (start folded last : CollectorHeld) (seats : List SeatHeld) (begun ende
 
     -- the logs are the seats' and the collector's
     pub has_logs : HasLogs seats start.known.collector.log closed
-    has_logs = record { turned = cycle.earlier ++ Ends cycle.cycle cycle.kept ∷ []; logs_are = known_logs }
+    has_logs = record { turned = cycle.earlier ++ Ends cycle.cycle cycle.kept ∷ []; own = with_end cycle.earlier cycle.own; logs_are = known_logs }
+      where
+        with_end : (front : List Entry) → AllByRecursion (λ entry. is_of_heap entry ≡ true) front → AllByRecursion (λ entry. is_of_heap entry ≡ true) (front ++ Ends cycle.cycle cycle.kept ∷ [])
+        with_end [] own = (refl, tt)
+        with_end (entry ∷ front) own = (own.0, with_end front own.1)
 
     -- and nothing is in use
     pub all_unused : EachLastCycleBalances → HasOneHistory closed → closed.heap ≡ last.heap → closed.folded ≡ last.known.folded → All (HasGone start.table start.heap) seats → EndsUnused closed

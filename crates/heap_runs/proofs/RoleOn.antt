@@ -1,11 +1,15 @@
 -- The collector of a run stays of its run, whatever turns are made.
-use Rattle.std.proofs.Common.{◌≡◌, ℕ, zero, suc, ◌+◌, ◌<◌, ◌≤◌, List, [], ◌∷◌, ◌++◌, length, take, min, Option, inl, inr, refl, sym, ap, subst, ◌∙◌, append_assoc, append-nil, arith}
-use Rattle.std.proofs.lemmas.List.{length-take, take-append-le}
+use Rattle.std.proofs.Common.{◌≡◌, ℕ, zero, suc, ◌+◌, ◌<◌, ◌≤◌, List, [], ◌∷◌, ◌++◌, true, length, take, drop, min, Option, inl, inr, refl, sym, ap, subst, ◌∙◌, append_assoc, append-nil, arith}
+use Rattle.std.specs.List.{list_all}
+use Rattle.std.proofs.lemmas.List.{length-take, take-append-le, drop-append-le}
+use Rattle.std.proofs.lemmas.List.Folds.{list_all-append}
+use Rattle.heap_model.specs.account.Turned.{is_of_heap}
 use Rattle.atomic_table.specs.Seated.{TableId}
-use Rattle.heap_model.specs.calls.CollectorCalls.{CollectorState, ComesTo, Turns}
+use Rattle.heap_model.specs.calls.CollectorCalls.{CollectorState, StepsTo, ComesTo, Turns}
 use Rattle.heap_model.specs.declared.calls.collector_calls.Turn.{Turn}
 use Rattle.heap_model.specs.declared.calls.collector_calls.Turn.TheVariants as turns
 use Rattle.heap_model.specs.declared.entry.Entry.{Entry}
+use Rattle.heap_model.specs.declared.entry.Entry.TheVariants as entries
 use Rattle.heap_model.specs.declared.entry.Entry.TheVariants.{Ends}
 use Rattle.heap_model.specs.declared.heap.Heap.{Heap}
 use Rattle.collector_turns.specs.Collector.{CollectorValue, state_of}
@@ -19,19 +23,31 @@ begins_more before log added begins =
     let within : length before ≤ length log = omega (arith, ap (length {A = Entry}) begins, length-take (length before) log) in
     take-append-le (length before) log added within ∙ begins
 
--- a turn adds entries at most
+-- and behind what it began with it has those and the added ones
+pub behind_more : (before log added : List Entry) → BeginsWith before log → list_all is_of_heap (drop (length before) log) ≡ true → list_all is_of_heap added ≡ true
+    → list_all is_of_heap (drop (length before) (log ++ added)) ≡ true
+behind_more before log added begins own more =
+    let within : length before ≤ length log = omega (arith, ap (length {A = Entry}) begins, length-take (length before) log) in
+    ap (list_all is_of_heap) (drop-append-le (length before) log added within) ∙ list_all-append is_of_heap (drop (length before) log) added ∙ rw (own, more) refl
+
+-- a turn adds entries at most, none of which answers a command of the collector
 pub record AddsOn (old new : List Entry) : Type 0 where
   pub added : List Entry
+  pub own : list_all is_of_heap added ≡ true
   pub grown : new ≡ old ++ added
 
 adds_none : (old new : List Entry) → new ≡ old → AddsOn old new
-adds_none old new same = record { added = []; grown = same ∙ sym (append-nil old) }
+adds_none old new same = record { added = []; own = refl; grown = same ∙ sym (append-nil old) }
+
+step_of_heap : (now : ℕ) (entry : Entry) (later : ℕ) → StepsTo now entry later → list_all is_of_heap (entry ∷ []) ≡ true
+step_of_heap now (entries.Turned command reply) later steps = absurd steps
+step_of_heap now _ later steps = refl
 
 turn_adds : (old new : CollectorState) (turn : Turn) → ComesTo old new turn → AddsOn old.log new.log
 turn_adds old new turns.Stepped (inl none) = adds_none old.log new.log none.0
-turn_adds old new turns.Stepped (inr steps) = record { added = steps.0 ∷ []; grown = steps.2 }
+turn_adds old new turns.Stepped (inr steps) = record { added = steps.0 ∷ []; own = step_of_heap old.phase steps.0 new.phase steps.1; grown = steps.2 }
 turn_adds old new (turns.Waits seat answered phase) comes = adds_none old.log new.log comes.0.0
-turn_adds old new (turns.Ended cycle kept) comes = record { added = Ends cycle kept ∷ []; grown = comes.0 }
+turn_adds old new (turns.Ended cycle kept) comes = record { added = Ends cycle kept ∷ []; own = refl; grown = comes.0 }
 
 module _ (table : TableId) (heap : Heap) (before : List Entry) where
   pub run_room : (old new : CollectorValue) → MakesRoom old new → IsOfRun table heap before old → IsOfRun table heap before new
@@ -39,6 +55,7 @@ module _ (table : TableId) (heap : Heap) (before : List Entry) where
     table_is = ap (λ (v : CollectorValue). v.holder.table) room ∙ run.table_is;
     heap_is = ap (λ (v : CollectorValue). v.holder.heap) room ∙ run.heap_is;
     goes_on = subst (BeginsWith before) (sym (ap (λ (v : CollectorValue). v.holder.known.collector.log) room)) run.goes_on;
+    own = ap (λ (v : CollectorValue). list_all is_of_heap (drop (length before) v.holder.known.collector.log)) room ∙ run.own;
   }
 
   pub run_turn : (old new : CollectorValue) (turn : Turn) → TakesTurn old new turn → Turns (state_of old) (state_of new) turn → IsOfRun table heap before old → IsOfRun table heap before new
@@ -48,6 +65,7 @@ module _ (table : TableId) (heap : Heap) (before : List Entry) where
         table_is = takes.turned.table_stays ∙ run.table_is;
         heap_is = takes.turned.heap_stays ∙ run.heap_is;
         goes_on = subst (BeginsWith before) (sym adds.grown) (begins_more before old.holder.known.collector.log adds.added run.goes_on);
+        own = ap (λ (l : List Entry). list_all is_of_heap (drop (length before) l)) adds.grown ∙ behind_more before old.holder.known.collector.log adds.added run.goes_on run.own adds.own;
       }
 
 -- what is the table's and the heap's stays after many turns
@@ -67,6 +85,7 @@ stays_each (suc n) old new makes =
 adds_then : (old now new : List Entry) → AddsOn old now → AddsOn now new → AddsOn old new
 adds_then old now new one more = record {
   added = one.added ++ more.added;
+  own = list_all-append is_of_heap one.added more.added ∙ rw (one.own, more.own) refl;
   grown = more.grown ∙ ap (λ (l : List Entry). l ++ more.added) one.grown ∙ append_assoc old one.added more.added;
 }
 
@@ -87,4 +106,5 @@ module _ (table : TableId) (heap : Heap) (before : List Entry) where
         table_is = stays.0 ∙ run.table_is;
         heap_is = stays.1 ∙ run.heap_is;
         goes_on = subst (BeginsWith before) (sym adds.grown) (begins_more before old.holder.known.collector.log adds.added run.goes_on);
+        own = ap (λ (l : List Entry). list_all is_of_heap (drop (length before) l)) adds.grown ∙ behind_more before old.holder.known.collector.log adds.added run.goes_on run.own adds.own;
       }

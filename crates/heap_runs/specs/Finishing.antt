@@ -1,11 +1,13 @@
 -- How a run on a table ends.
 use Rattle.std.specs.Prelude.{◌≡◌, ℕ, ◌<◌, true, List, [], ◌∷◌, ◌++◌, map}
+use Rattle.std.specs.List.{AllByRecursion}
 use Rattle.atomic_table.specs.Seated.{TableId}
 use Rattle.heap_model.specs.declared.entry.Entry.{Entry}
 use Rattle.heap_model.specs.declared.entry.Entry.TheVariants.{Ends}
 use Rattle.heap_model.specs.declared.heap.Heap.{Heap}
 use Rattle.heap_model.specs.account.PhaseCounts.{has_left}
 use Rattle.heap_model.specs.account.Space.{fragments_gained, fragments_lost, words_granted, words_returned}
+use Rattle.heap_model.specs.account.Turned.{is_of_heap}
 use Rattle.heap_model.specs.account.Windows.{up_to_cycle}
 use Rattle.heap_table.specs.Closed.{ClosedTable, HasOneHistory}
 use Rattle.heap_table.specs.Handing.{with_folded}
@@ -38,7 +40,8 @@ pub record EndsUnused (closed : ClosedTable) : Type 0 where
   pub none_used : fragments_gained closed.heap one.history ≡ fragments_lost one.history
   pub all_returned : words_granted one.history ≡ words_returned one.history
 
--- the logs are those of the seats, in their order, and behind them that of a collector which has gone on from this one
+-- the logs are those of the seats, in their order, and behind them that of a collector which has gone on from these entries, with no answer to a command
 pub record HasLogs (seats : List SeatHeld) (before : List Entry) (closed : ClosedTable) : Type 0 where
   pub turned : List Entry
+  pub own : AllByRecursion (λ entry. is_of_heap entry ≡ true) turned
   pub logs_are : closed.logs ≡ map (λ held. held.seat.mine) seats ++ (before ++ turned) ∷ []

@@ -1,6 +1,8 @@
 -- What stays true of the collector while the parties of a run share its turns, and what each of them does to it.
-use Rattle.std.specs.Prelude.{◌≡◌, ℕ, ◌<◌, ◌≤◌, ◌++◌, List, [], length, take}
+use Rattle.std.specs.Prelude.{◌≡◌, ℕ, ◌<◌, ◌≤◌, ◌++◌, true, List, [], length, take, drop}
+use Rattle.std.specs.List.{list_all}
 use Rattle.atomic_table.specs.Seated.{TableId}
+use Rattle.heap_model.specs.account.Turned.{is_of_heap}
 use Rattle.heap_model.specs.calls.CollectorCalls.{Turns}
 use Rattle.heap_model.specs.declared.calls.collector_calls.Turn.{Turn}
 use Rattle.heap_model.specs.declared.entry.Entry.{Entry}
@@ -17,11 +19,12 @@ no_table = record { words = 0; slots = 0; views_name = 0; atom = 0; block = 0; o
 abbrev pub BeginsWith : List Entry → List Entry → Type 0
 BeginsWith before log = take (length before) log ≡ before
 
--- the collector is of this table and heap, and its entries begin with these
+-- the collector is of this table and heap, and its entries begin with these; no later one answers a command of the collector
 pub record IsOfRun (table : TableId) (heap : Heap) (before : List Entry) (collector : CollectorValue) : Type 0 where
   pub table_is : collector.holder.table ≡ table
   pub heap_is : collector.holder.heap ≡ heap
   pub goes_on : BeginsWith before collector.holder.known.collector.log
+  pub own : list_all is_of_heap (drop (length before) collector.holder.known.collector.log) ≡ true
 
 -- once there was room the collector made this one turn
 pub record MakesOneTurn (old new : CollectorValue) (turn : Turn) : Type 0 where

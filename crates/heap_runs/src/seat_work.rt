@@ -1,12 +1,12 @@
 ghost use Rattle.std.specs.Prelude.{◌≡◌, ◌≢◌, ◌+◌, ◌<◌, ◌≤◌, [], ◌∷◌, length, drop, IfOk, OnOk};
 ghost use Rattle.heap_model.specs.declared.command.Command.TheVariants.{Collect};
-ghost use Rattle.locked_heap.specs.Recorded.{claimed_by};
+ghost use Rattle.heap_record.specs.Recorded.{claimed_by};
 ghost use Rattle.heap_runs.specs.SeatWork.{IsOfTable, MayWork, MayMakeNext, GoesOn, HasWorked};
 
 use crate::role::{Held, HeldName};
 use crate::seat_collect::collect_call;
 use heap_model::{Command, Gate, Memory, SeatCalls, seat_laws};
-use locked_heap::claimed;
+use heap_record::claimed;
 use mutator_seat::Seat;
 use std::sync::{Mutex, Wait};
 
