@@ -1,7 +1,8 @@
 ghost use Rattle.std.specs.Prelude.{◌≡◌, None};
+ghost use Rattle.heap_model.specs.Heap.{IsHeap};
 
 use core_machine::{CountsEntries, Entries, Log};
-use heap_model::{Entry, Turn};
+use heap_model::{Entry, Heap, Turn};
 use heap_table::CollectorHolder;
 use std::marker::Model;
 
@@ -37,6 +38,14 @@ impl<L: Entries, C: CountsEntries> Collector<L, C> {
     {
         let Collector { holder, .. } = self;
         holder
+    }
+
+    /// The heap whose table it is of.
+    pub fn heap(&self) -> Heap
+        ensures heap { result ≡ self.now.holder.heap }
+        ensures limits { IsHeap result }
+    {
+        self.holder.heap()
     }
 
     /// The phase in which the last seat was folded in; 0 where none was.

@@ -19,6 +19,7 @@ pub mod LooksOn
 pub mod NextLine
 pub mod Noted
 pub mod RoleOn
+pub mod RunsEnd
 pub mod SeatTells
 pub mod Serving
 pub mod Slacking
@@ -30,3 +31,4 @@ pub mod TurnsKeep
 pub mod Unused
 pub mod Waiting
 pub mod Whole
+pub mod WorkersEnd

@@ -9,3 +9,4 @@ pub mod Finishing
 pub mod Role
 pub mod CollectCall
 pub mod SeatWork
+pub mod RunningSeats

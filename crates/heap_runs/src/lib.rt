@@ -7,14 +7,17 @@ mod play_collector;
 mod play_heap;
 mod playing;
 mod role;
+mod running_seats;
 mod seat_collect;
 mod seat_work;
 mod turning;
+mod workers;
 
 pub use machine_heap::MachineHeap;
 pub use play_heap::PlayHeap;
 pub use playing::play;
 pub use role::{Held, HeldName};
+pub use running_seats::{Ran, run_seats};
 pub use seat_collect::collect_call;
 pub use turning::turn_line;
 
