@@ -25,3 +25,4 @@ pub mod TurnFacts
 pub mod TurnedMachine
 pub mod Waiting
 pub mod Whole
+pub mod WorkersEnd

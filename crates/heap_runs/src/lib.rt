@@ -9,6 +9,7 @@ mod role;
 mod seat_collect;
 mod seat_work;
 mod turning;
+mod workers;
 
 pub use machine_heap::MachineHeap;
 pub use play_heap::PlayHeap;
