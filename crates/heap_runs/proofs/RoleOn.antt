@@ -1,5 +1,5 @@
 -- The collector of a run stays of its run, whatever turns are made.
-use Rattle.std.proofs.Common.{◌≡◌, ℕ, zero, suc, ◌+◌, ◌<◌, ◌≤◌, List, [], ◌∷◌, ◌++◌, length, take, min, Option, inl, inr, refl, sym, ap, subst, ◌∙◌, append_assoc, append-nil, arith}
+use Rattle.std.proofs.Common.{◌≡◌, ℕ, zero, suc, ◌≤◌, List, [], ◌∷◌, ◌++◌, length, inl, inr, sym, ap, subst, ◌∙◌, append_assoc, append-nil, arith}
 use Rattle.std.proofs.lemmas.List.{length-take, take-append-le}
 use Rattle.atomic_table.specs.Seated.{TableId}
 use Rattle.heap_model.specs.calls.CollectorCalls.{CollectorState, ComesTo, Turns}

@@ -1,12 +1,12 @@
 -- What the workers of a run hand back.
-use Rattle.std.proofs.Common.{◌≡◌, ℕ, ◌<◌, List, length, map, Some, Ok, Err, Result, sym, ap, subst, ◌∙◌}
-use Rattle.std.specs.Prelude.{slice_get, slice_index_or, option_map, All, IfOk}
+use Rattle.std.proofs.Common.{◌≡◌, ℕ, List, length, map, Some, Ok, Err, Result, sym, ap, ◌∙◌}
+use Rattle.std.specs.Prelude.{slice_get, option_map, IfOk}
 use Rattle.std.proofs.lemmas.List.{length-map}
-use Rattle.std.proofs.lemmas.Option.{slice_get-map, slice_get_within, get_or_from_slice_get}
+use Rattle.std.proofs.lemmas.Option.{slice_get-map}
 use Rattle.heap_model.specs.declared.command.Command.{Command}
 use Rattle.heap_model.specs.declared.fault.Memory.{Memory}
 use Rattle.heap_table.specs.SeatHeld.{SeatHeld}
-use Rattle.heap_runs.specs.SeatWork.{HasWorked, HaveEnded, HaveWorked, script_at}
+use Rattle.heap_runs.specs.SeatWork.{HaveEnded, HaveWorked}
 
 -- a worker came to its end with this seat
 abbrev ok_of : SeatHeld → Result SeatHeld Memory

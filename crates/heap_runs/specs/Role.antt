@@ -1,5 +1,5 @@
 -- What stays true of the collector while the parties of a run share its turns, and what each of them does to it.
-use Rattle.std.specs.Prelude.{◌≡◌, ℕ, ◌<◌, ◌≤◌, ◌++◌, List, [], length, take}
+use Rattle.std.specs.Prelude.{◌≡◌, ℕ, ◌<◌, ◌≤◌, List, [], length, take}
 use Rattle.atomic_table.specs.Seated.{TableId}
 use Rattle.heap_model.specs.calls.CollectorCalls.{Turns}
 use Rattle.heap_model.specs.declared.calls.collector_calls.Turn.{Turn}
