@@ -1,6 +1,6 @@
 -- How a collect of a seat ends.
 use Rattle.std.specs.Prelude.{min, nat_lt}
-use Rattle.std.proofs.Common.{◌≡◌, ℕ, ◌+◌, ◌-◌, ◌*◌, ◌^◌, ◌<◌, ◌≤◌, ◌⊎◌, List, ◌∷◌, ◌++◌, [], Some, inl, inr, ap, ◌∙◌, append_assoc, arith}
+use Rattle.std.proofs.Common.{◌≡◌, ℕ, ◌+◌, ◌-◌, ◌*◌, ◌^◌, ◌<◌, ◌≤◌, List, ◌∷◌, ◌++◌, [], inl, inr, ap, ◌∙◌, append_assoc, arith}
 use Rattle.std.proofs.lemmas.Bool.Decides.{nat_tests}
 use Rattle.core_machine.proofs.table_lemmas.Bits.{bool_tells}
 use Rattle.heap_model.specs.declared.calls.collect.CollectReply.{CollectReply}

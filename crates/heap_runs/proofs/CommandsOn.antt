@@ -1,6 +1,6 @@
 -- How a seat goes on with its script, by what its own entries tell.
-use Rattle.std.proofs.Common.{◌≡◌, ◌≢◌, ℕ, ◌+◌, ◌-◌, ◌*◌, ◌^◌, ◌<◌, ◌≤◌, ◌⊎◌, true, false, List, [], ◌∷◌, ◌++◌, length, take, refl, sym, ap, subst, ◌∙◌, inl, inr, append_assoc, append-nil, length-append, arith}
-use Rattle.std.specs.Prelude.{All, slice_index_or}
+use Rattle.std.proofs.Common.{◌≡◌, ◌≢◌, ℕ, ◌+◌, ◌*◌, ◌<◌, ◌≤◌, List, [], ◌∷◌, ◌++◌, length, take, refl, sym, ap, subst, ◌∙◌, inl, inr, append_assoc, append-nil, length-append, arith}
+use Rattle.std.specs.Prelude.{slice_index_or}
 use Rattle.std.proofs.lemmas.List.{length-take-le, take_more, take_all}
 use Rattle.heap_model.specs.Limits.{name_limit, stamp_limit}
 use Rattle.heap_model.specs.Needs.{need_of}
@@ -25,10 +25,10 @@ use Rattle.mutator_seat.specs.Calls.{MakesCall}
 use Rattle.mutator_seat.specs.Resting.{seat_state, MakesRoom}
 use Rattle.mutator_seat.proofs.Entries.{call_adds}
 use Rattle.mutator_seat.proofs.Replied.{is_done}
-use Rattle.heap_runs.specs.CollectCall.{IsPresent, IsPatient, IsCauseOf, AnswersCollect}
+use Rattle.heap_runs.specs.CollectCall.{IsPresent, IsCauseOf, AnswersCollect}
 use Rattle.heap_runs.specs.SeatWork.{IsOfScript, objects_of, sets_of, MayWork, MayMakeNext, IsPaidSince, HasMade, GoesOn, HasWorked}
 use Rattle.heap_runs.proofs.LooksOn.{around_room, same_graph_seat, same_present}
-use Rattle.heap_runs.proofs.SeatTells.{commands_more, waits_more, waits_of, TellsOne, one_called, one_noted}
+use Rattle.heap_runs.proofs.SeatTells.{commands_more, waits_more, waits_of, one_called, one_noted}
 
 -- every command but a collect is served
 pub served_once : (command : Command) → command ≢ commands.Collect → IsServed command

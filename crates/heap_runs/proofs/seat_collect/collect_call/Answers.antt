@@ -1,4 +1,4 @@
-use Rattle.std.proofs.Common.{◌≡◌, ◌+◌, ◌-◌, ◌^◌, min, arith}
+use Rattle.std.proofs.Common.{◌≡◌, ◌+◌, ◌-◌, ◌^◌, min}
 use Rattle.heap_model.specs.declared.calls.collect.Inner.TheVariants.{Look}
 use Rattle.heap_runs.specs.CollectCall.{LooksAround}
 use Rattle.heap_runs.proofs.CollectEnds.{collect_answers}
