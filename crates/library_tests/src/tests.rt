@@ -5,6 +5,7 @@ mod comparing;
 mod histories;
 mod interleavings;
 mod machine;
+mod merges;
 mod paces;
 mod parts;
 mod scripts;
