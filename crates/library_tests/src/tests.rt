@@ -2,6 +2,8 @@
 
 mod checks;
 mod comparing;
+mod cycling;
+mod forms;
 mod histories;
 mod interleavings;
 mod machine;

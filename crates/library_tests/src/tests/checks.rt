@@ -3,7 +3,6 @@
 mod account;
 mod collector_calls;
 mod graph;
-mod note;
 mod seat_calls;
 
 use super::comparing::same;

@@ -1,0 +1,144 @@
+//! The words after the program's name, and the work that they ask for.
+
+use super::comparing::same;
+use form_words::{PaceName, Work};
+use std::alloc::{AllocError, Global};
+use std::test::Fail;
+
+/// Words that are no form, each with one space between two.
+const NO_FORMS: [&str; 44] = [
+    "plays",
+    "Check",
+    "play extra",
+    "play check",
+    "check play",
+    "check --brief",
+    "check --pace steady",
+    "--brief play",
+    "play --brief --brief",
+    "play --pace steady --pace steady",
+    "play --pace steady --brief --pace steady",
+    "play --pace",
+    "play --pace debt",
+    "play --pace --brief steady",
+    "play --pace=steady",
+    "play --brief=",
+    "play -- --brief",
+    "play --brief --",
+    "play --locked",
+    "play --patience 5",
+    "run extra",
+    "--locked run",
+    "run --brief",
+    "run --locked --locked",
+    "run --locked --patience",
+    "run --patience 0",
+    "run --patience 01",
+    "run --patience 1000001",
+    "run --patience -1",
+    "run --patience=5",
+    "run --patience 5 --patience 5",
+    "run --pace steady --pace steady",
+    "run --pace --locked steady",
+    "run --pace debt",
+    "run -- --locked",
+    "make",
+    "make 7 4",
+    "make 7 4 2000 1",
+    "make 2147483648 1 1",
+    "make 1 0 1",
+    "make 1 17 1",
+    "make 1 1 32769",
+    "make 01 1 1",
+    "make 1 1 +1",
+];
+
+/// Words with a space in one of them, which are no form either.
+const SPACED: [&[&str]; 5] = [
+    &[" play"],
+    &["play "],
+    &["check\n"],
+    &["play", " --brief"],
+    &["make", "1 ", "1", "1"],
+];
+
+const STEADY: Option<PaceName> = Some(PaceName::Steady);
+
+/// Words of plays, each with the pace and whether the brief alone is told.
+const PLAYS: [(&str, Option<PaceName>, bool); 5] = [
+    ("play", None, false),
+    ("play --brief", None, true),
+    ("play --pace steady", STEADY, false),
+    ("play --brief --pace steady", STEADY, true),
+    ("play --pace steady --brief", STEADY, true),
+];
+
+/// Words of runs, each with whether it is locked and with its patience.
+const RUNS: [(&str, bool, u32); 6] = [
+    ("run", false, 1_000),
+    ("run --locked", true, 1_000),
+    ("run --pace steady", false, 1_000),
+    ("run --patience 1", false, 1),
+    (
+        "run --patience 1000000 --pace steady --locked",
+        true,
+        1_000_000,
+    ),
+    ("run --locked --patience 1000 --pace steady", true, 1_000),
+];
+
+/// Words by which a script is made, each with the three numbers.
+const MAKINGS: [(&str, u32, u8, u32); 2] = [
+    ("make 2147483647 16 32768", 2_147_483_647, 16, 32_768),
+    ("make 0 1 0", 0, 1, 0),
+];
+
+/// The work that the words in the line ask for.
+fn asked(alloc: Global, line: &str) -> Result<Option<Work>, AllocError> {
+    let words: Vec<&str> = line.split(' ').collect(alloc)?;
+    Ok(Work::of(&words))
+}
+
+#[test]
+fn asks_for_nothing_by_other_words(rt: HostRuntime) -> Result<(), Fail> {
+    same(&rt, &Work::of(&[]), &None, &"no words");
+    for words in SPACED {
+        same(&rt, &Work::of(words), &None, &words[0]);
+    }
+    for line in NO_FORMS {
+        same(&rt, &asked(rt.alloc(), line)?, &None, &line);
+    }
+    Ok(())
+}
+
+#[test]
+fn asks_for_the_work_of_a_form(rt: HostRuntime) -> Result<(), Fail> {
+    let alloc = rt.alloc();
+    for (line, pace, brief) in PLAYS {
+        let work = Work::Play { pace, brief };
+        same(&rt, &asked(alloc, line)?, &Some(work), &line);
+        same(&rt, &work.most_bytes(), &Some(1_048_576), &line);
+    }
+    for (line, locked, patience) in RUNS {
+        let work = Work::Run {
+            pace: PaceName::Steady,
+            locked,
+            patience,
+        };
+        same(&rt, &asked(alloc, line)?, &Some(work), &line);
+        same(&rt, &work.most_bytes(), &Some(1_048_576), &line);
+    }
+    for (line, start, seats, lines) in MAKINGS {
+        let work = Work::Make {
+            start,
+            seats,
+            lines,
+        };
+        same(&rt, &asked(alloc, line)?, &Some(work), &line);
+        same(&rt, &work.most_bytes(), &None, &line);
+    }
+    let check = Work::Check;
+    same(&rt, &asked(alloc, "check")?, &Some(check), &"check");
+    same(&rt, &check.most_bytes(), &Some(16_777_216), &"check");
+    Ok(())
+}
