@@ -1,3 +1,4 @@
+pub mod HeapEntries
 pub mod Leading
 pub mod Calls
 pub mod Inners

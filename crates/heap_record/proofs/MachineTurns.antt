@@ -1,5 +1,5 @@
 -- What a turn comes to that was noted.
-use Rattle.std.proofs.Common.{◌≡◌, ℕ, ◌+◌, ◌-◌, ◌^◌, min, true, List, [], ◌∷◌, ◌++◌, length, filter, Some, refl, sym, ap, subst, ◌∙◌, append_assoc, length-append, arith}
+use Rattle.std.proofs.Common.{◌≡◌, ◌+◌, ◌-◌, ◌^◌, min, List, ◌++◌, length, filter, Some, sym, ap, subst, ◌∙◌, length-append, arith}
 use Rattle.std.proofs.lemmas.List.Elements.{filter-append}
 use Rattle.heap_model.specs.declared.calls.collector_calls.Turn.{Turn}
 use Rattle.heap_model.specs.declared.entry.Entry.{Entry}
@@ -7,12 +7,12 @@ use Rattle.heap_model.specs.declared.heap.Heap.{Heap}
 use Rattle.heap_model.specs.account.Noting.{is_collectors}
 use Rattle.heap_model.specs.account.PhaseCounts.{phase}
 use Rattle.heap_model.specs.calls.CollectorCalls.{ComesTo}
-use Rattle.core_machine.specs.machine.Machine.{State, Turns, Can, next_turn, found_by, state_after, entries}
+use Rattle.core_machine.specs.machine.Machine.{Turns, Can, next_turn, found_by, state_after, entries}
 use Rattle.core_machine.specs.machine.Value.{MachineValue}
 use Rattle.core_rule.specs.Laws.{EveryRunKeeps, EachEventKeeps, EachTurnComesTo, IsToldBy}
 use Rattle.core_rule.proofs.parties.Collectors.{all_collectors}
 use Rattle.core_rule.proofs.parties.TurnLogs.{TurnFacts, turn_facts}
-use Rattle.heap_record.specs.Recorded.{Recorded, EventsLeadTo, AnyEvents, StandsStill, MakesTurn, collector_of}
+use Rattle.heap_record.specs.Recorded.{Recorded, EventsLeadTo, AnyEvents, MakesTurn, collector_of}
 use Rattle.heap_record.proofs.Calls.{AddsTold, room_kept}
 use Rattle.heap_record.proofs.Leading.{book_stands}
 
@@ -47,6 +47,7 @@ makes_turn runs each old new turn told led is told_is can after answered counted
       can = can;
       after = after;
       noted = noted;
+      listed = is.listed ∙ ap (λ (l : List Entry). old.listed ++ l) told_is;
       answered = answered;
       own = comes.0;
       turned = record {

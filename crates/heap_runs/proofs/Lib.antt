@@ -1,17 +1,16 @@
 pub mod Answering
 pub mod ArrayCalls
-pub mod Beside
 pub mod Between
 pub mod Bounds
 pub mod Calling
 pub mod Collecting
-pub mod Following
 pub mod Growing
 pub mod LastCycle
 pub mod Leaves
 pub mod Lines
 pub mod NextLine
 pub mod Noted
+pub mod Noting
 pub mod Serving
 pub mod Slacking
 pub mod Standing
@@ -20,3 +19,4 @@ pub mod TurnFacts
 pub mod TurnedMachine
 pub mod Waiting
 pub mod Whole
+pub mod WithAnswers

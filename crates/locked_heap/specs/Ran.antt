@@ -2,7 +2,6 @@
 use Rattle.std.specs.Prelude.{◌≡◌, ℕ, ◌+◌, ◌-◌, ◌^◌, ◌<◌, min, false, List, [], ◌∷◌, ◌++◌, map}
 use Rattle.std.specs.List.{range_with_len}
 use Rattle.heap_model.specs.declared.command.Command.TheVariants.{Leave}
-use Rattle.heap_model.specs.declared.heap.Heap.{Heap}
 use Rattle.heap_model.specs.account.Account.{IsLegal}
 use Rattle.heap_model.specs.runs.Endings.{EndsEmpty, IsPaid}
 use Rattle.heap_model.specs.runs.Told.{commands_told, waits_told}

@@ -25,12 +25,15 @@ impl<N: Handed> SlackWork for Locked<N> {
     ghost slackened = { λ old new. (asked : ℕ) × MakesSlack asked old new };
 
     /// No more slack is wanted once the seats' workers have returned, or every seat has left.
-    fn is_over(&self) -> bool {
+    fn is_over(&self) -> bool
+        ensures { IsTrue result ↔ IsOver N.given self.now }
+    {
         self.over || self.all_gone()
     }
 
     /// Makes the turns that the pace asks for, by what was claimed since it was asked last, or those up to the first that waits.
     fn make_slack(&mut self, own: &mut Box<dyn Pace>) -> Result<(), Memory>
+        requires { ¬ IsOver N.given self.old }
         ensures slackened { OnOk result ((asked : ℕ) × MakesSlack asked self.old self.new) }
         ensures came { OnOk result (came own.old self.old.owed (kept own.new)) }
         ensures slack { OnOk result (MakesSlack (asks own.old self.old.owed) self.old self.new) }

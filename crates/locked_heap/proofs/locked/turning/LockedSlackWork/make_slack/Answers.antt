@@ -22,3 +22,6 @@ returns-clause-slack g c =
     let owed = ap (λ (v : LockedValue). v.owed) is in
     slack_makes _ c.slack.result.asked c.slack.result.made c.slack.result.last c.room.new.self c.args.self.now _ (cc (done.asked, owed)) (subst (λ (v : LockedValue). StandsStill v.recorded c.room.new.self) is c.room.ensures.still) done.most
     done.each done.fewer done.last (ap (λ (v : LockedValue). v.seats) is) (ap (λ (v : LockedValue). v.over) is) refl
+
+pub returns-clause-slackened : goal.returns-clause-slackened
+returns-clause-slackened g c = (_, returns-clause-slack g c)
