@@ -1,5 +1,5 @@
 -- What a call comes to that was made after some room was, and noted.
-use Rattle.std.proofs.Common.{◌≡◌, ◌≢◌, ℕ, ◌+◌, ◌-◌, ◌*◌, ◌<◌, ◌≤◌, List, [], ◌∷◌, ◌++◌, length, drop, ap, subst, ◌∙◌, length-append, arith}
+use Rattle.std.proofs.Common.{◌≡◌, ◌≢◌, ℕ, ◌+◌, ◌-◌, ◌*◌, ◌<◌, ◌≤◌, List, [], ◌∷◌, ◌++◌, length, drop, sym, ap, subst, ◌∙◌, length-append, arith}
 use Rattle.heap_model.specs.declared.command.Command.{Command}
 use Rattle.heap_model.specs.declared.command.Command.TheVariants.{Leave}
 use Rattle.heap_model.specs.declared.entry.Entry.{Entry}
@@ -7,6 +7,7 @@ use Rattle.heap_model.specs.declared.entry.Entry.TheVariants.{Said}
 use Rattle.heap_model.specs.declared.heap.Heap.{Heap}
 use Rattle.heap_model.specs.declared.reply.Reply.{Reply}
 use Rattle.heap_model.specs.account.Space.{need_of}
+use Rattle.heap_model.specs.account.Turned.{without_turned}
 use Rattle.heap_model.specs.calls.SeatLaws.{EachCallIsShort}
 use Rattle.core_machine.specs.machine.Calls.{PlaysCall, CountsCall, AnswersNew, AnswersArray, TellsLeave, IsPlaceRefusal, LeavesAll}
 use Rattle.core_machine.specs.machine.Machine.{State, seat_at}
@@ -17,6 +18,7 @@ use Rattle.core_rule.proofs.parties.Logs.{log_longer, log_since}
 use Rattle.core_rule.proofs.parties.OneSeat.{after_call}
 use Rattle.core_rule.proofs.parties.Standing.{phase_near}
 use Rattle.heap_record.specs.Recorded.{Recorded, EventsLeadTo, AnyEvents, MakesCall}
+use Rattle.heap_record.proofs.HeapEntries.{AreOfHeap, left_more, call_of_heap}
 use Rattle.heap_record.proofs.Leading.{book_stands}
 
 -- what the log of the party has more
@@ -27,6 +29,7 @@ since one two party = drop (length (log_of one party)) (log_of two party)
 pub record AddsTold (old new : Recorded) (told : List Entry) : Type 0 where
   pub same_heap : new.machine.heap ≡ old.machine.heap
   pub noted : new.history ≡ old.history ++ told
+  pub listed : new.listed ≡ old.listed ++ told
   pub left : new.spare ≡ old.spare - length told
   pub turns_stay : new.turns ≡ old.turns
   pub last_stays : new.last_turn ≡ old.last_turn
@@ -36,10 +39,14 @@ pub room_kept : (old new : Recorded) (told : List Entry) → AddsTold old new to
 room_kept old new told is = omega (arith, is.left, ap (length {A = Entry}) is.noted, length-append old.history told)
 
 -- what was noted behind the party's log as it was is what that has more
-pub noted_since : (old : Recorded) (one two : MachineValue) (party : ℕ) (before had now : List Entry) → now ≡ had ++ drop (length before) (log_of two party) → had ≡ old.history → before ≡ log_of one party
-    → now ≡ old.history ++ since one two party
+pub noted_since : (old : Recorded) (one two : MachineValue) (party : ℕ) (before had now : List Entry) → now ≡ had ++ drop (length before) (log_of two party) → had ≡ old.listed → before ≡ log_of one party
+    → now ≡ old.listed ++ since one two party
 noted_since old one two party before had now added as_it_was log =
-    added ∙ ap (λ (l : List Entry). l ++ drop (length before) (log_of two party)) as_it_was ∙ ap (λ (l : List Entry). old.history ++ drop (length l) (log_of two party)) log
+    added ∙ ap (λ (l : List Entry). l ++ drop (length before) (log_of two party)) as_it_was ∙ ap (λ (l : List Entry). old.listed ++ drop (length l) (log_of two party)) log
+
+-- the history has as much more
+pub history_since : (old : Recorded) (now told : List Entry) → old.history ≡ without_turned old.listed → now ≡ old.listed ++ told → AreOfHeap told → without_turned now ≡ old.history ++ told
+history_since old now told same added plain = ap without_turned added ∙ left_more old.listed told plain ∙ ap (λ (l : List Entry). l ++ told) (sym same)
 
 -- a whole call of the machine, and what its seat told by it
 pub record CallMade (heap : Heap) (old new : State) (told : List Entry) (number : ℕ) (command : Command) (reply : Reply) : Type 0 where
@@ -50,6 +57,10 @@ pub record CallMade (heap : Heap) (old new : State) (told : List Entry) (number 
   pub array : IsArrayCall command → AnswersArray heap old new number command reply
   pub leave : command ≡ Leave → TellsLeave old new number
   pub refused : IsPlaceRefusal reply → LeavesAll heap old new number reply
+
+-- it tells none of the collector's answers
+pub made_of_heap : (heap : Heap) (old new : State) (told : List Entry) (number : ℕ) (command : Command) (reply : Reply) → CallMade heap old new told number command reply → AreOfHeap told
+made_of_heap heap old new told number command reply made = subst AreOfHeap (sym made.told_is) (call_of_heap heap old new number command reply made.call)
 
 -- it was the machine's and is short; the collector's room is as it was
 pub record CallFacts (old : Recorded) (one two : MachineValue) (number : ℕ) (command : Command) (reply : Reply) : Type 0 where
@@ -96,6 +107,7 @@ makes_call old new one number command reply facts is =
       same_heap = is.same_heap;
       call = made.call;
       noted = is.noted ∙ ap (λ (l : List Entry). old.history ++ l) made.told_is;
+      listed = is.listed ∙ ap (λ (l : List Entry). old.listed ++ l) made.told_is;
       counts = made.counts;
       answer = made.answer;
       array = made.array;

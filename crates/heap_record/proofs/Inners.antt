@@ -13,6 +13,7 @@ use Rattle.core_rule.proofs.parties.Logs.{log_of_seat}
 use Rattle.core_rule.proofs.parties.OneSeat.{after_inner}
 use Rattle.heap_record.specs.Recorded.{Recorded, MakesInner}
 use Rattle.heap_record.proofs.Calls.{since, AddsTold, room_kept}
+use Rattle.heap_record.proofs.HeapEntries.{AreOfHeap, inner_of_heap}
 
 -- the call was the machine's, and it tells one entry at most; the collector's room is as it was
 pub record InnerFacts (old : Recorded) (one two : MachineValue) (number : ℕ) (inner : Inner) : Type 0 where
@@ -46,12 +47,17 @@ inner_facts old one two number inner same others plays spent =
       own_room = ap (spare_of two) after.seats ∙ spent.others (length state.seats) (λ e. omega (arith, e, within)) ∙ others (length state.seats) (λ e. omega (arith, e, within));
     }
 
+-- it tells none of the collector's answers
+pub facts_of_heap : (old : Recorded) (one two : MachineValue) (number : ℕ) (inner : Inner) → InnerFacts old one two number inner → AreOfHeap (since one two number)
+facts_of_heap old one two number inner facts = subst AreOfHeap (sym facts.told) (inner_of_heap old.machine.heap old.machine.state two.state number inner facts.plays)
+
 -- so it is what contracts say of it
 pub makes_inner : (old new : Recorded) (one : MachineValue) (number : ℕ) (inner : Inner) → InnerFacts old one new.machine number inner → AddsTold old new (since one new.machine number) → MakesInner old new number inner
 makes_inner old new one number inner facts is = record {
   same_heap = is.same_heap;
   plays = facts.plays;
   noted = is.noted ∙ ap (λ (l : List Entry). old.history ++ l) facts.told;
+  listed = is.listed ∙ ap (λ (l : List Entry). old.listed ++ l) facts.told;
   turns_stay = is.turns_stay;
   last_stays = is.last_stays;
   spare = room_kept old new (since one new.machine number) is;

@@ -1,4 +1,5 @@
 pub mod LastCycle
+pub mod HeapEntries
 pub mod Leading
 pub mod Calls
 pub mod Inners

@@ -47,6 +47,7 @@ makes_turn runs each old new turn told led is told_is can after answered counted
       can = can;
       after = after;
       noted = noted;
+      listed = is.listed ∙ ap (λ (l : List Entry). old.listed ++ l) told_is;
       answered = answered;
       own = comes.0;
       turned = record {

@@ -23,11 +23,12 @@ use Rattle.core_machine.specs.machine.Opening.{IsOpening}
 use Rattle.core_machine.specs.machine.Value.{MachineValue, spare_of}
 use Rattle.core_rule.specs.Laws.{AllIdle}
 
--- the machine, the entries of all its parties in their order, for how many more of the collector's there is room, its turns as far as they are counted, and
--- what the last of them answered
+-- the machine, the entries of all its parties in their order, the same with the answers to the collector's commands that were noted between them, for how many more
+-- of the collector's there is room, its turns as far as they are counted, and what the last of them answered
 pub record Recorded : Type 0 where
   pub machine : MachineValue
   pub history : List Entry
+  pub listed : List Entry
   pub spare : ℕ
   pub turns : ℕ
   pub last_turn : Option Turn
@@ -48,7 +49,7 @@ pub record EventsLeadTo (Are : Heap → State → List Event → Type 0) (heap :
 abbrev pub AnyEvents : Heap → State → List Event → Type 0
 AnyEvents heap opening events = Unit {0}
 
--- there is room in the collector's own list, and in the history
+-- there is room in the collector's own list, and in that of all
 pub record HasRoom (machine : MachineValue) (listed spare : ℕ) : Type 0 where
   pub own_room : spare ≤ spare_of machine (length machine.state.seats)
   pub listed_room : spare ≤ listed
@@ -72,6 +73,7 @@ pub record StandsStill (old new : Recorded) : Type 0 where
   pub heap_stays : new.machine.heap ≡ old.machine.heap
   pub state_stays : new.machine.state ≡ old.machine.state
   pub history_stays : new.history ≡ old.history
+  pub listed_stays : new.listed ≡ old.listed
   pub turns_stay : new.turns ≡ old.turns
   pub last_stays : new.last_turn ≡ old.last_turn
 
@@ -80,6 +82,7 @@ pub record MakesCall (old new : Recorded) (number : ℕ) (command : Command) (re
   pub same_heap : new.machine.heap ≡ old.machine.heap
   pub call : PlaysCall old.machine.heap old.machine.state new.machine.state number command reply
   pub noted : new.history ≡ old.history ++ (call.before ++ Said number command reply ∷ [])
+  pub listed : new.listed ≡ old.listed ++ (call.before ++ Said number command reply ∷ [])
   pub counts : CountsCall (seat_at old.machine.state number) (seat_at new.machine.state number) command
   pub answer : IsRecordCall command → AnswersNew old.machine.heap old.machine.state new.machine.state number command reply
   pub array : IsArrayCall command → AnswersArray old.machine.heap old.machine.state new.machine.state number command reply
@@ -94,6 +97,7 @@ pub record MakesInner (old new : Recorded) (number : ℕ) (inner : Inner) : Type
   pub same_heap : new.machine.heap ≡ old.machine.heap
   pub plays : PlaysInner old.machine.heap old.machine.state new.machine.state number inner
   pub noted : new.history ≡ old.history ++ inner_entries old.machine.heap old.machine.state.words number (seat_at old.machine.state number).answered inner
+  pub listed : new.listed ≡ old.listed ++ inner_entries old.machine.heap old.machine.state.words number (seat_at old.machine.state number).answered inner
   pub turns_stay : new.turns ≡ old.turns
   pub last_stays : new.last_turn ≡ old.last_turn
   pub spare : old.spare + length old.history ≤ new.spare + length new.history
@@ -104,6 +108,7 @@ pub record MakesTurn (old new : Recorded) (turn : Turn) : Type 0 where
   pub can : Can old.machine.heap old.machine.state Turns
   pub after : new.machine.state ≡ state_after old.machine.heap old.machine.state Turns
   pub noted : new.history ≡ old.history ++ entries old.machine.heap old.machine.state Turns
+  pub listed : new.listed ≡ old.listed ++ entries old.machine.heap old.machine.state Turns
   pub answered : turn ≡ (next_turn old.machine.heap old.machine.state.collector).answer (found_by old.machine.heap old.machine.state (next_turn old.machine.heap old.machine.state.collector).step)
   pub own : AllByRecursion (λ entry. is_collectors entry ≡ true) (entries old.machine.heap old.machine.state Turns)
   pub turned : collectors.Turns (collector_of old) (collector_of new) turn

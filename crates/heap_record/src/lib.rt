@@ -8,5 +8,5 @@ mod slack_work;
 
 pub use last_cycle::{end_whole_cycle, next_whole_cycle};
 pub use note::claimed;
-pub use recorder::{Called, Recorder};
+pub use recorder::Recorder;
 pub use slack_work::{SlackWork, work_slack};

@@ -1,9 +1,10 @@
-ghost use Rattle.std.specs.Prelude.{◌≡◌, ◌<◌, ◌↔◌, IsTrue, [], None, length, drop, IfOk, OnOk, OnErr};
+ghost use Rattle.std.specs.Prelude.{◌≡◌, ◌<◌, ◌↔◌, ◌∷◌, ◌++◌, IsTrue, [], None, false, length, IfOk, OnOk, OnErr};
+ghost use Rattle.heap_model.specs.account.Turned.{is_of_heap};
 ghost use Rattle.core_machine.specs.machine.Machine.{Begins, BeginsInner, Can, seat_at};
 ghost use Rattle.core_machine.specs.machine.Opening.{IsOpening};
-ghost use Rattle.heap_record.specs.Recorded.{claimed_by, StandsStill, MakesCall, MakesInner};
+ghost use Rattle.heap_record.specs.Recorded.{StandsStill, MakesCall, MakesInner};
 
-use crate::note::{claimed, note_since};
+use crate::note::note_since;
 use core_machine::{Looks, Machine};
 use core_rule::law_every_run;
 use heap_model::{Command, Entry, Heap, Inner, Memory, Reply, Turn, seat_laws};
@@ -12,18 +13,12 @@ use std::marker::Model;
 
 mod turning;
 
-/// What a call came to: its reply, and how many fragments it has claimed.
-#[derive(Clone, Copy)]
-pub struct Called {
-    pub reply: Reply,
-    pub claimed: u64,
-}
-
 /// A machine with the history of all that was done to it since its opening. No seat has a call in flight.
 #[derive(Drop)]
 pub struct Recorder {
     machine: Machine,
-    history: Vec<Entry>,
+    /// The history, with what was noted between its entries.
+    entries: Vec<Entry>,
     spare: usize,
     turns: u64,
     last_turn: Option<Turn>,
@@ -31,33 +26,35 @@ pub struct Recorder {
 
 impl Model for Recorder {
     ghost use Rattle.std.specs.Prelude.{◌-◌, vec_len, vec_capacity};
+    ghost use Rattle.heap_model.specs.account.Turned.{without_turned};
     ghost use Rattle.heap_record.specs.Recorded.{Recorded, EventsLeadTo, AnyEvents, HasRoom};
 
     ghost Value = { Recorded };
 
     ghost view = { λ r. record {
       machine = r.machine;
-      history = r.history.items;
+      history = without_turned r.entries.items;
+      listed = r.entries.items;
       spare = r.spare;
       turns = r.turns;
       last_turn = r.last_turn;
     } };
 
-    ghost invariant = { λ r. EventsLeadTo AnyEvents r.machine.heap r.machine.state r.history.items
-        × HasRoom r.machine (vec_capacity r.history - vec_len r.history) r.spare };
+    ghost invariant = { λ r. EventsLeadTo AnyEvents r.machine.heap r.machine.state (without_turned r.entries.items)
+        × HasRoom r.machine (vec_capacity r.entries - vec_len r.entries) r.spare };
 }
 
 impl Recorder {
     /// Nothing was done yet.
     pub fn new(alloc: Global, machine: Machine) -> Recorder
         requires { IsOpening machine.heap machine.state }
-        ensures { result ≡ record { machine = machine; history = []; spare = 0; turns = 0; last_turn = None } }
+        ensures { result ≡ record { machine = machine; history = []; listed = []; spare = 0; turns = 0; last_turn = None } }
     {
         // What is true of every machine is known from here on.
         let _ = machine.heap();
         Recorder {
             machine,
-            history: Vec::new(alloc),
+            entries: Vec::new(alloc),
             spare: 0,
             turns: 0,
             last_turn: None,
@@ -72,30 +69,26 @@ impl Recorder {
     }
 
     /// Makes a whole call of the seat.
-    pub fn call(&mut self, seat: u8, command: &Command) -> Result<Called, Memory>
+    pub fn call(&mut self, seat: u8, command: &Command) -> Result<Reply, Memory>
         requires can { Can self.old.machine.heap self.old.machine.state (Begins seat command.now) }
-        ensures makes { IfOk result (λ called. MakesCall self.old self.new seat command.now called.reply) }
-        ensures claims { IfOk result (λ called. called.claimed ≡ claimed_by (drop (length self.old.history) self.new.history)) }
+        ensures makes { IfOk result (MakesCall self.old self.new seat command.now) }
         ensures still { OnErr result (StandsStill self.old self.new) }
     {
         law_every_run();
         seat_laws();
         let room = 2 * command.need() as usize + 4;
         self.machine.room(seat, room)?;
-        self.history.reserve(room)?;
+        self.entries.reserve(room)?;
         let before = self.machine.log(seat).len();
-        let first = self.history.len();
         let reply = self.machine.play_call(seat, command);
         note_since(
-            &mut self.history,
+            &mut self.entries,
             &mut self.spare,
             &self.machine,
             seat,
             before,
         );
-        let (_, told) = self.history.split_at(first);
-        let claimed = claimed(told);
-        Ok(Called { reply, claimed })
+        Ok(reply)
     }
 
     /// Whether the seat may make the inner call now.
@@ -113,11 +106,11 @@ impl Recorder {
     {
         law_every_run();
         self.machine.room(seat, 4)?;
-        self.history.reserve(4)?;
+        self.entries.reserve(4)?;
         let before = self.machine.log(seat).len();
         self.machine.play_inner(seat, inner);
         note_since(
-            &mut self.history,
+            &mut self.entries,
             &mut self.spare,
             &self.machine,
             seat,
@@ -134,17 +127,30 @@ impl Recorder {
         self.machine.looks(seat)
     }
 
-    /// The history so far.
-    pub fn entries(&self) -> &[Entry]
-        ensures { result.now ≡ self.now.history }
+    /// Notes an answer to a command of the collector, which is no entry of the machine's.
+    pub fn note(&mut self, entry: Entry) -> Result<(), Memory>
+        requires { is_of_heap entry ≡ false }
+        ensures noted { OnOk result (self.new ≡ record self.old { listed = self.old.listed ++ entry ∷ [] }) }
+        ensures still { OnErr result (self.new ≡ self.old) }
     {
-        &self.history
+        self.entries.reserve(self.spare + 1)?;
+        let Ok(()) = self.entries.push(entry) else {
+            unreachable!()
+        };
+        Ok(())
     }
 
-    /// The history alone.
-    pub fn into_history(self) -> Vec<Entry>
-        ensures { result.items ≡ self.history }
+    /// The history so far, with what was noted between its entries.
+    pub fn entries(&self) -> &[Entry]
+        ensures { result.now ≡ self.now.listed }
     {
-        self.history
+        &self.entries
+    }
+
+    /// The history alone, with what was noted between its entries.
+    pub fn into_entries(self) -> Vec<Entry>
+        ensures { result.items ≡ self.listed }
+    {
+        self.entries
     }
 }

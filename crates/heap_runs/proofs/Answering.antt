@@ -1,5 +1,5 @@
 -- A play with one line of its script more.
-use Rattle.std.proofs.Common.{Option, ◌≡◌, ◌≢◌, ℕ, ◌+◌, ◌<◌, ◌≤◌, ◌⊎◌, List, [], ◌∷◌, ◌++◌, length, inl, inr, refl, sym, ap, subst, ◌∙◌, arith}
+use Rattle.std.proofs.Common.{Option, ◌≡◌, ◌≢◌, ℕ, ◌+◌, ◌<◌, ◌≤◌, ◌⊎◌, List, [], ◌∷◌, ◌++◌, length, inl, inr, refl, sym, ap, subst, ◌∙◌, append_assoc, arith}
 use Rattle.std.proofs.lemmas.Bool.Decides.{eqb_tells}
 use Rattle.std.proofs.lemmas.List.Sums.{fold-append}
 use Rattle.std.proofs.lemmas.List.{get_or-replicate}
@@ -9,7 +9,6 @@ use Rattle.heap_model.specs.declared.command.Command.TheVariants.{Collect, Leave
 use Rattle.heap_model.specs.declared.command.TurnCommand.{TurnCommand}
 use Rattle.heap_model.specs.declared.entry.Entry.{Entry}
 use Rattle.heap_model.specs.declared.entry.Entry.TheVariants as entries
-use Rattle.heap_model.specs.account.Turned.{TurnedHoldNobody}
 use Rattle.heap_model.specs.calls.SeatLaws.{EachCallCounts, EachCallSparesOthers}
 use Rattle.heap_model.specs.graph.Objects.{graph_seat, absent_graph_seat}
 use Rattle.heap_model.specs.graph.Graph.{Graph, GraphSeat, opening, opening_graph_seat}
@@ -17,11 +16,10 @@ use Rattle.heap_model.specs.graph.Growth.{after_entry, graph_after}
 use Rattle.heap_runs.specs.Play.{AreTurns}
 use Rattle.heap_runs.specs.PlayHeap.{PlayState, seat_state_of}
 use Rattle.heap_runs.specs.Playing.{NotesCall, NotesSeatLine, NotesTurns, IsThere, DoesFew, IsPlaying}
-use Rattle.heap_runs.specs.Turning.{AddsTurns}
 use Rattle.heap_record.specs.Recorded.{claimed_by}
 use Rattle.heap_runs.proofs.Slacking.{pace_adds}
-use Rattle.heap_runs.proofs.Told.{collect_stays}
-use Rattle.heap_runs.proofs.Following.{follows_call, follows_turns, follows_adds, turns_noted}
+use Rattle.heap_runs.proofs.Serving.{serves_adds}
+use Rattle.heap_runs.proofs.Told.{collect_stays, tells_call}
 
 -- a command is a collect, or it isn't
 is_collect : (command : Command) → (command ≡ Collect) ⊎ (command ≢ Collect)
@@ -29,7 +27,7 @@ is_collect Collect = inl refl
 is_collect command = inr (λ e. cc e)
 
 -- after a call
-module _ (counts : EachCallCounts) (others : EachCallSparesOthers) (heap : Heap) (old new : PlayState) (before after : List Entry) (seat : ℕ) (command : Command) (notes : NotesCall old new before after seat command) where
+module _ (counts : EachCallCounts) (others : EachCallSparesOthers) (heap : Heap) (old new : PlayState) (seat : ℕ) (command : Command) (notes : NotesCall old new seat command) where
   -- a collect leaves every seat as it is
   stays_by_collect : (number : ℕ) → command ≡ Collect → graph_seat (graph_after (opening new.heap) new.entries) number ≡ graph_seat (graph_after (opening old.heap) old.entries) number
   stays_by_collect number is = ap (λ (g : Graph). graph_seat g number) (collect_stays old new seat notes.reply (notes.answers.collects is))
@@ -70,9 +68,9 @@ module _ (counts : EachCallCounts) (others : EachCallSparesOthers) (heap : Heap)
   ]
 
   -- the play goes on with it
-  pub plays_call : (calls : ℕ) → command ≢ Leave → IsPlaying heap old before calls → IsPlaying heap new after (calls + 1)
+  pub plays_call : (calls : ℕ) → command ≢ Leave → IsPlaying heap old calls → IsPlaying heap new (calls + 1)
   plays_call calls stays plays = record {
-    follows = follows_call heap old new before after seat command notes plays.follows;
+    of_heap = (tells_call old new seat command notes.reply notes.answers).heap ∙ plays.of_heap;
     present = λ number below. still_there number (λ same. stays) (plays.present number below);
     few = λ number below. few_still number calls (plays.few number below);
   }
@@ -83,60 +81,53 @@ graph_stays g [] turned = refl
 graph_stays g (entries.Said number command reply ∷ added) turned = cc turned.0
 graph_stays g (_ ∷ added) turned = graph_stays g added turned.1
 
--- so each seat is as it was
-module _ (old new : PlayState) (adds : AddsTurns old new) where
+-- so each seat is as it was where entries were added that change none
+module _ (old new : PlayState) (added : List Entry) (same_heap : new.heap ≡ old.heap) (told : new.entries ≡ old.entries ++ added) (quiet : (g : Graph) → graph_after g added ≡ g) where
   seat_stays : (number : ℕ) → graph_seat (graph_after (opening new.heap) new.entries) number ≡ graph_seat (graph_after (opening old.heap) old.entries) number
   seat_stays number =
-      ap (λ h. graph_seat (graph_after (opening h) new.entries) number) adds.same_heap ∙ ap (λ es. graph_seat (graph_after (opening old.heap) es) number) adds.told
-      ∙ ap (λ g. graph_seat g number) (fold-append after_entry (opening old.heap) old.entries adds.added ∙ graph_stays (graph_after (opening old.heap) old.entries) adds.added adds.turned)
+      ap (λ h. graph_seat (graph_after (opening h) new.entries) number) same_heap ∙ ap (λ es. graph_seat (graph_after (opening old.heap) es) number) told
+      ∙ ap (λ g. graph_seat g number) (fold-append after_entry (opening old.heap) old.entries added ∙ quiet (graph_after (opening old.heap) old.entries))
 
-  there_by_turns : (number : ℕ) → IsThere old number → IsThere new number
-  there_by_turns number there = ap (λ (seat : GraphSeat). seat.left) (seat_stays number) ∙ there
-
-  few_by_turns : (number calls more : ℕ) → calls ≤ more → DoesFew old number calls → DoesFew new number more
-  few_by_turns number calls more less few =
-      let same = seat_stays number in
-      record {
-        few_objects = omega (arith, ap (λ (seat : GraphSeat). length seat.objects) same, few.few_objects, less);
-        few_sets = omega (arith, ap (λ (seat : GraphSeat). seat.sets) same, few.few_sets, less);
-      }
+  plays_more : (heap : Heap) (calls more : ℕ) → calls ≤ more → IsPlaying heap old calls → IsPlaying heap new more
+  plays_more heap calls more less plays = record {
+    of_heap = same_heap ∙ plays.of_heap;
+    present = λ number below. ap (λ (seat : GraphSeat). seat.left) (seat_stays number) ∙ plays.present number below;
+    few = λ number below.
+        let same = seat_stays number in
+        let few = plays.few number below in
+        record {
+          few_objects = omega (arith, ap (λ (seat : GraphSeat). length seat.objects) same, few.few_objects, less);
+          few_sets = omega (arith, ap (λ (seat : GraphSeat). seat.sets) same, few.few_sets, less);
+        };
+  }
 
 -- after the turns of a command
-pub plays_turns : TurnedHoldNobody → (heap : Heap) (old new : PlayState) (before after : List Entry) (command : TurnCommand) → NotesTurns old new before after command
-    → (calls : ℕ) → IsPlaying heap old before calls → IsPlaying heap new after (calls + 1)
-plays_turns holds heap old new before after command notes calls plays =
-    let adds = turns_noted old new before after command notes in
-    record {
-      follows = follows_turns holds heap old new before after command notes plays.follows;
-      present = λ number below. there_by_turns old new adds number (plays.present number below);
-      few = λ number below. few_by_turns old new adds number calls (calls + 1) (omega arith) (plays.few number below);
-    }
-
--- after turns behind a reply
-plays_adds : (heap : Heap) (old new : PlayState) (before after : List Entry) (calls : ℕ) (adds : AddsTurns old new) → after ≡ before ++ adds.added → IsPlaying heap old before calls → IsPlaying heap new after calls
-plays_adds heap old new before after calls adds noted plays = record {
-  follows = follows_adds heap old new before after adds noted plays.follows;
-  present = λ number below. there_by_turns old new adds number (plays.present number below);
-  few = λ number below. few_by_turns old new adds number calls calls (omega arith) (plays.few number below);
-}
+pub plays_turns : (heap : Heap) (old new : PlayState) (command : TurnCommand) → NotesTurns old new command → (calls : ℕ) → IsPlaying heap old calls → IsPlaying heap new (calls + 1)
+plays_turns heap old new command notes calls plays =
+    let adds = serves_adds old notes.now command notes.reply notes.serves in
+    let turned : List Entry = entries.Turned command notes.reply ∷ [] in
+    plays_more old new (adds.added ++ turned) (ap (λ (s : PlayState). s.heap) notes.noted ∙ adds.same_heap)
+    (ap (λ (s : PlayState). s.entries) notes.noted ∙ ap (λ es. es ++ turned) adds.told ∙ append_assoc old.entries adds.added turned)
+    (λ g. fold-append after_entry g adds.added turned ∙ graph_stays g adds.added adds.turned) heap calls (calls + 1) (omega arith) plays
 
 -- after a seat's line
-pub plays_line : EachCallCounts → EachCallSparesOthers → (asks : Option (ℕ → ℕ)) (heap : Heap) (old new : PlayState) (before after : List Entry) (seat : ℕ) (command : Command)
-    → NotesSeatLine asks old new before after seat command → (calls : ℕ) → command ≢ Leave → IsPlaying heap old before calls → IsPlaying heap new after (calls + 1)
-plays_line counts others asks heap old new before after seat command notes calls stays plays =
-    let slack = pace_adds asks (claimed_by notes.call.added) notes.now new notes.between after notes.slack in
-    plays_adds heap notes.now new notes.between after (calls + 1) slack.adds slack.noted (plays_call counts others heap old notes.now before notes.between seat command notes.call calls stays plays)
+pub plays_line : EachCallCounts → EachCallSparesOthers → (asks : Option (ℕ → ℕ)) (heap : Heap) (old new : PlayState) (seat : ℕ) (command : Command) → NotesSeatLine asks old new seat command → (calls : ℕ) → command ≢ Leave
+    → IsPlaying heap old calls → IsPlaying heap new (calls + 1)
+plays_line counts others asks heap old new seat command notes calls stays plays =
+    let slack = pace_adds asks (claimed_by notes.call.added) notes.now new notes.slack in
+    plays_more notes.now new slack.adds.added slack.adds.same_heap slack.adds.told (λ g. graph_stays g slack.adds.added slack.adds.turned) heap (calls + 1) (calls + 1) (omega arith)
+    (plays_call counts others heap old notes.now seat command notes.call calls stays plays)
 
 -- no line is answered yet
-pub plays_none : (heap : Heap) (state : PlayState) (history : List Entry) → state.heap ≡ heap → state.entries ≡ [] → history ≡ [] → IsPlaying heap state history 0
-plays_none heap state history of_heap fresh none =
+pub plays_none : (heap : Heap) (state : PlayState) → state.heap ≡ heap → state.entries ≡ [] → IsPlaying heap state 0
+plays_none heap state of_heap fresh =
     let graphs : graph_after (opening state.heap) state.entries ≡ opening heap = ap (λ h. graph_after (opening h) state.entries) of_heap ∙ ap (graph_after (opening heap)) fresh in
     let open_ = λ (number : ℕ) (below : number < heap.seats). ap (λ (g : Graph). graph_seat g number) graphs ∙ get_or-replicate heap.seats number opening_graph_seat absent_graph_seat below in
-    rw none (record {
-      follows = record { of_heap = of_heap; same = sym fresh; right = tt };
+    record {
+      of_heap = of_heap;
       present = λ number below. ap (λ (seat : GraphSeat). seat.left) (open_ number below);
       few = λ number below. record {
         few_objects = omega (arith, ap (λ (seat : GraphSeat). length seat.objects) (open_ number below));
         few_sets = omega (arith, ap (λ (seat : GraphSeat). seat.sets) (open_ number below));
       };
-    })
+    }

@@ -15,7 +15,7 @@ use Rattle.core_machine.specs.machine.Machine.{State, seat_at}
 use Rattle.core_machine.specs.seat.Making.{next_object_id}
 use Rattle.core_machine.specs.table.Layout.{at}
 use Rattle.heap_record.specs.Recorded.{Recorded}
-use Rattle.heap_runs.specs.MachineHeap.{play_state_of}
+use Rattle.heap_runs.specs.MachineHeap.{run_state_of}
 use Rattle.heap_runs.specs.PlayHeap.{PlayState, IsEnough, LacksWords, RefusesWords, RefusesFragments, AnswersArrayOnce, seat_state_of}
 
 -- the three ways in which it ends
@@ -47,9 +47,9 @@ module _ (old : Recorded) (new : State) (number : ℕ) (command : Command) (repl
     (used : (at old.machine.heap old.machine.state.words Budget + words_returned old.history ≡ words_granted old.history) × (at old.machine.heap old.machine.state.words Budget ≤ old.machine.heap.spine))
     (had : spent_of number old.history + length (seat_at old.machine.state number).reserve ≡ taken_of number old.history)
     (free : free_count old.machine.heap old.machine.state.words + fragments_gained old.machine.heap old.history ≡ 16 * old.machine.heap.groups + fragments_lost old.history)
-    (next : next_object_id number (seat_at old.machine.state number) ≡ next_id (seat_state_of (play_state_of old) number)) where
+    (next : next_object_id number (seat_at old.machine.state number) ≡ next_id (seat_state_of (run_state_of old) number)) where
   abbrev here : PlayState
-  here = play_state_of old
+  here = run_state_of old
 
   -- what the refusal of spine words shows is what is in use
   words_refused : IsSpineRefused old.machine.heap old.machine.state new number command reply → RefusesWords here command reply

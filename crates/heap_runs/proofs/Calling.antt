@@ -21,7 +21,7 @@ use Rattle.core_rule.specs.Laws.{StandsFor, FreeIsUnused, WordsAreUsed}
 use Rattle.core_rule.proofs.parties.Standing.{words_used, own_reserve, answered_last, gone_is, made_is, phase_near, number_left}
 use Rattle.heap_record.specs.Recorded.{Recorded, MakesCall}
 use Rattle.heap_runs.specs.Collecting.{IsStillThere}
-use Rattle.heap_runs.specs.MachineHeap.{play_state_of, IsBetweenCalls}
+use Rattle.heap_runs.specs.MachineHeap.{run_state_of, IsBetweenCalls}
 use Rattle.heap_runs.specs.PlayHeap.{MayCall, AnswersOnce, IsEnough, seat_state_of}
 use Rattle.heap_runs.proofs.ArrayCalls.{answers_array}
 
@@ -32,14 +32,14 @@ served_once _ once = tt
 
 -- a seat that may be called is there
 pub still_there : (whole : Recorded) (number : ℕ) (command : Command) → StandsFor whole.machine.heap whole.machine.state [] whole.history
-    → IsBetweenCalls whole.machine.heap whole.machine.state whole.history → MayCall (play_state_of whole) number command → IsStillThere whole number
+    → IsBetweenCalls whole.machine.heap whole.machine.state whole.history → MayCall (run_state_of whole) number command → IsStillThere whole number
 still_there whole number command s between may =
     let within : number < length whole.machine.state.seats = rw s.stands.rule.machine.seated may.within in
     record { within = within; there = sym (gone_is whole.machine.heap whole.machine.state whole.history s number may.within (between.all_idle number within)) ∙ may.present }
 
 -- a command that may be called may be begun
 pub may_begin : (whole : Recorded) (number : ℕ) (command : Command) → command ≢ commands.Collect → StandsFor whole.machine.heap whole.machine.state [] whole.history
-    → IsBetweenCalls whole.machine.heap whole.machine.state whole.history → MayCall (play_state_of whole) number command → Can whole.machine.heap whole.machine.state (Begins number command)
+    → IsBetweenCalls whole.machine.heap whole.machine.state whole.history → MayCall (run_state_of whole) number command → Can whole.machine.heap whole.machine.state (Begins number command)
 may_begin whole number command once s between may =
     let heap = whole.machine.heap in
     let state = whole.machine.state in
@@ -55,7 +55,7 @@ may_begin whole number command once s between may =
       },
     )
   where
-    number_again : (command : Command) → HasNumber (seat_state_of (play_state_of whole) number) command
+    number_again : (command : Command) → HasNumber (seat_state_of (run_state_of whole) number) command
         → HasNumber (record { heap = whole.machine.heap; number = number; mine = whole.history; spare = 0 }) command
     number_again (commands.New d fields) has = has
     number_again (commands.Array d cells) has = has
@@ -64,8 +64,8 @@ may_begin whole number command once s between may =
 
 -- the machine's call is one of a heap that is played on
 pub answers_call : FreeIsUnused → WordsAreUsed → (old new : Recorded) (number : ℕ) (command : Command) (reply : Reply) → StandsFor old.machine.heap old.machine.state [] old.history
-    → IsBetweenCalls old.machine.heap old.machine.state old.history → MayCall (play_state_of old) number command → MakesCall old new number command reply
-    → AnswersOnce (play_state_of old) (play_state_of new) number command reply
+    → IsBetweenCalls old.machine.heap old.machine.state old.history → MayCall (run_state_of old) number command → MakesCall old new number command reply
+    → AnswersOnce (run_state_of old) (run_state_of new) number command reply
 answers_call unused words old new number command reply s between may calls =
     let heap = old.machine.heap in
     let state = old.machine.state in
@@ -77,7 +77,7 @@ answers_call unused words old new number command reply s between may calls =
     let last_is = answered_last heap state old.history s number may.within idle in
     let free : free_count heap state.words + fragments_gained heap old.history ≡ 16 * heap.groups + fragments_lost old.history
     = subst (λ es. free_count heap state.words + fragments_gained heap es ≡ 16 * heap.groups + fragments_lost es) s.grown (unused heap state s.book s.stands.rule) in
-    let next : next_object_id number seat ≡ next_id (seat_state_of (play_state_of old) number) = ap (heap_ids.Made number) (made_is heap state old.history s number may.within idle) in
+    let next : next_object_id number seat ≡ next_id (seat_state_of (run_state_of old) number) = ap (heap_ids.Made number) (made_is heap state old.history s number may.within idle) in
     record {
       adds = record {
         heap = calls.same_heap;
@@ -107,10 +107,10 @@ answers_call unused words old new number command reply s between may calls =
         let said = append_cancel_left mine (call.before ++ Said number command reply ∷ []) (leave_entries number (length (seat_at old.machine.state number).reserve)) (sym call.mine ∙ tells) in
         cc (same_last call.before (last_gives number (length (seat_at old.machine.state number).reserve)) (Said number command reply) (Said number commands.Leave Done) said)
 
-    enough_where_made : AnswersNew old.machine.heap old.machine.state new.machine.state number command reply → reply ≡ Made (next_id (seat_state_of (play_state_of old) number))
+    enough_where_made : AnswersNew old.machine.heap old.machine.state new.machine.state number command reply → reply ≡ Made (next_id (seat_state_of (run_state_of old) number))
         → spent_of number old.history + length (seat_at old.machine.state number).reserve ≡ taken_of number old.history
         → free_count old.machine.heap old.machine.state.words + fragments_gained old.machine.heap old.history ≡ 16 * old.machine.heap.groups + fragments_lost old.history
-        → IsEnough (play_state_of old) number command
+        → IsEnough (run_state_of old) number command
     enough_where_made answer made had free = elim (leb_tells (need_of command) (within_reach old.machine.heap old.machine.state number)) [
       | inl enough ↦ (let e = enough.1 in omega (arith, e, had, free))
       | inr less ↦ (let shows = (answer.refused less.1).shows in absurd (cc (sym made ∙ shows)))

@@ -26,7 +26,7 @@ use Rattle.core_machine.specs.seat.Seat.{Seat}
 use Rattle.core_machine.specs.table.Layout.{at}
 use Rattle.heap_record.specs.Recorded.{MakesInner, Recorded, MakesTurn}
 use Rattle.heap_runs.specs.Collecting.{IsStillThere, CollectGoesOn, EndsFor, StaysInCycle, IsUnderWayAt}
-use Rattle.heap_runs.specs.MachineHeap.{play_state_of, MovesOn, MovesAll, CollectsMachine}
+use Rattle.heap_runs.specs.MachineHeap.{run_state_of, MovesOn, MovesAll, CollectsMachine}
 use Rattle.heap_runs.specs.Play.{TellsInCollect}
 use Rattle.heap_runs.specs.PlayHeap.{TakesTurn, collector_state_of}
 use Rattle.heap_runs.proofs.TurnFacts.{added_is, none_is, wait_shows}
@@ -47,7 +47,7 @@ pub one_move : (heap : Heap) (number : ℕ) (old new : State) (told : List Entry
 one_move heap number old new told on = (old, [], told, (refl, refl), on, refl)
 
 abbrev pub machine_none : (whole : Recorded) (number : ℕ) → CollectsMachine whole whole number
-machine_none whole number = record { same_heap = refl; moves = 0; told = []; makes = (refl, refl); noted = sym (append-nil whole.history) }
+machine_none whole number = record { same_heap = refl; moves = 0; told = []; makes = (refl, refl); noted = sym (append-nil whole.history); listed = sym (append-nil whole.listed) }
 
 abbrev pub machine_then : (old now new : Recorded) (number : ℕ) → CollectsMachine old now number → CollectsMachine now new number → CollectsMachine old new number
 machine_then old now new number first next =
@@ -59,17 +59,18 @@ machine_then old now new number first next =
       told = first.told ++ next.told;
       makes = both.1;
       noted = next.noted ∙ ap (λ (l : List Entry). l ++ next.told) first.noted ∙ append_assoc old.history first.told next.told;
+      listed = next.listed ∙ ap (λ (l : List Entry). l ++ next.told) first.listed ∙ append_assoc old.listed first.told next.told;
     }
 
 abbrev pub machine_inner : (old new : Recorded) (number : ℕ) (inner : Inner) → MakesInner old new number inner → CollectsMachine old new number
 machine_inner old new number inner makes =
     let told : List Entry = inner_entries old.machine.heap old.machine.state.words number (seat_at old.machine.state number).answered inner in
-    record { same_heap = makes.same_heap; moves = 1; told = told; makes = one_move old.machine.heap number old.machine.state new.machine.state told (inl (inner, makes.plays, refl)); noted = makes.noted }
+    record { same_heap = makes.same_heap; moves = 1; told = told; makes = one_move old.machine.heap number old.machine.state new.machine.state told (inl (inner, makes.plays, refl)); noted = makes.noted; listed = makes.listed }
 
 abbrev pub machine_turn : (old new : Recorded) (number : ℕ) (turn : Turn) → MakesTurn old new turn → CollectsMachine old new number
 machine_turn old new number turn turned =
     let told : List Entry = machines.entries old.machine.heap old.machine.state Turns in
-    record { same_heap = turned.same_heap; moves = 1; told = told; makes = one_move old.machine.heap number old.machine.state new.machine.state told (inr (turned.can, turned.after, refl)); noted = turned.noted }
+    record { same_heap = turned.same_heap; moves = 1; told = told; makes = one_move old.machine.heap number old.machine.state new.machine.state told (inr (turned.can, turned.after, refl)); noted = turned.noted; listed = turned.listed }
 
 pub quiet_more : (number : ℕ) (front behind : List Entry) → AllByRecursion (TellsInCollect number) front → AllByRecursion (TellsInCollect number) behind → AllByRecursion (TellsInCollect number) (front ++ behind)
 quiet_more number [] behind quiet more = more
@@ -102,13 +103,13 @@ steps_quiet number now later (entries.Returns count) steps = refl
 steps_quiet number now later (entries.Swings id) steps = refl
 steps_quiet number now later _ steps = absurd steps
 
-module _ (old new : Recorded) (number : ℕ) (turn : Turn) (takes : TakesTurn (play_state_of old) (play_state_of new) turn) where
-  quiet_by : (turn : Turn) → ComesTo (collector_state_of (play_state_of old)) (collector_state_of (play_state_of new)) turn → AllByRecursion (TellsInCollect number) takes.added
-  quiet_by turns.Stepped (inl none) = rw (none_is (play_state_of old) (play_state_of new) turn takes none.0) tt
+module _ (old new : Recorded) (number : ℕ) (turn : Turn) (takes : TakesTurn (run_state_of old) (run_state_of new) turn) where
+  quiet_by : (turn : Turn) → ComesTo (collector_state_of (run_state_of old)) (collector_state_of (run_state_of new)) turn → AllByRecursion (TellsInCollect number) takes.added
+  quiet_by turns.Stepped (inl none) = rw (none_is (run_state_of old) (run_state_of new) turn takes none.0) tt
   quiet_by turns.Stepped (inr steps) =
-      rw (added_is (play_state_of old) (play_state_of new) turn takes (steps.0 ∷ []) steps.2) (steps_quiet number _ _ steps.0 steps.1, tt)
-  quiet_by (turns.Waits other answer p) comes = rw (none_is (play_state_of old) (play_state_of new) turn takes comes.0.0) tt
-  quiet_by (turns.Ended cycle kept) comes = rw (added_is (play_state_of old) (play_state_of new) turn takes (entries.Ends cycle kept ∷ []) comes.0) (tt, tt)
+      rw (added_is (run_state_of old) (run_state_of new) turn takes (steps.0 ∷ []) steps.2) (steps_quiet number _ _ steps.0 steps.1, tt)
+  quiet_by (turns.Waits other answer p) comes = rw (none_is (run_state_of old) (run_state_of new) turn takes comes.0.0) tt
+  quiet_by (turns.Ended cycle kept) comes = rw (added_is (run_state_of old) (run_state_of new) turn takes (entries.Ends cycle kept ∷ []) comes.0) (tt, tt)
 
   -- by a turn
   pub goes_turn : MakesTurn old new turn → IsStillThere old number → CollectGoesOn old new number
@@ -171,15 +172,15 @@ steps_within now later (entries.Returns count) steps cycle under = omega (arith,
 steps_within now later (entries.Swings id) steps cycle under = omega (arith, under, steps.1)
 steps_within now later _ steps cycle under = absurd steps
 
-pub stays_turn : (old now new : Recorded) (turn : Turn) → StaysInCycle old now → TakesTurn (play_state_of now) (play_state_of new) turn → turn ≡ turns.Stepped → StaysInCycle old new
-stays_turn old now new turn stays takes is cycle under = by (subst (ComesTo (collector_state_of (play_state_of now)) (collector_state_of (play_state_of new))) is takes.turned.comes_to)
+pub stays_turn : (old now new : Recorded) (turn : Turn) → StaysInCycle old now → TakesTurn (run_state_of now) (run_state_of new) turn → turn ≡ turns.Stepped → StaysInCycle old new
+stays_turn old now new turn stays takes is cycle under = by (subst (ComesTo (collector_state_of (run_state_of now)) (collector_state_of (run_state_of new))) is takes.turned.comes_to)
   where
-    by : ComesTo (collector_state_of (play_state_of now)) (collector_state_of (play_state_of new)) turns.Stepped → phase new.history < cycle_phases * cycle
+    by : ComesTo (collector_state_of (run_state_of now)) (collector_state_of (run_state_of new)) turns.Stepped → phase new.history < cycle_phases * cycle
     by (inl none) = omega (arith, none.1, stays cycle under)
     by (inr steps) = steps_within (phase now.history) (phase new.history) steps.0 steps.1 cycle (stays cycle under)
 
 -- nor does a turn that waits, and an answer
-pub stays_wait : (old now new : Recorded) (other answer p : ℕ) → StaysInCycle old now → TakesTurn (play_state_of now) (play_state_of new) (turns.Waits other answer p) → StaysInCycle old new
+pub stays_wait : (old now new : Recorded) (other answer p : ℕ) → StaysInCycle old now → TakesTurn (run_state_of now) (run_state_of new) (turns.Waits other answer p) → StaysInCycle old new
 stays_wait old now new other answer p stays takes cycle under = omega (arith, takes.turned.comes_to.0.1, stays cycle under)
 
 pub stays_answer : (old now new : Recorded) (number : ℕ) → StaysInCycle old now → MakesInner now new number inners.Answer → StaysInCycle old new
@@ -196,11 +197,11 @@ stays_answer old now new number stays makes cycle under =
     ]
 
 -- a last turn that waits for another seat
-pub ends_waiting : (old now new : Recorded) (number other answer p : ℕ) → CollectGoesOn old now number → TakesTurn (play_state_of now) (play_state_of new) (turns.Waits other answer p)
+pub ends_waiting : (old now new : Recorded) (number other answer p : ℕ) → CollectGoesOn old now number → TakesTurn (run_state_of now) (run_state_of new) (turns.Waits other answer p)
     → MakesTurn now new (turns.Waits other answer p) → other ≢ number → EndsFor old new number (replies.Waits other answer p)
 unfolding goes_then goes_turn
 ends_waiting old now new number other answer p goes takes turned apart =
-    let shows = wait_shows (play_state_of now) (play_state_of new) other answer p takes in
+    let shows = wait_shows (run_state_of now) (run_state_of new) other answer p takes in
     let some : 0 < goes.turns + 1 = omega arith in
     record {
       ends = record {
@@ -213,7 +214,7 @@ ends_waiting old now new number other answer p goes takes turned apart =
     }
 
 -- a last turn that ends a cycle
-pub ends_cycle : (old now new : Recorded) (number cycle kept : ℕ) → CollectGoesOn old now number → StaysInCycle old now → TakesTurn (play_state_of now) (play_state_of new) (turns.Ended cycle kept)
+pub ends_cycle : (old now new : Recorded) (number cycle kept : ℕ) → CollectGoesOn old now number → StaysInCycle old now → TakesTurn (run_state_of now) (run_state_of new) (turns.Ended cycle kept)
     → MakesTurn now new (turns.Ended cycle kept) → EndsFor old new number (replies.Cycle cycle)
 unfolding goes_then goes_turn
 ends_cycle old now new number cycle kept goes stays takes turned =
@@ -233,7 +234,7 @@ ends_cycle old now new number cycle kept goes stays takes turned =
     told_is =
         append_cancel_left now.history (machines.entries now.machine.heap now.machine.state Turns) (entries.Ends cycle kept ∷ [])
         (sym turned.noted ∙ takes.entries ∙ ap (λ (es : List Entry). now.history ++ es)
-        (added_is (play_state_of now) (play_state_of new) (turns.Ended cycle kept) takes (entries.Ends cycle kept ∷ []) takes.turned.comes_to.0))
+        (added_is (run_state_of now) (run_state_of new) (turns.Ended cycle kept) takes (entries.Ends cycle kept ∷ []) takes.turned.comes_to.0))
 
     under_way : (other : ℕ) → replies.Cycle cycle ≡ replies.Cycle other → phase now.history ≡ cycle_phases * cycle + clearing → IsUnderWayAt (phase old.history) other
     under_way other is at_end =

@@ -5,8 +5,11 @@ use Rattle.std.proofs.lemmas.List.Sums.{sum_by-cons}
 use Rattle.heap_model.specs.declared.heap.Heap.{Heap}
 use Rattle.heap_model.specs.declared.command.Command.{Command}
 use Rattle.heap_model.specs.declared.command.Command.TheVariants as commands
+use Rattle.heap_model.specs.declared.command.TurnCommand.{TurnCommand}
+use Rattle.heap_model.specs.declared.reply.TurnReply.{TurnReply}
+use Rattle.heap_model.specs.account.Phases.{TurnShows}
 use Rattle.heap_model.specs.declared.entry.Entry.{Entry}
-use Rattle.heap_model.specs.declared.entry.Entry.TheVariants.{Said}
+use Rattle.heap_model.specs.declared.entry.Entry.TheVariants.{Said, Turned}
 use Rattle.heap_model.specs.declared.reply.Reply.TheVariants.{Done}
 use Rattle.heap_model.specs.account.Account.{KeepsSpace}
 use Rattle.heap_model.specs.account.Effects.{effect_of, is_of}
@@ -23,10 +26,12 @@ use Rattle.heap_runs.specs.Growing.{is_plain, IsPlainEntry, IsGrowing}
 use Rattle.heap_runs.specs.PlayHeap.{PlayState, IsPlayed, AnswersOnce}
 
 -- plain entries come to nothing
-none_summed : (f : Entry → ℕ) → ((number : ℕ) (command : Command) → is_plain command ≡ true → f (Said number command Done) ≡ 0) → (told : List Entry) → AllByRecursion IsPlainEntry told → sum_by f told ≡ 0
-none_summed f none [] plain = refl
-none_summed f none (Said number command Done ∷ told) plain = omega (arith, sum_by-cons f (Said number command Done) told, none number command plain.0, none_summed f none told plain.1)
-none_summed f none (_ ∷ told) plain = absurd plain.0
+none_summed : (f : Entry → ℕ) → ((number : ℕ) (command : Command) → is_plain command ≡ true → f (Said number command Done) ≡ 0) → ((command : TurnCommand) (reply : TurnReply) → f (Turned command reply) ≡ 0)
+    → (told : List Entry) → AllByRecursion IsPlainEntry told → sum_by f told ≡ 0
+none_summed f none no_turned [] plain = refl
+none_summed f none no_turned (Said number command Done ∷ told) plain = omega (arith, sum_by-cons f (Said number command Done) told, none number command plain.0, none_summed f none no_turned told plain.1)
+none_summed f none no_turned (Turned command reply ∷ told) plain = omega (arith, sum_by-cons f (Turned command reply) told, no_turned command reply, none_summed f none no_turned told plain.1)
+none_summed f none no_turned (_ ∷ told) plain = absurd plain.0
 
 none_made : (command : Command) → is_plain command ≡ true → made_by command Done ≡ 0
 none_made (commands.Num d n) plain = refl
@@ -41,22 +46,22 @@ either false n none = refl
 
 module _ (told : List Entry) (plain : AllByRecursion IsPlainEntry told) where
   none_lost : fragments_lost told ≡ 0
-  none_lost = omega (arith, none_summed (λ e. (effect_of e).given) (λ n c p. refl) told plain, none_summed (λ e. (effect_of e).freed) (λ n c p. refl) told plain)
+  none_lost = omega (arith, none_summed (λ e. (effect_of e).given) (λ n c p. refl) (λ c r. refl) told plain, none_summed (λ e. (effect_of e).freed) (λ n c p. refl) (λ c r. refl) told plain)
 
   none_granted : words_granted told ≡ 0
-  none_granted = none_summed (λ e. (effect_of e).words) (λ n c p. refl) told plain
+  none_granted = none_summed (λ e. (effect_of e).words) (λ n c p. refl) (λ c r. refl) told plain
 
   pub none_begun : phase told ≡ 0
-  none_begun = none_summed (λ e. (effect_of e).phases) (λ n c p. refl) told plain
+  none_begun = none_summed (λ e. (effect_of e).phases) (λ n c p. refl) (λ c r. refl) told plain
 
   none_taken : (number : ℕ) → taken_of number told ≡ 0
-  none_taken number = none_summed (λ e. cond (is_of number e) (effect_of e).taken 0) (λ n c p. either (is_of number (Said n c Done)) 0 refl) told plain
+  none_taken number = none_summed (λ e. cond (is_of number e) (effect_of e).taken 0) (λ n c p. either (is_of number (Said n c Done)) 0 refl) (λ c r. refl) told plain
 
   none_spent : (number : ℕ) → spent_of number told ≡ 0
   none_spent number = omega (
     arith,
-    none_summed (λ e. cond (is_of number e) (effect_of e).given 0) (λ n c p. either (is_of number (Said n c Done)) 0 refl) told plain,
-    none_summed (λ e. cond (is_of number e) (effect_of e).born 0) (λ n c p. either (is_of number (Said n c Done)) (made_by c Done) (none_made c p)) told plain,
+    none_summed (λ e. cond (is_of number e) (effect_of e).given 0) (λ n c p. either (is_of number (Said n c Done)) 0 refl) (λ c r. refl) told plain,
+    none_summed (λ e. cond (is_of number e) (effect_of e).born 0) (λ n c p. either (is_of number (Said n c Done)) (made_by c Done) (none_made c p)) (λ c r. refl) told plain,
   )
 
 pub growing_played : (heap : Heap) (told : List Entry) (graph : Graph) → IsGrowing heap told graph → IsPlayed heap told
@@ -88,6 +93,20 @@ growing_more heap told graph now number command growing plain accepts grown =
       legal = record {
         objects = AcceptsAll-more (opening heap) told entry growing.legal.objects (subst (λ g. Accepts g entry) growing.grown accepts);
         space = KeepsSpaceAfter-more heap [] told entry growing.legal.space (keeps_plain heap told number command growing.plain plain);
+      };
+    }
+
+-- it goes on with an answer to a command of the collector that shows what is so
+pub growing_turned : (heap : Heap) (told : List Entry) (graph : Graph) (command : TurnCommand) (reply : TurnReply) → IsGrowing heap told graph → TurnShows heap told reply → IsGrowing heap (told ++ Turned command reply ∷ []) graph
+growing_turned heap told graph command reply growing shows =
+    let entry = Turned command reply in
+    record {
+      grown = growing.grown ∙ sym (graph_after-more (opening heap) told entry);
+      plain = plain_more told entry growing.plain tt;
+      legal = record {
+        objects = AcceptsAll-more (opening heap) told entry growing.legal.objects tt;
+        space = KeepsSpaceAfter-more heap [] told entry growing.legal.space
+            (record { takes = tt; makes = tt; refuses = tt; refuses_spine = tt; answers = tt; begins = tt; sweeps = tt; ends = tt; shows = shows });
       };
     }
 

@@ -137,23 +137,20 @@ pub gone_still : (old new : PlayState) (added : List Entry) → new.heap ≡ old
 gone_still old new added same told gone number under = ap (has_left number) told ∙ left_still number old.entries added (gone number (subst (λ (h : Heap). number < h.seats) same under))
 
 -- where no cycle is under way, the next one is the last
-pub last_at_rest : (old new : PlayState) (before after : List Entry) → phase old.entries % cycle_phases ≡ rest → NotesCycle old new before after → NotesLastCycle old new before after
-last_at_rest old new before after at_rest notes = record {
+pub last_at_rest : (old new : PlayState) → phase old.entries % cycle_phases ≡ rest → NotesCycle old new → NotesLastCycle old new
+last_at_rest old new at_rest notes = record {
   same_heap = notes.same_heap;
   turned = notes.turned;
   told = notes.told;
-  noted = notes.noted;
   cycle = record { under_way = []; whole = notes.turned; first = inl refl; last = subst (λ b. ReachesCycleEnd b notes.turned) (eq-eqb _ rest at_rest) notes.ended; both = refl };
 }
 
 -- where one is, it ends first
-pub last_behind : (old now new : PlayState) (before between after : List Entry) → phase old.entries % cycle_phases ≢ rest → NotesCycle old now before between → NotesCycle now new between after
-    → NotesLastCycle old new before after
-last_behind old now new before between after past first then_ = record {
+pub last_behind : (old now new : PlayState) → phase old.entries % cycle_phases ≢ rest → NotesCycle old now → NotesCycle now new → NotesLastCycle old new
+last_behind old now new past first then_ = record {
   same_heap = then_.same_heap ∙ first.same_heap;
   turned = first.turned ++ then_.turned;
   told = then_.told ∙ ap (λ es. es ++ then_.turned) first.told ∙ append_assoc old.entries first.turned then_.turned;
-  noted = then_.noted ∙ ap (λ es. es ++ then_.turned) first.noted ∙ append_assoc before first.turned then_.turned;
   cycle = record {
     under_way = first.turned;
     whole = then_.turned;

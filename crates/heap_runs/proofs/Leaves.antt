@@ -19,7 +19,6 @@ use Rattle.core_rule.proofs.parties.LeftStill.{left_still}
 use Rattle.heap_runs.specs.PlayHeap.{PlayState}
 use Rattle.heap_runs.specs.Playing.{NotesCall, IsPlaying, HaveLeft}
 use Rattle.heap_runs.proofs.Answering.{still_there}
-use Rattle.heap_runs.proofs.Following.{follows_call}
 
 -- one number more
 range_more : (n : ℕ) → range_with_len 0 (n + 1) ≡ range_with_len 0 n ++ n ∷ []
@@ -51,9 +50,8 @@ gone_then number n told before reply after is gone under = elim (eqb_tells numbe
 ]
 
 -- the next seat leaves
-pub left_more : EachCallCounts → EachCallSparesOthers → (heap : Heap) (now new : PlayState) (before told after : List Entry) (n : ℕ) → HaveLeft heap now before told n → NotesCall now new told after n Leave
-    → HaveLeft heap new before after (n + 1)
-left_more counts others heap now new before told after n left notes =
+pub left_more : EachCallCounts → EachCallSparesOthers → (heap : Heap) (start now new : PlayState) (n : ℕ) → HaveLeft heap start now n → NotesCall now new n Leave → HaveLeft heap start new (n + 1)
+left_more counts others heap start now new n left notes =
     let once = notes.answers.once (λ e. cc e) in
     let adds = once.adds in
     let more = λ (k : ℕ). if k == n then adds.unborn else left.left k in
@@ -65,18 +63,18 @@ left_more counts others heap now new before told after n left notes =
     = ap (λ (l : List Entry). l ++ Said n Leave notes.reply ∷ []) adds.comes ∙ ap (λ (r : Reply). last_gives n adds.unborn ++ Said n Leave r ∷ []) (once.left refl) ∙ sym here in
     let added : notes.added ≡ adds.before ++ Said n Leave notes.reply ∷ [] = append_cancel_left now.entries notes.added _ (sym notes.told ∙ adds.entries) in
     record {
-      follows = follows_call heap now new told after n Leave notes left.follows;
-      others = λ number past below. still_there counts others heap now new told after n Leave notes number (λ same. absurd (omega (arith, same, past))) (left.others number (omega (arith, past)) below);
+      of_heap = adds.heap ∙ left.of_heap;
+      others = λ number past below. still_there counts others heap now new n Leave notes number (λ same. absurd (omega (arith, same, past))) (left.others number (omega (arith, past)) below);
       gone = λ number under. gone_more number under;
       left = more;
-      leaves = notes.noted ∙ ap (λ (l : List Entry). told ++ l) (added ∙ said) ∙ ap (λ (l : List Entry). l ++ leaves n) left.leaves
-          ∙ append_assoc before (flat_map each (range_with_len 0 n)) (leaves n) ∙ ap (λ (l : List Entry). before ++ (l ++ leaves n)) earlier ∙ ap (λ (l : List Entry). before ++ l) (sym (each_more leaves n));
+      leaves = notes.told ∙ ap (λ (l : List Entry). now.entries ++ l) (added ∙ said) ∙ ap (λ (l : List Entry). l ++ leaves n) left.leaves
+          ∙ append_assoc start.entries (flat_map each (range_with_len 0 n)) (leaves n) ∙ ap (λ (l : List Entry). start.entries ++ (l ++ leaves n)) earlier ∙ ap (λ (l : List Entry). start.entries ++ l) (sym (each_more leaves n));
     }
   where
     gone_more : (number : ℕ) → number < n + 1 → has_left number new.entries ≡ true
     gone_more number under = gone_then number n now.entries (notes.answers.once (λ e. cc e)).adds.before notes.reply new.entries (notes.answers.once (λ e. cc e)).adds.entries (left.gone number) under
 
 -- no seat has left yet
-pub left_none : (heap : Heap) (state : PlayState) (history : List Entry) (calls : ℕ) → IsPlaying heap state history calls → HaveLeft heap state history history 0
-left_none heap state history calls plays =
-    record { follows = plays.follows; others = λ number past below. plays.present number below; gone = λ number under. absurd (omega (arith, under)); left = λ number. 0; leaves = sym (append-nil history) }
+pub left_none : (heap : Heap) (state : PlayState) (calls : ℕ) → IsPlaying heap state calls → HaveLeft heap state state 0
+left_none heap state calls plays =
+    record { of_heap = plays.of_heap; others = λ number past below. plays.present number below; gone = λ number under. absurd (omega (arith, under)); left = λ number. 0; leaves = sym (append-nil state.entries) }

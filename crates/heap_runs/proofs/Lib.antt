@@ -1,6 +1,5 @@
 pub mod Answering
 pub mod ArrayCalls
-pub mod Beside
 pub mod Behind
 pub mod Between
 pub mod Bounds
@@ -10,7 +9,6 @@ pub mod Collecting
 pub mod Finished
 pub mod Folding
 pub mod CommandsOn
-pub mod Following
 pub mod Growing
 pub mod LastCycle
 pub mod Leaves
@@ -21,6 +19,7 @@ pub mod Noted
 pub mod RoleOn
 pub mod RunsEnd
 pub mod SeatTells
+pub mod Noting
 pub mod Serving
 pub mod Slacking
 pub mod Standing
@@ -32,3 +31,4 @@ pub mod Unused
 pub mod Waiting
 pub mod Whole
 pub mod WorkersEnd
+pub mod WithAnswers

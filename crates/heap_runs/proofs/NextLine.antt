@@ -4,7 +4,6 @@ use Rattle.std.proofs.Math.Seq.{take-suc}
 use Rattle.std.proofs.lemmas.List.Elements.{All-get_or, All-from_recursion}
 use Rattle.heap_model.specs.declared.command.Command.{Command}
 use Rattle.heap_model.specs.declared.command.Command.TheVariants as commands
-use Rattle.heap_model.specs.declared.entry.Entry.{Entry}
 use Rattle.heap_model.specs.Command.{IsCommand}
 use Rattle.heap_model.specs.calls.SeatCalls.{HasNumber}
 use Rattle.script_text.specs.declared.script.Form.TheVariants.{Play}
@@ -64,14 +63,14 @@ pub record IsNextCall (script : Script) (state : PlayState) (number : ℕ) (comm
   pub may : MayCall state number command
   pub stays : command ≢ commands.Leave
 
-pub next_call : (script : Script) (items : List Line) (i : ℕ) (d : Line) (number : ℕ) (command : Command) (state : PlayState) (history : List Entry) → items ≡ script.lines → IsOfForm Play script
-    → i < length items → get_or items i d ≡ lines.Seat number command → IsPlaying script.heap state history i → IsNextCall script state number command
-next_call script items i d number command state history all form below is plays =
+pub next_call : (script : Script) (items : List Line) (i : ℕ) (d : Line) (number : ℕ) (command : Command) (state : PlayState) → items ≡ script.lines → IsOfForm Play script
+    → i < length items → get_or items i d ≡ lines.Seat number command → IsPlaying script.heap state i → IsNextCall script state number command
+next_call script items i d number command state all form below is plays =
     let line = line_of_form script items i d (lines.Seat number command) all form below is in
     let short : i ≤ 65536 = omega (arith, form.short, below, ap (length {A = Line}) all) in
     record {
       may = record {
-        within = rw plays.follows.of_heap line.0;
+        within = rw plays.of_heap line.0;
         present = plays.present number line.0;
         in_range = in_range command line.1;
         numbered = numbers_left state number i command short (plays.few number line.0);

@@ -25,7 +25,7 @@ use Rattle.core_rule.proofs.parties.OneSeat.{after_inner}
 use Rattle.core_rule.proofs.parties.Standing.{word_is, answer_word_is}
 use Rattle.heap_record.specs.Recorded.{MakesInner, Recorded}
 use Rattle.heap_runs.specs.Collecting.{MayGoOn, IsStillThere, IsUnderWayAt, LastTurnIs, EndsFor, EndsWholeFor, seen_by}
-use Rattle.heap_runs.specs.MachineHeap.{IsBetweenCalls, CollectsMachine, play_state_of}
+use Rattle.heap_runs.specs.MachineHeap.{IsBetweenCalls, CollectsMachine, run_state_of}
 use Rattle.heap_runs.specs.Play.{IsFirstFrom, TellsFirstCycle}
 use Rattle.heap_runs.specs.PlayHeap.{AnswersCollect, TellsTurn}
 use Rattle.heap_runs.proofs.Collecting.{goes_then, machine_then, machine_inner}
@@ -173,7 +173,7 @@ module _ (start one two three four : Recorded) (number : ℕ) (reply : CollectRe
       machine_then start three four number (machine_then start two three number (machine_then start one two number (machine_inner start one number inners.Look look) whole.ends.goes.machine)
       (machine_inner two three number (seen_by reply) sees)) (machine_inner three four number (inners.Note reply) notes)
 
-  pub collect_answers : AnswersCollect (play_state_of start) (play_state_of four) number (noted_reply reply)
+  pub collect_answers : AnswersCollect (run_state_of start) (run_state_of four) number (noted_reply reply)
   collect_answers =
       let goes = whole.ends.goes in
       let said : List Entry = Said number Collect (noted_reply reply) ∷ [] in

@@ -9,6 +9,7 @@ use Rattle.heap_model.specs.declared.entry.Entry.{Entry}
 use Rattle.heap_model.specs.declared.entry.Entry.TheVariants as entries
 use Rattle.heap_model.specs.declared.reply.TurnReply.{TurnReply}
 use Rattle.heap_model.specs.declared.reply.TurnReply.TheVariants as replies
+use Rattle.heap_model.specs.account.Phases.{TurnShows}
 use Rattle.heap_runs.specs.Play.{AreTurns, AreSteps, TellsTurns}
 use Rattle.heap_runs.specs.PlayHeap.{PlayState}
 use Rattle.heap_runs.specs.Turning.{AddsTurns, IsNoWait, IsStep, HasComeTo, ServesCommand}
@@ -64,3 +65,21 @@ module _ (old new : PlayState) (added : List Entry) (told : new.entries ≡ old.
   serves_told commands.Cycle replies.Done serves = absurd serves
   serves_told commands.Cycle (replies.Waits number answer p) serves = steps_told number answer p (replies.Waits number answer p) serves
   serves_told commands.Cycle (replies.Cycle cycle) serves = end_told cycle serves.0 (replies.Cycle cycle) serves.1
+
+-- what the turns of a command added
+pub serves_adds : (old new : PlayState) (command : TurnCommand) (reply : TurnReply) → ServesCommand old new command reply → AddsTurns old new
+serves_adds old new (commands.Turns n) replies.Done serves = turns_add IsNoWait n old new serves.taken
+serves_adds old new (commands.Turns n) (replies.Waits number answer p) serves = came_add IsNoWait old new _ _ serves.0
+serves_adds old new (commands.Turns n) (replies.Cycle cycle) serves = absurd serves
+serves_adds old new commands.Cycle replies.Done serves = absurd serves
+serves_adds old new commands.Cycle (replies.Waits number answer p) serves = came_add IsStep old new _ _ serves
+serves_adds old new commands.Cycle (replies.Cycle cycle) serves = came_add IsStep old new _ _ serves.1
+
+-- the reply shows what is so
+pub serves_shows : (old new : PlayState) (command : TurnCommand) (reply : TurnReply) → ServesCommand old new command reply → TurnShows new.heap new.entries reply
+serves_shows old new (commands.Turns n) replies.Done serves = tt
+serves_shows old new (commands.Turns n) (replies.Waits number answer p) serves = serves.0.shows
+serves_shows old new (commands.Turns n) (replies.Cycle cycle) serves = absurd serves
+serves_shows old new commands.Cycle replies.Done serves = tt
+serves_shows old new commands.Cycle (replies.Waits number answer p) serves = serves.shows
+serves_shows old new commands.Cycle (replies.Cycle cycle) serves = serves.1.shows

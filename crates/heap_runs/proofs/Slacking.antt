@@ -1,9 +1,8 @@
 -- What a line of a seat notes, with the turns of a pace behind it.
-use Rattle.std.proofs.Common.{◌≡◌, ℕ, zero, suc, ◌<◌, ◌≤◌, Bool, false, is_some, option_map, List, [], ◌++◌, length, drop, Option, None, Some, refl, sym, ap, subst, ◌∙◌, append-nil, arith}
+use Rattle.std.proofs.Common.{◌≡◌, ℕ, zero, suc, ◌<◌, ◌≤◌, Bool, false, is_some, option_map, [], ◌++◌, length, drop, Option, None, Some, refl, ap, subst, ◌∙◌, arith}
 use Rattle.std.proofs.Math.Seq.{drop-append_seam}
 use Rattle.heap_model.specs.declared.calls.collector_calls.Turn.{Turn}
 use Rattle.heap_model.specs.declared.command.Command.{Command}
-use Rattle.heap_model.specs.declared.entry.Entry.{Entry}
 use Rattle.heap_record.specs.Recorded.{claimed_by}
 use Rattle.slack_pace.specs.Slack as slack
 use Rattle.heap_runs.specs.PlayHeap.{PlayState, collector_state_of}
@@ -17,17 +16,16 @@ waits_last zero new last is waited = absurd (subst slack.HasWaited is waited)
 waits_last (suc n) new last is waited = subst slack.HasWaited is waited
 
 -- turns that were made once there was room, and noted
-pub slack_noted : (asked : ℕ) (old now new : PlayState) (before after : List Entry) (made answered : ℕ) (last : Option Turn) → now ≡ record old { spare = now.spare } → (adds : AddsTurns now new)
-    → after ≡ before ++ adds.added → answered ≡ asked → made ≤ answered → (made < answered → slack.HasWaited last) → slack.CountsTurns made (collector_state_of now) (collector_state_of new)
-    → last ≡ slack.last_made made (collector_state_of new) → NotesSlack asked old new before after
-slack_noted asked old now new before after made answered last same adds noted is most fewer counted answers = record {
+pub slack_noted : (asked : ℕ) (old now new : PlayState) (made answered : ℕ) (last : Option Turn) → now ≡ record old { spare = now.spare } → (adds : AddsTurns now new)
+    → answered ≡ asked → made ≤ answered → (made < answered → slack.HasWaited last) → slack.CountsTurns made (collector_state_of now) (collector_state_of new)
+    → last ≡ slack.last_made made (collector_state_of new) → NotesSlack asked old new
+slack_noted asked old now new made answered last same adds is most fewer counted answers = record {
   adds = record {
     same_heap = adds.same_heap ∙ ap (λ (s : PlayState). s.heap) same;
     added = adds.added;
     told = adds.told ∙ ap (λ (s : PlayState). s.entries ++ adds.added) same;
     turned = adds.turned;
   };
-  noted = noted;
   made = made;
   most = omega (arith, is, most);
   fewer = λ less. waits_last made new last answers (fewer (omega (arith, is, less)));
@@ -40,30 +38,23 @@ some_mapped f None = refl
 some_mapped f (Some pace) = refl
 
 -- turns were added, and without a pace nothing
-pub record AddsSlack (paced : Bool) (old new : PlayState) (before after : List Entry) : Type 0 where
+pub record AddsSlack (paced : Bool) (old new : PlayState) : Type 0 where
   pub adds : AddsTurns old new
-  pub noted : after ≡ before ++ adds.added
   pub none : paced ≡ false → adds.added ≡ []
 
-pub pace_adds : (asks : Option (ℕ → ℕ)) (claimed : ℕ) (old new : PlayState) (before after : List Entry) → NotesPace asks claimed old new before after → AddsSlack (is_some asks) old new before after
-pace_adds None claimed old new before after none = record {
-  adds = turns_none old new (ap (λ (s : PlayState). s.heap) none.0) (ap (λ (s : PlayState). s.entries) none.0);
-  noted = none.1 ∙ sym (append-nil before);
-  none = λ unpaced. refl;
-}
-pace_adds (Some asks) claimed old new before after notes = record { adds = notes.adds; noted = notes.noted; none = λ unpaced. absurd (cc unpaced) }
+pub pace_adds : (asks : Option (ℕ → ℕ)) (claimed : ℕ) (old new : PlayState) → NotesPace asks claimed old new → AddsSlack (is_some asks) old new
+pace_adds None claimed old new none = record { adds = turns_none old new (ap (λ (s : PlayState). s.heap) none) (ap (λ (s : PlayState). s.entries) none); none = λ unpaced. refl }
+pace_adds (Some asks) claimed old new notes = record { adds = notes.adds; none = λ unpaced. absurd (cc unpaced) }
 
-module _ (old now : PlayState) (before between : List Entry) (number : ℕ) (command : Command) (call : NotesCall old now before between number command) where
+module _ (old now : PlayState) (number : ℕ) (command : Command) (call : NotesCall old now number command) where
   -- a call and no turns
-  pub bare_line : NotesSeatLine None old now before between number command
-  bare_line = record { now = now; between = between; call = call; slack = (refl, refl) }
+  pub bare_line : NotesSeatLine None old now number command
+  bare_line = record { now = now; call = call; slack = refl }
 
   -- what was claimed by the call
-  pub claimed_is : (claimed : ℕ) → claimed ≡ claimed_by (drop (length before) between) → claimed ≡ claimed_by call.added
-  claimed_is claimed is = is ∙ ap claimed_by (ap (drop (length before)) call.noted ∙ drop-append_seam before call.added)
+  pub claimed_is : (claimed : ℕ) → claimed ≡ claimed_by (drop (length old.entries) now.entries) → claimed ≡ claimed_by call.added
+  claimed_is claimed is = is ∙ ap claimed_by (ap (drop (length old.entries)) call.told ∙ drop-append_seam old.entries call.added)
 
   -- a call and turns
-  pub slack_line : (asks : ℕ → ℕ) (claimed : ℕ) (new : PlayState) (after : List Entry) → claimed ≡ claimed_by call.added → NotesSlack (asks claimed) now new between after
-      → NotesSeatLine (Some asks) old new before after number command
-  slack_line asks claimed new after is notes =
-      record { now = now; between = between; call = call; slack = subst (λ (n : ℕ). NotesSlack (asks n) now new between after) is notes }
+  pub slack_line : (asks : ℕ → ℕ) (claimed : ℕ) (new : PlayState) → claimed ≡ claimed_by call.added → NotesSlack (asks claimed) now new → NotesSeatLine (Some asks) old new number command
+  slack_line asks claimed new is notes = record { now = now; call = call; slack = subst (λ (n : ℕ). NotesSlack (asks n) now new) is notes }

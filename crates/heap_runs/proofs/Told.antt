@@ -1,5 +1,5 @@
 -- What a call tells, whichever it is.
-use Rattle.std.proofs.Common.{◌≡◌, ◌≢◌, ℕ, true, List, [], ◌∷◌, ◌++◌, refl, sym, ap, ◌∙◌}
+use Rattle.std.proofs.Common.{◌≡◌, ◌≢◌, ℕ, List, [], ◌∷◌, ◌++◌, refl, sym, ap, ◌∙◌}
 use Rattle.std.specs.List.{AllByRecursion}
 use Rattle.std.proofs.lemmas.List.{append_cancel_left}
 use Rattle.std.proofs.lemmas.List.Sums.{fold-append}
@@ -8,38 +8,28 @@ use Rattle.heap_model.specs.declared.command.Command.TheVariants as commands
 use Rattle.heap_model.specs.declared.entry.Entry.{Entry}
 use Rattle.heap_model.specs.declared.entry.Entry.TheVariants as entries
 use Rattle.heap_model.specs.declared.reply.Reply.{Reply}
-use Rattle.heap_model.specs.account.Turned.{is_of_heap}
 use Rattle.heap_model.specs.graph.Graph.{Graph, opening}
 use Rattle.heap_model.specs.graph.Growth.{after_entry, graph_after}
 use Rattle.heap_runs.specs.Play.{ComesFirst, TellsInCollect}
 use Rattle.heap_runs.specs.PlayHeap.{PlayState, AnswersOnce, AnswersCollect, AnswersCall}
 use Rattle.heap_runs.specs.Playing.{NotesCall}
-use Rattle.heap_runs.proofs.Beside.{comes_beside, beside_of_heap}
 
 -- before the reply it tells what is due, and no answer to a command of the collector
 pub record TellsCall (old new : PlayState) (number : ℕ) (command : Command) (reply : Reply) : Type 0 where
   pub heap : new.heap ≡ old.heap
   pub before : List Entry
   pub told : new.entries ≡ old.entries ++ (before ++ entries.Said number command reply ∷ [])
-  pub of_heap : AllByRecursion (λ entry. is_of_heap entry ≡ true) before
   pub comes : ComesFirst old.entries number command reply before
 
 tells_once : (old new : PlayState) (number : ℕ) (command : Command) (reply : Reply) → command ≢ commands.Collect → AnswersOnce old new number command reply → TellsCall old new number command reply
 tells_once old new number command reply apart answers =
     let adds = answers.adds in
-    let beside = comes_beside number adds.unborn _ command reply adds.before adds.comes in
     record {
       heap = adds.heap;
       before = adds.before;
       told = adds.entries;
-      of_heap = beside_of_heap number adds.before beside;
       comes = record { once = λ _. record { unborn = adds.unborn; had = adds.had; comes = adds.comes }; collects = λ is. absurd (apart is) };
     }
-
-collect_of_heap : (number : ℕ) (told : List Entry) → AllByRecursion (TellsInCollect number) told → AllByRecursion (λ entry. is_of_heap entry ≡ true) told
-collect_of_heap number [] tells = tt
-collect_of_heap number (entries.Turned command reply ∷ told) tells = absurd (cc tells.0)
-collect_of_heap number (entry ∷ told) tells = (refl, collect_of_heap number told tells.1)
 
 -- what is told in a collect changes no graph
 collect_graph : (number : ℕ) (g : Graph) (told : List Entry) → AllByRecursion (TellsInCollect number) told → graph_after g told ≡ g
@@ -63,7 +53,6 @@ tells_collect old new number reply answers =
       heap = answers.heap;
       before = answers.before;
       told = answers.entries;
-      of_heap = collect_of_heap number answers.before answers.comes.told;
       comes = record { once = λ apart. absurd (apart refl); collects = λ _. answers.comes };
     }
 
@@ -72,7 +61,13 @@ pub tells_call : (old new : PlayState) (number : ℕ) (command : Command) (reply
 tells_call old new number commands.Collect reply answers = tells_collect old new number reply (answers.collects refl)
 tells_call old new number command reply answers = tells_once old new number command reply (λ e. cc e) (answers.once (λ e. cc e))
 
+-- it is noted by its entries
+pub call_noted : (old new : PlayState) (number : ℕ) (command : Command) (reply : Reply) → AnswersCall old new number command reply → NotesCall old new number command
+call_noted old new number command reply answers =
+    let tells = tells_call old new number command reply answers in
+    record { reply = reply; answers = answers; added = tells.before ++ entries.Said number command reply ∷ []; told = tells.told }
+
 -- what was noted of it is that
-pub noted_is : (old new : PlayState) (before after : List Entry) (number : ℕ) (command : Command) → (notes : NotesCall old new before after number command) → (tells : TellsCall old new number command notes.reply)
+pub noted_is : (old new : PlayState) (number : ℕ) (command : Command) (notes : NotesCall old new number command) (tells : TellsCall old new number command notes.reply)
     → notes.added ≡ tells.before ++ entries.Said number command notes.reply ∷ []
-noted_is old new before after number command notes tells = append_cancel_left old.entries notes.added _ (sym notes.told ∙ tells.told)
+noted_is old new number command notes tells = append_cancel_left old.entries notes.added _ (sym notes.told ∙ tells.told)

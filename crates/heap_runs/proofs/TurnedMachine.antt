@@ -7,13 +7,13 @@ use Rattle.core_machine.specs.machine.Machine.{Turns, next_turn, found_by, entri
 use Rattle.core_rule.specs.Laws.{StandsFor, EachWaitIsBehind}
 use Rattle.core_rule.specs.TurnsLeft.{EachTurnLeavesFewer}
 use Rattle.heap_record.specs.Recorded.{Recorded, MakesTurn}
-use Rattle.heap_runs.specs.MachineHeap.{play_state_of}
+use Rattle.heap_runs.specs.MachineHeap.{run_state_of}
 use Rattle.heap_runs.specs.PlayHeap.{TakesTurn, WaitsRightly}
 
 -- where a turn waits, it does so for a seat that is behind
 waits_rightly : EachWaitIsBehind → (whole : Recorded) (turn : Turn) → StandsFor whole.machine.heap whole.machine.state [] whole.history
     → turn ≡ (next_turn whole.machine.heap whole.machine.state.collector).answer (found_by whole.machine.heap whole.machine.state (next_turn whole.machine.heap whole.machine.state.collector).step)
-    → WaitsRightly (play_state_of whole) turn
+    → WaitsRightly (run_state_of whole) turn
 waits_rightly each whole (turns.Waits number answer p) s answered =
     let behind = each whole.machine.heap whole.machine.state s.book number answer p s.stands.rule (sym answered) in
     (behind.0, subst (IsBehind number answer p) s.grown behind.1, behind.2)
@@ -21,7 +21,7 @@ waits_rightly each whole _ s answered = tt
 
 -- the machine's turn is one of a heap that is played on
 pub takes_turn : EachWaitIsBehind → EachTurnLeavesFewer → (old new : Recorded) (turn : Turn) → StandsFor old.machine.heap old.machine.state [] old.history → MakesTurn old new turn
-    → TakesTurn (play_state_of old) (play_state_of new) turn
+    → TakesTurn (run_state_of old) (run_state_of new) turn
 takes_turn waits lowers old new turn s makes =
     record {
       heap = makes.same_heap;

@@ -22,7 +22,7 @@ use Rattle.core_rule.proofs.parties.OneSeat.{after_inner}
 use Rattle.core_rule.proofs.parties.Standing.{word_is, answered_last, phase_near}
 use Rattle.heap_record.specs.Recorded.{MakesInner, Recorded, MakesTurn}
 use Rattle.heap_runs.specs.Collecting.{IsStillThere}
-use Rattle.heap_runs.specs.MachineHeap.{IsBetweenCalls, play_state_of}
+use Rattle.heap_runs.specs.MachineHeap.{IsBetweenCalls, run_state_of}
 use Rattle.heap_runs.specs.PlayHeap.{TakesTurn}
 
 -- how many phases the seat is behind, which is one at most, and how many turns are left
@@ -78,7 +78,7 @@ waits_still old new other answer p turned =
 
 -- a step leaves fewer, and the seat may be behind then
 pub stepped_fewer : (old new : Recorded) (number : ℕ) → StandsFor new.machine.heap new.machine.state [] new.history → IsBetweenCalls new.machine.heap new.machine.state new.history → IsStillThere new number
-    → TakesTurn (play_state_of old) (play_state_of new) turns.Stepped → left_for new number < left_for old number
+    → TakesTurn (run_state_of old) (run_state_of new) turns.Stepped → left_for new number < left_for old number
 stepped_fewer old new number s between present takes =
     let below : number < new.machine.heap.seats = omega (arith, present.within, s.stands.rule.machine.seated) in
     let fewer = takes.fewer refl in
@@ -97,7 +97,7 @@ answer_phase number p answered = elim (eqb_tells p answered) [
 -- a turn that waits for the seat, and its answer, leave as many turns, and the seat isn't behind any more
 pub answered_fewer : (old now new : Recorded) (number answer p : ℕ) → StandsFor old.machine.heap old.machine.state [] old.history → StandsFor now.machine.heap now.machine.state [] now.history
     → StandsFor new.machine.heap new.machine.state [] new.history → IsBetweenCalls old.machine.heap old.machine.state old.history → IsStillThere old number
-    → TakesTurn (play_state_of old) (play_state_of now) (turns.Waits number answer p) → MakesTurn old now (turns.Waits number answer p) → MakesInner now new number inners.Answer
+    → TakesTurn (run_state_of old) (run_state_of now) (turns.Waits number answer p) → MakesTurn old now (turns.Waits number answer p) → MakesInner now new number inners.Answer
     → left_for new number < left_for old number
 answered_fewer old now new number answer p one two three between present takes turned makes =
     let still = waits_still old now number answer p turned in

@@ -11,7 +11,6 @@ use Rattle.heap_model.specs.account.Windows.{begins_cycle, up_to_cycle}
 use Rattle.heap_model.specs.calls.SeatCalls.{leave_entries}
 use Rattle.core_rule.specs.SweepLaws.{EachLastCycleEmpties}
 use Rattle.heap_model.specs.account.Space.{fragments_gained, fragments_lost, fragments_used, words_used, words_granted, words_returned}
-use Rattle.heap_model.specs.account.Turned.{TurnedMayStand, TurnedCountNothing}
 use Rattle.script_text.specs.declared.script.Form.TheVariants as forms
 use Rattle.script_text.specs.declared.script.Script.{Script}
 use Rattle.reply_text.specs.declared.history.History.{History}
@@ -20,16 +19,8 @@ use Rattle.log_merge.specs.Legal.{ShowsUse, ShowsCounts}
 use Rattle.core_rule.proofs.parties.LeftStill.{left_still, up_to_last_later}
 use Rattle.heap_runs.specs.Play.{StandForLines, IsLastCycle, IsPlay}
 use Rattle.heap_runs.specs.PlayHeap.{PlayState, IsPlayed}
-use Rattle.heap_runs.specs.Playing.{Follows, IsPlaying, HaveLeft, NotesLastCycle}
+use Rattle.heap_runs.specs.Playing.{HaveLeft, NotesLastCycle}
 use Rattle.heap_runs.proofs.Bounds.{returned_within}
-use Rattle.heap_runs.proofs.Following.{follows_cycle}
-
--- what is in use by the heap's entries is so by the history
-shows_use : TurnedCountNothing → (heap : Heap) (state : PlayState) (history : List Entry) (used : ℕ) → Follows heap state history → ShowsUse heap state.entries used → ShowsUse heap history used
-shows_use counts heap state history used follows shows =
-    let stay = counts history in
-    let same = subst (λ es. ShowsUse heap es used) (sym follows.same) shows in
-    omega (arith, same, stay.gained_stay heap, stay.lost_stay)
 
 -- no fragment and no spine word is in use where the last cycle began after every seat had left
 none_used : EachLastCycleEmpties → (heap : Heap) (told turned : List Entry) → IsPlayed heap (told ++ turned) → ((number : ℕ) → number < heap.seats → has_left number told ≡ true) → IsLastCycle turned
@@ -47,37 +38,29 @@ none_used empties heap told turned played gone cycle =
     (omega (arith, ap (fragments_used heap) all, empty.0, played.none_short), omega (arith, ap words_used all, empty.1, returned_within heap (told ++ turned) played.legal))
 
 -- the whole play: the script was answered, the seats have left, and a last cycle was made
-pub whole_play : TurnedMayStand → TurnedCountNothing → EachLastCycleEmpties → (paced : Bool) (script : Script) (middle gone last : PlayState) (front between entries : List Entry) (mark : SpaceMark) (used : ℕ) (told : History)
-    → IsPlaying script.heap middle front (length script.lines) → StandForLines paced [] script.lines front → HaveLeft script.heap gone front between script.heap.seats → NotesLastCycle gone last between entries → IsPlayed script.heap middle.entries → IsPlayed script.heap last.entries
-    → mark.before ≡ length front → ShowsUse script.heap middle.entries mark.used → mark.total ≡ 16 * script.heap.groups → mark.spine + words_returned middle.entries ≡ words_granted middle.entries → mark.budget ≡ script.heap.spine
+pub whole_play : EachLastCycleEmpties → (paced : Bool) (script : Script) (middle gone last : PlayState) (entries : List Entry) (mark : SpaceMark) (used : ℕ) (told : History)
+    → StandForLines paced [] script.lines middle.entries → HaveLeft script.heap middle gone script.heap.seats → NotesLastCycle gone last → IsPlayed script.heap last.entries → entries ≡ last.entries
+    → mark.before ≡ length middle.entries → ShowsUse script.heap middle.entries mark.used → mark.total ≡ 16 * script.heap.groups → mark.spine + words_returned middle.entries ≡ words_granted middle.entries → mark.budget ≡ script.heap.spine
     → ShowsUse script.heap last.entries used → told ≡ record { form = forms.Play; heap = script.heap; entries = entries; mark = Some mark; end_used = used } → IsPlay paced script told
-whole_play stand counts empties paced script middle gone last front between entries mark used told plays answered left notes played_middle played_last before in_use total spine budget at_end is =
+whole_play empties paced script middle gone last entries mark used told answered left notes played listed before in_use total spine budget at_end is =
     let leaving : List Entry = flat_map (λ number. leave_entries number (left.left number)) (range_with_len 0 script.heap.seats) in
-    let all : entries ≡ front ++ (leaving ++ notes.turned) = notes.noted ∙ ap (λ es. es ++ notes.turned) left.leaves ∙ append_assoc front leaving notes.turned in
+    let front = middle.entries in
+    let all : entries ≡ front ++ (leaving ++ notes.turned) = listed ∙ notes.told ∙ ap (λ es. es ++ notes.turned) left.leaves ∙ append_assoc front leaving notes.turned in
     let front_is : take mark.before entries ≡ front = rw all (take_at front _ mark.before (sym before)) in
     let behind_is = ap (drop mark.before) all ∙ drop_at front _ mark.before (sym before) in
-    let follows = follows_cycle script.heap gone last between entries notes left.follows in
-    let empty = none_used empties script.heap gone.entries notes.turned (subst (IsPlayed script.heap) notes.told played_last) left.gone notes.cycle in
-    let stay = counts front in
-    let words = subst (λ es. mark.spine + words_returned es ≡ words_granted es) (sym plays.follows.same) spine in
-    let last_counts = counts entries in
-    let end_shown = shows_use counts script.heap last entries used follows at_end in
-    let shown : ShowsCounts script.heap front mark = record {
-      used = shows_use counts script.heap middle front mark.used plays.follows in_use;
-      total = total;
-      spine = omega (arith, words, stay.granted_stay, stay.returned_stay);
-      budget = budget;
-    } in
+    let empty = none_used empties script.heap gone.entries notes.turned (subst (IsPlayed script.heap) notes.told played) left.gone notes.cycle in
+    let told_is : entries ≡ gone.entries ++ notes.turned = listed ∙ notes.told in
+    let shown : ShowsCounts script.heap front mark = record { used = in_use; total = total; spine = spine; budget = budget } in
     rw is (record {
       form = refl;
       heap = refl;
       legal = record {
-        entries = stand script.heap entries (subst (IsLegal script.heap true) (sym follows.same) played_last.legal) follows.right;
+        entries = subst (IsLegal script.heap true) (sym listed) played.legal;
         mark = rw front_is shown;
-        end_used = end_shown;
+        end_used = subst (λ es. ShowsUse script.heap es used) (sym listed) at_end;
       };
       none_used = omega (arith, at_end, ap fragments_lost notes.told, ap (fragments_gained script.heap) notes.told, empty.0);
-      all_returned = sym last_counts.returned_stay ∙ ap words_returned follows.same ∙ ap words_returned notes.told ∙ empty.1 ∙ sym (ap words_granted notes.told) ∙ sym (ap words_granted follows.same) ∙ last_counts.granted_stay;
+      all_returned = ap words_returned told_is ∙ empty.1 ∙ sym (ap words_granted told_is);
       parted = record {
         answered = rw front_is answered;
         leaving = leaving;

@@ -5,7 +5,7 @@ use Rattle.heap_model.specs.declared.heap.Heap.{Heap}
 use Rattle.heap_model.specs.declared.command.Command.{Command}
 use Rattle.heap_model.specs.declared.command.Command.TheVariants as commands
 use Rattle.heap_model.specs.declared.entry.Entry.{Entry}
-use Rattle.heap_model.specs.declared.entry.Entry.TheVariants.{Said}
+use Rattle.heap_model.specs.declared.entry.Entry.TheVariants.{Said, Turned}
 use Rattle.heap_model.specs.declared.reply.Reply.TheVariants.{Done}
 use Rattle.heap_model.specs.account.Account.{IsLegal}
 use Rattle.heap_model.specs.account.Cycles.{graph_of}
@@ -19,12 +19,13 @@ is_plain (commands.Copy d r) = true
 is_plain commands.Leave = true
 is_plain _ = false
 
--- the entry tells that such a command was done
+-- the entry tells that such a command was done, or what a command of the collector was answered
 abbrev pub IsPlainEntry : Entry → Type 0
 IsPlainEntry (Said number command Done) = is_plain command ≡ true
+IsPlainEntry (Turned command reply) = Unit {0}
 IsPlainEntry _ = ⊥
 
--- only such commands were done, rightly, and the graph is what they made of it
+-- only such entries were told, rightly, and the graph is what they made of it
 pub record IsGrowing (heap : Heap) (told : List Entry) (graph : Graph) : Type 0 where
   pub grown : graph ≡ graph_of heap told
   pub plain : AllByRecursion IsPlainEntry told

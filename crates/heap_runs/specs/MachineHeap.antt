@@ -6,6 +6,7 @@ use Rattle.heap_model.specs.declared.command.Command.TheVariants.{Collect}
 use Rattle.heap_model.specs.declared.entry.Entry.{Entry}
 use Rattle.heap_model.specs.declared.reply.Reply.{Reply}
 use Rattle.heap_model.specs.declared.calls.collect.Inner.{Inner}
+use Rattle.heap_model.specs.account.Turned.{without_turned, AllAnswerRightly}
 use Rattle.core_machine.specs.machine.InnerCalls.{PlaysInner, inner_entries}
 use Rattle.core_machine.specs.machine.Machine.{State, seat_at, Turns, Can, state_after, entries}
 use Rattle.core_machine.specs.machine.Opening.{IsOpening}
@@ -14,16 +15,25 @@ use Rattle.core_rule.specs.TurnsLeft.{turns_left}
 use Rattle.heap_record.specs.Recorded.{Recorded, EventsLeadTo, MakesCall}
 use Rattle.heap_runs.specs.PlayHeap.{PlayState}
 
--- what contracts see of it as a heap that is played on
+-- what contracts see of it as a heap that is played on: the entries are the machine's, with what the collector's commands were answered between them
 abbrev pub play_state_of : Recorded → PlayState
 play_state_of whole = record {
   heap = whole.machine.heap;
-  entries = whole.history;
+  entries = whole.listed;
   spare = whole.spare;
   turns = whole.turns;
   last_turn = whole.last_turn;
   turns_left = turns_left whole.machine.heap whole.machine.state;
 }
+
+-- the same with the machine's entries alone
+abbrev pub run_state_of : Recorded → PlayState
+run_state_of whole = record (play_state_of whole) { entries = whole.history }
+
+-- the machine's entries are those that answer no command of the collector, and each of the others shows what is so after those before it
+pub record NotesRightly (whole : Recorded) : Type 0 where
+  pub same : without_turned whole.listed ≡ whole.history
+  pub right : AllAnswerRightly whole.machine.heap [] whole.listed
 
 -- whole calls, one after another, and turns between them led to this state, with these entries, and no seat has a call in flight
 abbrev pub IsBetweenCalls : Heap → State → List Entry → Type 0
@@ -48,6 +58,7 @@ pub record CollectsMachine (old new : Recorded) (number : ℕ) : Type 0 where
   pub told : List Entry
   pub makes : MovesAll moves old.machine.heap number old.machine.state new.machine.state told
   pub noted : new.history ≡ old.history ++ told
+  pub listed : new.listed ≡ old.listed ++ told
 
 -- a call is the machine's: a collect is made of inner calls and turns, and every other command is one whole call there
 pub record CallsMachine (old new : Recorded) (number : ℕ) (command : Command) (reply : Reply) : Type 0 where
@@ -59,5 +70,6 @@ pub record IsFresh (heap : Heap) (whole : Recorded) : Type 0 where
   pub of_heap : whole.machine.heap ≡ heap
   pub opening : IsOpening heap whole.machine.state
   pub no_entries : whole.history ≡ []
+  pub none_listed : whole.listed ≡ []
   pub no_turns : whole.turns ≡ 0
   pub no_last_turn : whole.last_turn ≡ None

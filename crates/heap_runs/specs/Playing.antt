@@ -10,7 +10,6 @@ use Rattle.heap_model.specs.declared.reply.Reply.{Reply}
 use Rattle.heap_model.specs.declared.reply.TurnReply.{TurnReply}
 use Rattle.heap_model.specs.PhasePlan.{cycle_phases, rest}
 use Rattle.heap_model.specs.account.PhaseCounts.{phase, has_left}
-use Rattle.heap_model.specs.account.Turned.{without_turned, AllAnswerRightly}
 use Rattle.heap_model.specs.calls.SeatCalls.{leave_entries}
 use Rattle.heap_model.specs.calls.SeatState.{own_graph_seat}
 use Rattle.script_text.specs.declared.script.Line.{Line}
@@ -21,58 +20,48 @@ use Rattle.heap_runs.specs.PlayHeap.{PlayState, seat_state_of, AnswersCall}
 use Rattle.heap_runs.specs.Turning.{ServesCommand, AddsTurns, TurnsRiseBy}
 use Rattle.slack_pace.specs.Slack.{HasWaited}
 
--- the call was made, and its entries are noted behind those from before
-pub record NotesCall (old new : PlayState) (before after : List Entry) (number : ℕ) (command : Command) : Type 0 where
+-- the call was made, and added these entries
+pub record NotesCall (old new : PlayState) (number : ℕ) (command : Command) : Type 0 where
   pub reply : Reply
   pub answers : AnswersCall old new number command reply
   pub added : List Entry
   pub told : new.entries ≡ old.entries ++ added
-  pub noted : after ≡ before ++ added
 
--- the turns that a pace asked for were made, or those up to the first that waited, and their entries are noted behind those from before
-pub record NotesSlack (asked : ℕ) (old new : PlayState) (before after : List Entry) : Type 0 where
+-- the turns that a pace asked for were made, or those up to the first that waited
+pub record NotesSlack (asked : ℕ) (old new : PlayState) : Type 0 where
   pub adds : AddsTurns old new
-  pub noted : after ≡ before ++ adds.added
   pub made : ℕ
   pub most : made ≤ asked
   pub fewer : made < asked → HasWaited new.last_turn
   pub counted : TurnsRiseBy old new made
 
--- with a pace the turns that it asks for by what was claimed were made, or those up to the first that waited, and noted; without one nothing happened
-abbrev pub NotesPace : Option (ℕ → ℕ) → ℕ → PlayState → PlayState → List Entry → List Entry → Type 0
-NotesPace None claimed old new before after = (new ≡ old) × (after ≡ before)
-NotesPace (Some asks) claimed old new before after = NotesSlack (asks claimed) old new before after
+-- with a pace the turns that it asks for by what was claimed were made, or those up to the first that waited; without one nothing happened
+abbrev pub NotesPace : Option (ℕ → ℕ) → ℕ → PlayState → PlayState → Type 0
+NotesPace None claimed old new = new ≡ old
+NotesPace (Some asks) claimed old new = NotesSlack (asks claimed) old new
 
--- the call was made and noted, and behind it what its pace, if there is one, asked for by what the call claimed
-pub record NotesSeatLine (asks : Option (ℕ → ℕ)) (old new : PlayState) (before after : List Entry) (number : ℕ) (command : Command) : Type 0 where
+-- the call was made, and behind it what its pace, if there is one, asked for by what the call claimed
+pub record NotesSeatLine (asks : Option (ℕ → ℕ)) (old new : PlayState) (number : ℕ) (command : Command) : Type 0 where
   pub now : PlayState
-  pub between : List Entry
-  pub call : NotesCall old now before between number command
-  pub slack : NotesPace asks (claimed_by call.added) now new between after
+  pub call : NotesCall old now number command
+  pub slack : NotesPace asks (claimed_by call.added) now new
 
--- the turns were made, and their entries are noted behind those from before, and what the command was answered behind them
-pub record NotesTurns (old new : PlayState) (before after : List Entry) (command : TurnCommand) : Type 0 where
+-- the turns were made, and behind their entries it is noted what the command was answered
+pub record NotesTurns (old new : PlayState) (command : TurnCommand) : Type 0 where
   pub reply : TurnReply
-  pub serves : ServesCommand old new command reply
-  pub added : List Entry
-  pub told : new.entries ≡ old.entries ++ added
-  pub noted : after ≡ before ++ (added ++ Turned command reply ∷ [])
+  pub now : PlayState
+  pub serves : ServesCommand old now command reply
+  pub noted : new ≡ record now { entries = now.entries ++ Turned command reply ∷ [] }
 
 -- the line was answered: a seat's with what a pace asked for, where there is one
-abbrev pub NotesLine : Bool → PlayState → PlayState → List Entry → List Entry → Line → Type 0
-NotesLine paced old new before after (lines.Seat number command) = (asks : Option (ℕ → ℕ)) × (is_some asks ≡ paced) × NotesSeatLine asks old new before after number command
-NotesLine paced old new before after (lines.Turns command) = NotesTurns old new before after command
+abbrev pub NotesLine : Bool → PlayState → PlayState → Line → Type 0
+NotesLine paced old new (lines.Seat number command) = (asks : Option (ℕ → ℕ)) × (is_some asks ≡ paced) × NotesSeatLine asks old new number command
+NotesLine paced old new (lines.Turns command) = NotesTurns old new command
 
 -- so were these lines, one after another
-abbrev pub NotesLines : Bool → List Line → PlayState → PlayState → List Entry → List Entry → Type 0
-NotesLines paced [] old new before after = (new ≡ old) × (after ≡ before)
-NotesLines paced (line ∷ more) old new before after = (now : PlayState) × (between : List Entry) × NotesLine paced old now before between line × NotesLines paced more now new between after
-
--- the history has the heap's entries, and between them what the collector's commands were answered, each rightly
-pub record Follows (heap : Heap) (state : PlayState) (history : List Entry) : Type 0 where
-  pub of_heap : state.heap ≡ heap
-  pub same : without_turned history ≡ state.entries
-  pub right : AllAnswerRightly heap [] history
+abbrev pub NotesLines : Bool → List Line → PlayState → PlayState → Type 0
+NotesLines paced [] old new = new ≡ old
+NotesLines paced (line ∷ more) old new = (now : PlayState) × NotesLine paced old now line × NotesLines paced more now new
 
 -- the seat hasn't left
 abbrev pub IsThere : PlayState → ℕ → Type 0
@@ -84,36 +73,34 @@ pub record DoesFew (state : PlayState) (number calls : ℕ) : Type 0 where
   pub few_sets : (own_graph_seat (seat_state_of state number)).sets ≤ calls
 
 -- the seats are all there, and made no more objects than this and did no more sets
-pub record IsPlaying (heap : Heap) (state : PlayState) (history : List Entry) (calls : ℕ) : Type 0 where
-  pub follows : Follows heap state history
+pub record IsPlaying (heap : Heap) (state : PlayState) (calls : ℕ) : Type 0 where
+  pub of_heap : state.heap ≡ heap
   pub present : (number : ℕ) → number < heap.seats → IsThere state number
   pub few : (number : ℕ) → number < heap.seats → DoesFew state number calls
 
 -- the first seats have left, and the others are there
-pub record HaveLeft (heap : Heap) (state : PlayState) (before after : List Entry) (count : ℕ) : Type 0 where
-  pub follows : Follows heap state after
-  pub others : (number : ℕ) → count ≤ number → number < heap.seats → IsThere state number
-  pub gone : (number : ℕ) → number < count → has_left number state.entries ≡ true
+pub record HaveLeft (heap : Heap) (old new : PlayState) (count : ℕ) : Type 0 where
+  pub of_heap : new.heap ≡ heap
+  pub others : (number : ℕ) → count ≤ number → number < heap.seats → IsThere new number
+  pub gone : (number : ℕ) → number < count → has_left number new.entries ≡ true
   pub left : ℕ → ℕ
-  pub leaves : after ≡ before ++ flat_map (λ number. leave_entries number (left number)) (range_with_len 0 count)
+  pub leaves : new.entries ≡ old.entries ++ flat_map (λ number. leave_entries number (left number)) (range_with_len 0 count)
 
 -- every seat has left
 abbrev pub AllHaveLeft : PlayState → Type 0
 AllHaveLeft state = (number : ℕ) → number < state.heap.seats → has_left number state.entries ≡ true
 
--- turns were made up to the end of a cycle, which had begun before where one was under way, and their entries are noted behind those from before
-pub record NotesCycle (old new : PlayState) (before after : List Entry) : Type 0 where
+-- turns were made up to the end of a cycle, which had begun before where one was under way
+pub record NotesCycle (old new : PlayState) : Type 0 where
   pub same_heap : new.heap ≡ old.heap
   pub turned : List Entry
   pub told : new.entries ≡ old.entries ++ turned
-  pub noted : after ≡ before ++ turned
   pub ended : ReachesCycleEnd (phase old.entries % cycle_phases == rest) turned
   pub at_rest : phase new.entries % cycle_phases ≡ rest
 
--- a last cycle was made, and its entries are noted behind those from before
-pub record NotesLastCycle (old new : PlayState) (before after : List Entry) : Type 0 where
+-- a last cycle was made
+pub record NotesLastCycle (old new : PlayState) : Type 0 where
   pub same_heap : new.heap ≡ old.heap
   pub turned : List Entry
   pub told : new.entries ≡ old.entries ++ turned
-  pub noted : after ≡ before ++ turned
   pub cycle : IsLastCycle turned

@@ -1,14 +1,17 @@
-ghost use Rattle.std.specs.Prelude.{◌≡◌, ◌≢◌, ◌≤◌, ◌<◌, IfOk, OnOk, OnErr};
+ghost use Rattle.std.specs.Prelude.{◌≡◌, ◌≢◌, ◌≤◌, ◌<◌, ◌∷◌, ◌++◌, [], IfOk, OnOk, OnErr};
 ghost use Rattle.heap_model.specs.declared.command.Command.TheVariants.{Collect};
 ghost use Rattle.heap_model.specs.Heap.{IsHeap};
+ghost use Rattle.heap_model.specs.account.PhaseCounts.{phase};
 ghost use Rattle.heap_record.specs.Recorded.{StandsStill, MakesCall, MakesTurn};
 ghost use Rattle.heap_runs.specs.PlayHeap.{PlayState, IsPlayed, MayCall, AnswersOnce, AnswersCall, TakesTurn};
-ghost use Rattle.heap_runs.specs.MachineHeap.{play_state_of, IsFresh, CallsMachine};
+ghost use Rattle.heap_runs.specs.MachineHeap.{play_state_of, run_state_of, NotesRightly, IsFresh, CallsMachine};
 
 use crate::play_heap::PlayHeap;
 use core_machine::Machine;
 use core_rule::law_every_run;
-use heap_model::{CollectorCalls, Command, Entry, Heap, Memory, Reply, Turn};
+use heap_model::{
+    CollectorCalls, Command, Entry, Heap, Memory, Reply, Turn, TurnCommand, TurnReply, account_laws,
+};
 use heap_record::Recorder;
 use std::alloc::Global;
 use std::marker::Model;
@@ -23,13 +26,14 @@ pub struct MachineHeap {
 
 impl Model for MachineHeap {
     ghost use Rattle.heap_record.specs.Recorded.{Recorded};
-    ghost use Rattle.heap_runs.specs.MachineHeap.{IsBetweenCalls};
+    ghost use Rattle.heap_runs.specs.MachineHeap.{IsBetweenCalls, NotesRightly};
 
     ghost Value = { Recorded };
 
     ghost view = { λ whole. whole.recorder };
 
-    ghost invariant = { λ whole. IsBetweenCalls whole.recorder.machine.heap whole.recorder.machine.state whole.recorder.history };
+    ghost invariant = { λ whole. IsBetweenCalls whole.recorder.machine.heap whole.recorder.machine.state whole.recorder.history
+        × NotesRightly whole.recorder };
 }
 
 impl MachineHeap {
@@ -59,35 +63,39 @@ impl MachineHeap {
         Ok(())
     }
 
+    /// What was noted between the machine's entries.
+    fn known_noted(&self)
+        ensures { NotesRightly self.now }
+    {
+        let _ = &self.recorder;
+    }
+
     /// Makes a whole call of the seat, which is no collect.
     fn call_once(&mut self, seat: u8, command: &Command) -> Result<Reply, Memory>
-        requires may { MayCall (play_state_of self.old) seat command.now }
+        requires may { MayCall (run_state_of self.old) seat command.now }
         requires once { command.now ≢ Collect }
-        ensures answers { IfOk result (AnswersOnce (play_state_of self.old) (play_state_of self.new) seat command.now) }
+        ensures answers { IfOk result (AnswersOnce (run_state_of self.old) (run_state_of self.new) seat command.now) }
         ensures machine { IfOk result (MakesCall self.old self.new seat command.now) }
     {
         law_every_run();
-        let called = self.recorder.call(seat, command)?;
-        Ok(called.reply)
+        let reply = self.recorder.call(seat, command)?;
+        Ok(reply)
     }
 
     /// Makes a turn, for which there is room.
     fn make_turn(&mut self) -> Turn
         requires room { 2 ≤ self.old.spare }
-        ensures turn { TakesTurn (play_state_of self.old) (play_state_of self.new) result }
+        ensures turn { TakesTurn (run_state_of self.old) (run_state_of self.new) result }
         ensures machine { MakesTurn self.old self.new result }
     {
         law_every_run();
         self.recorder.turn()
     }
-}
 
-impl PlayHeap for MachineHeap {
-    ghost state = { play_state_of };
-
-    fn call(&mut self, seat: u8, command: &Command) -> Result<Reply, Memory>
-        requires may { MayCall (play_state_of self.old) seat command.now }
-        ensures answers { IfOk result (AnswersCall (play_state_of self.old) (play_state_of self.new) seat command.now) }
+    /// Makes a call of the seat: a collect, or another one.
+    fn call_run(&mut self, seat: u8, command: &Command) -> Result<Reply, Memory>
+        requires may { MayCall (run_state_of self.old) seat command.now }
+        ensures answers { IfOk result (AnswersCall (run_state_of self.old) (run_state_of self.new) seat command.now) }
         ensures machine { IfOk result (CallsMachine self.old self.new seat command.now) }
     {
         law_every_run();
@@ -99,13 +107,47 @@ impl PlayHeap for MachineHeap {
         Ok(reply)
     }
 
+    /// The phase by the machine's entries.
+    fn run_phase(&self) -> u64
+        ensures { result ≡ phase self.now.history }
+    {
+        self.recorder.phase()
+    }
+
+    /// Makes a turn, and the room for it.
+    fn take_turn(&mut self) -> Result<Turn, Memory>
+        ensures turn { IfOk result (TakesTurn (run_state_of self.old) (run_state_of self.new)) }
+        ensures memory { OnErr result (self.old.spare < 2) }
+        ensures machine { IfOk result (MakesTurn self.old self.new) }
+    {
+        self.make_ready()?;
+        Ok(self.make_turn())
+    }
+}
+
+impl PlayHeap for MachineHeap {
+    ghost state = { play_state_of };
+
+    fn call(&mut self, seat: u8, command: &Command) -> Result<Reply, Memory>
+        requires may { MayCall (play_state_of self.old) seat command.now }
+        ensures answers { IfOk result (AnswersCall (play_state_of self.old) (play_state_of self.new) seat command.now) }
+        ensures machine { IfOk result (CallsMachine self.old self.new seat command.now) }
+    {
+        self.known_noted();
+        let reply = self.call_run(seat, command)?;
+        self.known_noted();
+        Ok(reply)
+    }
+
     fn turn(&mut self) -> Result<Turn, Memory>
         ensures turn { IfOk result (TakesTurn (play_state_of self.old) (play_state_of self.new)) }
         ensures memory { OnErr result ((play_state_of self.old).spare < 2) }
         ensures machine { IfOk result (MakesTurn self.old self.new) }
     {
-        self.make_ready()?;
-        Ok(self.make_turn())
+        self.known_noted();
+        let turn = self.take_turn()?;
+        self.known_noted();
+        Ok(turn)
     }
 
     fn room(&mut self, n: usize) -> Result<(), Memory>
@@ -123,7 +165,8 @@ impl PlayHeap for MachineHeap {
     }
 
     fn phase(&self) -> u64 {
-        self.recorder.phase()
+        self.known_noted();
+        self.run_phase()
     }
 
     fn turns(&self) -> u64 {
@@ -132,6 +175,16 @@ impl PlayHeap for MachineHeap {
 
     fn entries(&self) -> &[Entry] {
         law_every_run();
+        account_laws();
         self.recorder.entries()
+    }
+
+    fn note_turned(&mut self, command: TurnCommand, reply: TurnReply) -> Result<(), Memory> {
+        self.recorder.note(Entry::Turned { command, reply })?;
+        Ok(())
+    }
+
+    fn into_entries(self) -> Vec<Entry> {
+        self.recorder.into_entries()
     }
 }

@@ -1,14 +1,16 @@
-ghost use Rattle.std.specs.Prelude.{◌≡◌, ◌≤◌, ◌<◌, length, IfOk, OnOk, OnErr};
+ghost use Rattle.std.specs.Prelude.{◌≡◌, ◌≤◌, ◌<◌, ◌∷◌, ◌++◌, [], length, IfOk, OnOk, OnErr};
+ghost use Rattle.heap_model.specs.declared.entry.Entry.TheVariants.{Turned};
+ghost use Rattle.heap_model.specs.account.Phases.{TurnShows};
 ghost use Rattle.heap_model.specs.account.PhaseCounts.{phase};
 ghost use Rattle.heap_runs.specs.PlayHeap.{PlayState, IsPlayed, collector_state_of, MayCall, AnswersCall, TakesTurn};
 
-use heap_model::{Command, Entry, Memory, Reply, Turn};
+use heap_model::{Command, Entry, Memory, Reply, Turn, TurnCommand, TurnReply};
 
 /// A heap that a play is made on: whole calls of its seats, one after another, and turns of its collector between them.
 /// After want of memory in a call or a turn it is only dropped.
 pub trait PlayHeap {
-    /// Its heap, the entries of all its parties, the room for more of the collector's, its turns, and a number which falls at
-    /// each turn that neither waits nor ends a cycle.
+    /// Its heap, the entries of all its parties with what was noted between them, the room for more of the collector's, its turns,
+    /// and a number which falls at each turn that neither waits nor ends a cycle.
     ghost state: { Self → PlayState };
 
     /// Makes a whole call of the seat, after which more turns may be left.
@@ -45,4 +47,13 @@ pub trait PlayHeap {
     fn entries(&self) -> &[Entry]
         ensures entries { result.now ≡ (state self.now).entries }
         ensures played { IsPlayed (state self.now).heap (state self.now).entries };
+
+    /// Notes behind its entries what a command of the collector was answered.
+    fn note_turned(&mut self, command: TurnCommand, reply: TurnReply) -> Result<(), Memory>
+        requires shows { TurnShows (state self.old).heap (state self.old).entries reply }
+        ensures noted { OnOk result (state self.new ≡ record (state self.old) { entries = (state self.old).entries ++ Turned command reply ∷ [] }) };
+
+    /// Its entries alone, for which no memory is taken.
+    fn into_entries(self) -> Vec<Entry>
+        ensures { result.items ≡ (state self).entries };
 }

@@ -6,100 +6,94 @@ ghost use Rattle.heap_runs.specs.PlayHeap.{MayCall};
 ghost use Rattle.heap_runs.specs.Playing.{NotesSeatLine, NotesLines, IsPlaying, HaveLeft, AllHaveLeft, NotesLastCycle};
 
 use crate::play_heap::PlayHeap;
-use crate::playing::noting::{note_call, note_cycle, note_slack, note_turns};
+use crate::playing::noting::{claimed_since, note_cycle, note_slack, note_turns};
 use crate::playing::use_count::{in_use, words_in_use};
 use core_rule::law_sweep_exact;
 use heap_model::limits::GROUP_FRAGMENTS;
 use heap_model::phase_plan::{CYCLE_PHASES, REST};
-use heap_model::{Command, Entry, Heap, Memory, account_laws, seat_laws};
+use heap_model::{Command, Heap, Memory, seat_laws};
 use reply_text::{History, SpaceMark};
 use script_text::{Form, Line, Script, Sequence};
 use slack_pace::Pace;
-use std::alloc::Global;
 
 mod noting;
 mod use_count;
 
-/// Makes a whole call of the seat, with a pace also the turns that it asks for by what the call claimed, and notes what is told.
+/// Makes a whole call of the seat, with a pace also the turns that it asks for by what the call claimed.
 fn answer_seat_line<H: PlayHeap + Drop>(
     mut whole: H,
-    history: &mut Vec<Entry>,
     seat: u8,
     command: &Command,
     pace: &mut Option<Box<dyn Pace>>,
 ) -> Result<H, Memory>
     requires { MayCall (H.state whole) seat command.now }
-    ensures notes { IfOk result (λ now. NotesSeatLine (option_map (λ pace. asks pace) pace.old) (H.state whole) (H.state now) history.old.items history.new.items seat command.now) }
+    ensures notes { IfOk result (λ now. NotesSeatLine (option_map (λ pace. asks pace) pace.old) (H.state whole) (H.state now) seat command.now) }
     ensures pace { is_some pace.new ≡ is_some pace.old }
 {
-    let claimed = note_call(&mut whole, history, seat, command)?;
+    let before = whole.entries().len();
+    whole.call(seat, command)?;
     match pace {
-        Some(pace) => note_slack(whole, history, pace, claimed),
+        Some(pace) => {
+            let claimed = claimed_since(&whole, before);
+            note_slack(whole, pace, claimed)
+        }
         None => Ok(whole),
     }
 }
 
 /// Answers the lines of the script on a heap without entries, with a pace also makes the turns that it asks for behind each line of
-/// a seat, and notes what is told.
+/// a seat.
 fn answer_lines<H: PlayHeap + Drop>(
     mut whole: H,
-    history: &mut Vec<Entry>,
     script: &Script,
     mut pace: Option<Box<dyn Pace>>,
 ) -> Result<H, Memory>
     requires form { IsOfForm Play script.now }
     requires heap { (H.state whole).heap ≡ script.now.heap }
     requires fresh { (H.state whole).entries ≡ [] }
-    requires nothing { history.old.items ≡ [] }
-    ensures plays { IfOk result (λ now. IsPlaying script.now.heap (H.state now) history.new.items (length script.now.lines)) }
-    ensures notes { IfOk result (λ now. NotesLines (is_some pace) script.now.lines (H.state whole) (H.state now) history.old.items history.new.items) }
-    ensures answered { OnOk result (StandForLines (is_some pace) [] script.now.lines history.new.items) }
+    ensures plays { IfOk result (λ now. IsPlaying script.now.heap (H.state now) (length script.now.lines)) }
+    ensures notes { IfOk result (λ now. NotesLines (is_some pace) script.now.lines (H.state whole) (H.state now)) }
+    ensures answered { IfOk result (λ now. StandForLines (is_some pace) [] script.now.lines (H.state now).entries) }
 {
-    account_laws();
     seat_laws();
     for line in script.lines.as_slice() {
         match *line {
             Line::Seat { seat, command } => {
-                whole = answer_seat_line(whole, history, seat, &command, &mut pace)?;
+                whole = answer_seat_line(whole, seat, &command, &mut pace)?;
             }
-            Line::Turns { command } => note_turns(&mut whole, history, &command)?,
+            Line::Turns { command } => note_turns(&mut whole, &command)?,
         }
     }
     Ok(whole)
 }
 
-/// Lets each seat give back what it has left over and leave, in the order of their numbers, and notes what is told.
-fn leave_all<H: PlayHeap>(
-    whole: &mut H,
-    history: &mut Vec<Entry>,
-    script: &Script,
-) -> Result<(), Memory>
-    requires { IsPlaying script.now.heap (H.state whole.old) history.old.items (length script.now.lines) }
-    ensures { OnOk result (HaveLeft script.now.heap (H.state whole.new) history.old.items history.new.items script.now.heap.seats) }
+/// Lets each seat give back what it has left over and leave, in the order of their numbers.
+fn leave_all<H: PlayHeap>(whole: &mut H, script: &Script) -> Result<(), Memory>
+    requires { IsPlaying script.now.heap (H.state whole.old) (length script.now.lines) }
+    ensures { OnOk result (HaveLeft script.now.heap (H.state whole.old) (H.state whole.new) script.now.heap.seats) }
 {
     seat_laws();
     for seat in 0..script.heap.seats {
-        note_call(whole, history, seat, &Command::Leave)?;
+        whole.call(seat, &Command::Leave)?;
     }
     Ok(())
 }
 
-/// Brings the cycle under way to its end, if there is one, makes a whole one behind it, and notes what is told.
-fn make_last_cycle<H: PlayHeap>(whole: &mut H, history: &mut Vec<Entry>) -> Result<(), Memory>
+/// Brings the cycle under way to its end, if there is one, and makes a whole one behind it.
+fn make_last_cycle<H: PlayHeap>(whole: &mut H) -> Result<(), Memory>
     requires gone { AllHaveLeft (H.state whole.old) }
-    ensures notes { OnOk result (NotesLastCycle (H.state whole.old) (H.state whole.new) history.old.items history.new.items) }
+    ensures notes { OnOk result (NotesLastCycle (H.state whole.old) (H.state whole.new)) }
 {
     if whole.phase() % CYCLE_PHASES != REST {
-        note_cycle(whole, history)?;
+        note_cycle(whole)?;
     }
-    note_cycle(whole, history)?;
+    note_cycle(whole)?;
     Ok(())
 }
 
 /// The history of a play of the script on the heap, which is the script's. At its end nothing is in use.
 /// With a pace, the collector makes the turns that it asks for behind each line of a seat.
 pub fn play<H: PlayHeap + Drop>(
-    alloc: Global,
     whole: H,
     heap: Heap,
     script: &Script,
@@ -111,24 +105,22 @@ pub fn play<H: PlayHeap + Drop>(
     requires form { IsOfForm Play script.now }
     ensures { IfOk result (IsPlay (is_some pace) script.now) }
 {
-    account_laws();
     law_sweep_exact();
-    let mut history = Vec::new(alloc);
-    let mut whole = answer_lines(whole, &mut history, script, pace)?;
+    let mut whole = answer_lines(whole, script, pace)?;
     let mark = SpaceMark {
-        before: history.len(),
+        before: whole.entries().len(),
         used: in_use(&heap, whole.entries()),
         total: u64::from(GROUP_FRAGMENTS) * u64::from(heap.groups),
         spine: words_in_use(&heap, whole.entries()),
         budget: u64::from(heap.spine),
     };
-    leave_all(&mut whole, &mut history, script)?;
-    make_last_cycle(&mut whole, &mut history)?;
+    leave_all(&mut whole, script)?;
+    make_last_cycle(&mut whole)?;
     Ok(History {
         form: Form::Play,
         heap,
         end_used: in_use(&heap, whole.entries()),
-        entries: Sequence::from_vec(history),
+        entries: Sequence::from_vec(whole.into_entries()),
         mark: Some(mark),
     })
 }

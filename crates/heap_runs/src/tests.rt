@@ -31,7 +31,7 @@ fn plays_on_the_machine(rt: HostRuntime) -> Result<(), Fail> {
         "schism 1\nheap 1 0 1\nc turns 2\n0 new 1 2\nc turns 3\n0 poll\n",
     )?;
     let whole = MachineHeap::make(alloc, script.heap)?;
-    let history = play(alloc, whole, script.heap, &script, None)?;
+    let history = play(whole, script.heap, &script, None)?;
     let text = render_history(alloc, &history)?;
     let wanted =
         "history 1 play\nheap 1 0 1\nc phase 1\nc turns 2 = done\n0 takes 5\n0 new 1 2 = 0.0\nc turns 3 = waits 0 answered 0 phase 1\n0 answers 1\n0 poll = 1\nspace used 16 of 16 spine 0 of 0\n0 gives back 4\n0 leave = ok\nc phase 2\nc phase 3\nc phase 4\nc phase 5\nc frees 12\nc phase 6\nc ends 0 kept 0\nc phase 8\nc phase 9\nc phase 10\nc phase 11\nc phase 12\nc phase 13\nc ends 1 kept 0\nend used 0\n";
@@ -92,10 +92,7 @@ fn plays_on_a_growing_graph(rt: HostRuntime) -> Result<(), Fail> {
         "schism 1\nheap 1 0 2\n0 num 1 5\nc turns 3\n1 copy 2 0\n0 nil 1\n",
     )?;
     let whole = Growing::new(alloc, script.heap)?;
-    assert_eq!(rt;
-        play(alloc, whole, script.heap, &script, None).err(),
-        Some(Memory)
-    );
+    assert_eq!(rt; play(whole, script.heap, &script, None).err(), Some(Memory));
     Ok(())
 }
 

@@ -1,5 +1,5 @@
 -- A run from what was given, and how it goes on.
-use Rattle.std.proofs.Common.{◌≡◌, ℕ, List, [], length, ap, ◌∙◌}
+use Rattle.std.proofs.Common.{◌≡◌, ℕ, List, [], ◌++◌, length, sym, ap, ◌∙◌}
 use Rattle.heap_model.specs.declared.calls.collect.Inner.{Inner}
 use Rattle.heap_model.specs.declared.calls.collector_calls.Turn.{Turn}
 use Rattle.heap_model.specs.declared.command.Command.{Command}
@@ -34,15 +34,39 @@ module _ (given : Given) (recorded : Recorded) (run : IsRunFrom given recorded) 
   run_of = rw (← run.of_heap, ← run.led.are) (record { events = run.led.events; run = run.led.run; ends = run.led.ends; shown = run.led.shown })
 
 module _ (given : Given) (old new : Recorded) (run : IsRunFrom given old) where
+  -- nothing is noted where both lists have the same more
+  both_more : (added : List Entry) → new.listed ≡ old.listed ++ added → new.history ≡ old.history ++ added → new.listed ≡ new.history
+  both_more added listed grown = listed ∙ ap (λ (l : List Entry). l ++ added) run.plain ∙ sym grown
+
   pub run_call : (number : ℕ) (command : Command) (reply : Reply) → MakesCall old new number command reply → IsRunFrom given new
   run_call number command reply makes =
-      record { given_right = run.given_right; of_heap = makes.same_heap ∙ run.of_heap; led = led_call (OpensAs given) old new run.led number command reply makes run.led.are }
+      record {
+        given_right = run.given_right;
+        of_heap = makes.same_heap ∙ run.of_heap;
+        led = led_call (OpensAs given) old new run.led number command reply makes run.led.are;
+        plain = both_more _ makes.listed makes.noted;
+      }
 
   pub run_inner : (number : ℕ) (inner : Inner) → MakesInner old new number inner → IsRunFrom given new
-  run_inner number inner makes = record { given_right = run.given_right; of_heap = makes.same_heap ∙ run.of_heap; led = led_inner (OpensAs given) old new run.led number inner makes run.led.are }
+  run_inner number inner makes = record {
+    given_right = run.given_right;
+    of_heap = makes.same_heap ∙ run.of_heap;
+    led = led_inner (OpensAs given) old new run.led number inner makes run.led.are;
+    plain = both_more _ makes.listed makes.noted;
+  }
 
   pub run_turn : (turn : Turn) → MakesTurn old new turn → IsRunFrom given new
-  run_turn turn makes = record { given_right = run.given_right; of_heap = makes.same_heap ∙ run.of_heap; led = led_turn (OpensAs given) old new run.led turn makes run.led.are }
+  run_turn turn makes = record {
+    given_right = run.given_right;
+    of_heap = makes.same_heap ∙ run.of_heap;
+    led = led_turn (OpensAs given) old new run.led turn makes run.led.are;
+    plain = both_more _ makes.listed makes.noted;
+  }
 
   pub run_still : StandsStill old new → IsRunFrom given new
-  run_still still = record { given_right = run.given_right; of_heap = still.heap_stays ∙ run.of_heap; led = led_still (OpensAs given) old new run.led still }
+  run_still still = record {
+    given_right = run.given_right;
+    of_heap = still.heap_stays ∙ run.of_heap;
+    led = led_still (OpensAs given) old new run.led still;
+    plain = still.listed_stays ∙ run.plain ∙ sym still.history_stays;
+  }

@@ -1,5 +1,5 @@
 -- What is owed after a leave, an inner call or a turn: these claim nothing.
-use Rattle.std.proofs.Common.{◌≡◌, ℕ, ◌^◌, ◌<◌, ◌==◌, if◌then◌else◌, Bool, true, false, List, [], ◌∷◌, ◌++◌, length, drop, refl, sym, ap, subst, ◌∙◌, append_assoc, arith}
+use Rattle.std.proofs.Common.{◌≡◌, ℕ, ◌+◌, ◌-◌, ◌^◌, ◌<◌, min, ◌==◌, if◌then◌else◌, Bool, true, false, List, [], ◌∷◌, ◌++◌, length, drop, refl, sym, ap, subst, ◌∙◌, append_assoc, arith}
 use Rattle.std.specs.List.{AllByRecursion}
 use Rattle.std.specs.Prelude.{Result, Ok, Err, OnErr}
 use Rattle.std.proofs.Math.Seq.{drop-append_seam}
@@ -11,6 +11,7 @@ use Rattle.heap_model.specs.account.Space.{total}
 use Rattle.heap_model.specs.declared.calls.collect.Inner.{Inner}
 use Rattle.heap_model.specs.declared.calls.collect.Inner.TheVariants as inners
 use Rattle.heap_model.specs.declared.calls.collector_calls.Turn.{Turn}
+use Rattle.heap_model.specs.declared.command.Command.{Command}
 use Rattle.heap_model.specs.declared.command.Command.TheVariants.{Leave}
 use Rattle.heap_model.specs.declared.entry.Entry.{Entry}
 use Rattle.heap_model.specs.declared.entry.Entry.TheVariants as entries
@@ -22,7 +23,7 @@ use Rattle.core_machine.specs.machine.Machine.{seat_at, Turns}
 use Rattle.core_machine.specs.machine.Machine as machines
 use Rattle.core_machine.specs.table.Layout.{at}
 use Rattle.locked_heap.specs.Locked.{LockedValue, OwesMore, OwesNoMore}
-use Rattle.heap_record.specs.Recorded.{Recorded, StandsStill, MakesCall, MakesInner, MakesTurn}
+use Rattle.heap_record.specs.Recorded.{Recorded, StandsStill, MakesCall, MakesInner, MakesTurn, claimed_by}
 
 abbrev claimed : List Entry → ℕ
 claimed told = total (λ e. e.taken) told
@@ -52,6 +53,15 @@ inner_claims heap words number answered (inners.Note reply) = refl
 gives_claim : (none : Bool) (number unborn : ℕ) → claimed (if none then [] else entries.GivesBack number unborn ∷ []) ≡ 0
 gives_claim true number unborn = refl
 gives_claim false number unborn = refl
+
+-- what a call claimed is owed more
+pub owes_call : (old new : Recorded) (told : List Entry) (taken was owed number : ℕ) (command : Command) (reply : Reply) → MakesCall old new number command reply → told ≡ drop (length old.listed) new.listed
+    → taken ≡ claimed_by told → owed ≡ min (was + taken) (2 ^ 64 - 1) → owed ≡ min (was + total (λ e. e.taken) (drop (length old.history) new.history)) (2 ^ 64 - 1)
+owes_call old new told taken was owed number command reply makes is counted owed_is =
+    let added : List Entry = makes.call.before ++ entries.Said number command reply ∷ [] in
+    let told_is : told ≡ added = is ∙ ap (drop (length old.listed)) makes.listed ∙ drop-append_seam old.listed added in
+    let since : drop (length old.history) new.history ≡ added = ap (drop (length old.history)) makes.noted ∙ drop-append_seam old.history added in
+    omega (arith, owed_is, counted, ap claimed told_is, ap claimed since)
 
 -- where nothing was told nothing more is owed
 pub owes_still : (was old new : LockedValue) → was ≡ old → new.recorded.history ≡ was.recorded.history → new.owed ≡ was.owed → OwesNoMore old new

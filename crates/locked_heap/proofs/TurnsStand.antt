@@ -14,7 +14,7 @@ use Rattle.locked_heap.proofs.Parting.{not_parted}
 use Rattle.locked_heap.proofs.TellsNone.{none_collectors}
 
 stands_same : (recorded : Recorded) → StandsStill recorded recorded
-stands_same recorded = record { heap_stays = refl; state_stays = refl; history_stays = refl; turns_stay = refl; last_stays = refl }
+stands_same recorded = record { heap_stays = refl; state_stays = refl; history_stays = refl; listed_stays = refl; turns_stay = refl; last_stays = refl }
 
 -- nothing but turns was made where turns were, one after another
 onward_on : (n : ℕ) (old new : Recorded) → MakesOnward MakesTurn n old new → TurnsOn old new

@@ -104,11 +104,12 @@ paid_counted patience replies finds found is paid = paid_still patience replies 
 -- so it is the run that was asked for
 pub whole_run : EveryRunKeeps → WordsAreUsed → WaitsAreFinds → EachLastCycleEmpties → (given : Given) (old : LockedValue) (new : Recorded) (ran : LockedRan)
     → IsRunFrom given old.recorded → AllHaveCome given old.recorded.history old.recorded.machine.state old.seats → AllGone given old.seats → IsParted given old.recorded.history old.seats
-    → EndsWhole old.recorded new → ran.history.items ≡ new.history → ran.end_used ≡ 0
+    → EndsWhole old.recorded new → ran.history.items ≡ new.listed → ran.end_used ≡ 0
     → ran.waits.items ≡ map (λ (number : ℕ). (seat_at old.recorded.machine.state number).looks.waits) (range_with_len 0 given.heap.seats) → IsRun given ran
-whole_run runs words finds empties given old new ran one all gone parted ends history_is none counts =
+whole_run runs words finds empties given old new ran one all gone parted ends listed_is none counts =
     let told = new.history in
     let two = ends.on.runs given one in
+    let history_is : ran.history.items ≡ told = listed_is ∙ two.plain in
     let way = run_of given new two in
     let legal = legal_told runs given new two in
     let last = ends_empty runs given old new one all gone parted ends legal in

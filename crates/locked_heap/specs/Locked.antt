@@ -27,11 +27,12 @@ use Rattle.heap_model.specs.runs.Told.{EndsWithLeave}
 abbrev pub OpensAs : Given → Heap → State → List Event → Type 0
 OpensAs given heap opening events = opening ≡ given.opening
 
--- a run from what was given led to the machine and its history
+-- a run from what was given led to the machine and its history, between whose entries nothing was noted
 pub record IsRunFrom (given : Given) (recorded : Recorded) : Type 0 where
   pub given_right : IsGiven given
   pub of_heap : recorded.machine.heap ≡ given.heap
   pub led : EventsLeadTo (OpensAs given) recorded.machine.heap recorded.machine.state recorded.history
+  pub plain : recorded.listed ≡ recorded.history
 
 -- the machine with its history, how far each seat has come, how many fragments were claimed since the collector last made its slack, and whether the seats' workers
 -- have returned

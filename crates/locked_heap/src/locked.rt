@@ -9,7 +9,7 @@ use crate::progress::Progress;
 use core_machine::Machine;
 use core_rule::law_every_run;
 use heap_model::{Command, Memory};
-use heap_record::Recorder;
+use heap_record::{Recorder, claimed};
 use std::alloc::Global;
 use std::marker::{Model, PhantomData};
 
@@ -95,8 +95,10 @@ impl<N: Handed> Locked<N> {
         ensures still { OnErr result (OwesNoMore self.old self.new) }
     {
         law_every_run();
-        let called = self.recorder.call(seat, command)?;
-        self.owed = self.owed.saturating_add(called.claimed);
+        let first = self.recorder.entries().len();
+        self.recorder.call(seat, command)?;
+        let (_, told) = self.recorder.entries().split_at(first);
+        self.owed = self.owed.saturating_add(claimed(told));
         let progress = self.seats[seat as usize];
         self.seats[seat as usize] = Progress {
             place: progress.place + 1,

@@ -60,7 +60,7 @@ fn played_text(
 {
     let script = script_of(alloc, input, Form::Play)?;
     let whole = MachineHeap::make(alloc, script.heap)?;
-    let history = play(alloc, whole, script.heap, &script, pace)?;
+    let history = play(whole, script.heap, &script, pace)?;
     let text = told_text(alloc, &history, brief)?;
     Ok(text)
 }

@@ -26,7 +26,7 @@ impl CollectorCalls for Recorder {
         let before = self.machine.log(collector).len();
         let turn = self.machine.play_turn();
         note_since(
-            &mut self.history,
+            &mut self.entries,
             &mut self.spare,
             &self.machine,
             collector,
@@ -47,7 +47,7 @@ impl CollectorCalls for Recorder {
     {
         let collector = self.machine.heap().seats;
         self.machine.room(collector, n)?;
-        self.history.reserve(n)?;
+        self.entries.reserve(n)?;
         self.spare = self.spare.max(n);
         Ok(())
     }

@@ -1,7 +1,7 @@
 ghost use Rattle.std.specs.Prelude.{◌≡◌, IfOk};
 ghost use Rattle.core_machine.specs.seat.Looks.{noted_reply};
 ghost use Rattle.heap_runs.specs.PlayHeap.{AnswersCollect};
-ghost use Rattle.heap_runs.specs.MachineHeap.{play_state_of, IsBetweenCalls, CollectsMachine};
+ghost use Rattle.heap_runs.specs.MachineHeap.{run_state_of, IsBetweenCalls, CollectsMachine};
 ghost use Rattle.heap_record.specs.Recorded.{MakesInner};
 ghost use Rattle.heap_runs.specs.Collecting.{MayGoOn, IsStillThere, EndsFor, EndsWholeFor, seen_by};
 
@@ -64,7 +64,7 @@ impl MachineHeap {
         law_every_run();
         self.known();
         'turns: loop {
-            match self.turn()? {
+            match self.take_turn()? {
                 Turn::Stepped => self.known(),
                 Turn::Waits {
                     seat: other,
@@ -92,7 +92,7 @@ impl MachineHeap {
         requires present { IsStillThere self.old seat }
         ensures ends { IfOk result (EndsWholeFor self.old self.new seat) }
     {
-        if self.phase() % CYCLE_PHASES == REST {
+        if self.run_phase() % CYCLE_PHASES == REST {
             let came = self.end_for(seat)?;
             return Ok(came);
         }
@@ -116,7 +116,7 @@ impl MachineHeap {
     /// Makes a whole collect of the seat, for which it makes the turns itself.
     pub fn collect(&mut self, seat: u8) -> Result<Reply, Memory>
         requires present { IsStillThere self.old seat }
-        ensures answers { IfOk result (AnswersCollect (play_state_of self.old) (play_state_of self.new) seat) }
+        ensures answers { IfOk result (AnswersCollect (run_state_of self.old) (run_state_of self.new) seat) }
         ensures machine { IfOk result (λ reply. CollectsMachine self.old self.new seat) }
     {
         law_every_run();

@@ -5,7 +5,7 @@ ghost use Rattle.heap_model.specs.Heap.{IsHeap};
 ghost use Rattle.heap_runs.specs.Growing.{is_plain};
 
 use crate::PlayHeap;
-use heap_model::{Command, Entry, Graph, Heap, Memory, Reply, Turn};
+use heap_model::{Command, Entry, Graph, Heap, Memory, Reply, Turn, TurnCommand, TurnReply};
 use std::alloc::Global;
 use std::marker::Model;
 
@@ -126,5 +126,15 @@ impl PlayHeap for Growing {
 
     fn entries(&self) -> &[Entry] {
         &self.entries
+    }
+
+    fn note_turned(&mut self, command: TurnCommand, reply: TurnReply) -> Result<(), Memory> {
+        self.entries.reserve(1)?;
+        note(&mut self.entries, Entry::Turned { command, reply });
+        Ok(())
+    }
+
+    fn into_entries(self) -> Vec<Entry> {
+        self.entries
     }
 }

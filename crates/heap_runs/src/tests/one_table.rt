@@ -271,7 +271,7 @@ fn one_table_tells_what_the_machine_tells(rt: HostRuntime) -> Result<(), Fail> {
         let script = script_of(alloc, text.as_str())?;
         let told = told_by_one_table(alloc, &script)?;
         let whole = MachineHeap::make(alloc, script.heap)?;
-        let history = play(alloc, whole, script.heap, &script, None)?;
+        let history = play(whole, script.heap, &script, None)?;
         let entries = history.entries.as_slice();
         assert!(rt; are_those_of(told.as_slice(), entries), "{lines}");
     }

@@ -60,7 +60,7 @@ fn plays_with_a_pace(rt: HostRuntime) -> Result<(), Fail> {
     )?;
     let whole = MachineHeap::make(alloc, script.heap)?;
     let pace: Box<dyn Pace> = Box::new(alloc, Fixed(2))?;
-    let history = play(alloc, whole, script.heap, &script, Some(pace))?;
+    let history = play(whole, script.heap, &script, Some(pace))?;
     let text = render_history(alloc, &history)?;
     let wanted =
         "history 1 play\nheap 1 0 1\n0 takes 5\n0 new 1 2 = 0.0\nc phase 1\nc turns 1 = waits 0 answered 0 phase 1\n0 answers 1\n0 poll = 1\nc phase 2\nspace used 16 of 16 spine 0 of 0\n0 gives back 4\n0 leave = ok\nc phase 3\nc phase 4\nc phase 5\nc frees 12\nc phase 6\nc ends 0 kept 0\nc phase 8\nc phase 9\nc phase 10\nc phase 11\nc phase 12\nc phase 13\nc ends 1 kept 0\nend used 0\n";

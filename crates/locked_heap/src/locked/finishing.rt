@@ -97,7 +97,7 @@ impl<N: Handed> Locked<N> {
         let mut recorder = self.recorder;
         end_whole_cycle(rt, &mut recorder)?;
         Ok(LockedRan {
-            history: recorder.into_history(),
+            history: recorder.into_entries(),
             end_used: 0,
             waits,
         })

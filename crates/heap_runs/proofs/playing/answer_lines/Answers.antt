@@ -10,16 +10,16 @@ use Rattle.heap_runs.proofs.playing.answer_lines.Goals.{in-Seat+in_ok-whole-in-S
 
 pub loop-line-init : goal.loop-line-init
 loop-line-init g c = record {
-  plays = plays_none c.args.script.now.heap (g.H.PlayHeap.state c.args.whole) c.args.history.now.items c.requires.heap c.requires.fresh c.requires.nothing;
-  notes = (refl, refl);
-  answered = no_lines (is_some c.args.pace) c.args.history.now.items c.requires.nothing;
+  plays = plays_none c.args.script.now.heap (g.H.PlayHeap.state c.args.whole) c.requires.heap c.requires.fresh;
+  notes = refl;
+  answered = no_lines (is_some c.args.pace) (g.H.PlayHeap.state c.args.whole).entries c.requires.fresh;
   pace = refl;
 }
 
 pub answer_seat_line-requires : goal.answer_seat_line-requires
 answer_seat_line-requires g c =
     let now = c.loop-line in
-    (next_call c.args.script.now c.as_slice-line-items.result.now now.line-index _ c.in-Seat.seat c.in-Seat.command (g.H.PlayHeap.state now.whole) now.history.items c.as_slice-line-items.ensures c.requires.form
+    (next_call c.args.script.now c.as_slice-line-items.result.now now.line-index _ c.in-Seat.seat c.in-Seat.command (g.H.PlayHeap.state now.whole) c.as_slice-line-items.ensures c.requires.form
     (omega (arith, c.loop-line-test.true)) c.in-Seat.is now.invariant.plays).may
 
 pub loop-line-preserved : goal.loop-line-preserved
@@ -37,29 +37,25 @@ loop-line-preserved g c =
       | in-Seat+in_ok-whole-in-Seat w ↦
           let line = w.in-Seat in
           let new : PlayState = g.H.PlayHeap.state w.in_ok-whole-in-Seat.whole in
-          let after = w.answer_seat_line.new.history.items in
           let notes = w.in_ok-whole-in-Seat.ensures.notes in
           let is = some_mapped _ now.pace ∙ now.invariant.pace in
-          let next = next_call script items now.line-index _ line.seat line.command old now.history.items all c.requires.form below line.is now.invariant.plays in
-          rw (w.whole-is, w.history-is, w.pace-is, read_more script items now.line-index _ (lines.Seat line.seat line.command) all c.requires.form below line.is)
+          let next = next_call script items now.line-index _ line.seat line.command old all c.requires.form below line.is now.invariant.plays in
+          rw (w.whole-is, w.pace-is, read_more script items now.line-index _ (lines.Seat line.seat line.command) all c.requires.form below line.is)
           (record {
-            plays = plays_line laws.counts laws.others _ script.heap old new now.history.items after line.seat line.command notes now.line-index next.stays now.invariant.plays;
-            notes = notes_more paced (take now.line-index items) (lines.Seat line.seat line.command) first old new c.args.history.now.items now.history.items after now.invariant.notes (_, is, notes);
-            answered = lines_then paced (take now.line-index items) (lines.Seat line.seat line.command) now.history.items after now.invariant.answered
-                (call_stands _ paced script.heap old new now.history.items after line.seat line.command is notes now.invariant.plays.follows);
+            plays = plays_line laws.counts laws.others _ script.heap old new line.seat line.command notes now.line-index next.stays now.invariant.plays;
+            notes = notes_more paced (take now.line-index items) (lines.Seat line.seat line.command) first old new now.invariant.notes (_, is, notes);
+            answered = lines_then paced (take now.line-index items) (lines.Seat line.seat line.command) old new now.invariant.answered (call_stands _ paced old new line.seat line.command is notes);
             pace = w.in_ok-whole-in-Seat.ensures.pace ∙ now.invariant.pace;
           })
       | in-Turns+in_ok-note_turns-in-Turns w ↦
           let line = w.in-Turns in
           let new : PlayState = g.H.PlayHeap.state w.note_turns.new.whole in
-          let after = w.note_turns.new.history.items in
           let notes = w.in_ok-note_turns-in-Turns.ensures.notes in
-          rw (w.whole-is, w.history-is, w.pace-is, read_more script items now.line-index _ (lines.Turns line.command) all c.requires.form below line.is)
+          rw (w.whole-is, w.pace-is, read_more script items now.line-index _ (lines.Turns line.command) all c.requires.form below line.is)
           (record {
-            plays = plays_turns c.account_laws.ensures.behind script.heap old new now.history.items after line.command notes now.line-index now.invariant.plays;
-            notes = notes_more paced (take now.line-index items) (lines.Turns line.command) first old new c.args.history.now.items now.history.items after now.invariant.notes notes;
-            answered = lines_then paced (take now.line-index items) (lines.Turns line.command) now.history.items after now.invariant.answered
-                (turns_stand paced old new now.history.items after line.command notes);
+            plays = plays_turns script.heap old new line.command notes now.line-index now.invariant.plays;
+            notes = notes_more paced (take now.line-index items) (lines.Turns line.command) first old new now.invariant.notes notes;
+            answered = lines_then paced (take now.line-index items) (lines.Turns line.command) old new now.invariant.answered (turns_stand paced old new line.command notes);
             pace = now.invariant.pace;
           })
     ]

@@ -6,8 +6,8 @@ use Rattle.heap_runs.proofs.playing.answer_lines.Given as goal
 -- the lines so far are answered
 abbrev pub invariant-loop-line : goal.invariant-loop-line
 invariant-loop-line g l = record {
-  plays : IsPlaying l.script.heap (g.H.PlayHeap.state l.whole) l.history.items l.line-index;
-  notes : NotesLines (is_some l.fn.pace) (take l.line-index l.line-items) (g.H.PlayHeap.state l.fn.whole) (g.H.PlayHeap.state l.whole) l.fn.history.items l.history.items;
-  answered : StandForLines (is_some l.fn.pace) [] (take l.line-index l.line-items) l.history.items;
+  plays : IsPlaying l.script.heap (g.H.PlayHeap.state l.whole) l.line-index;
+  notes : NotesLines (is_some l.fn.pace) (take l.line-index l.line-items) (g.H.PlayHeap.state l.fn.whole) (g.H.PlayHeap.state l.whole);
+  answered : StandForLines (is_some l.fn.pace) [] (take l.line-index l.line-items) (g.H.PlayHeap.state l.whole).entries;
   pace : is_some l.pace ≡ is_some l.fn.pace;
 }

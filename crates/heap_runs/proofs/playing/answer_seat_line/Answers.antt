@@ -1,23 +1,33 @@
+use Rattle.std.proofs.Common.{List, length, drop, ap, ◌∙◌, length-append, arith}
 use Rattle.std.proofs.lemmas.Result.{IfOk-weaker}
+use Rattle.heap_model.specs.declared.entry.Entry.{Entry}
+use Rattle.heap_record.specs.Recorded.{claimed_by}
 use Rattle.heap_runs.specs.PlayHeap.{PlayState}
 use Rattle.heap_runs.proofs.Slacking.{bare_line, claimed_is, slack_line}
+use Rattle.heap_runs.proofs.Told.{call_noted}
 use Rattle.heap_runs.proofs.playing.answer_seat_line.Goals as goal
+
+pub claimed_since-claimed-requires : goal.claimed_since-claimed-requires
+claimed_since-claimed-requires g c =
+    let old : PlayState = g.H.PlayHeap.state c.args.whole in
+    let now : PlayState = g.H.PlayHeap.state c.call.new.self in
+    let call = call_noted old now c.args.seat c.args.command.now c.in_ok-call.field-0 c.in_ok-call.ensures.answers in
+    omega (arith, ap (length {A = Entry}) c.entries-before.ensures.entries, ap (length {A = Entry}) call.told, length-append old.entries call.added)
 
 pub returns-in-Some-clause-notes : goal.returns-in-Some-clause-notes
 returns-in-Some-clause-notes g c =
     let old : PlayState = g.H.PlayHeap.state c.args.whole in
-    let now : PlayState = g.H.PlayHeap.state c.note_call.new.whole in
-    let before = c.args.history.now.items in
-    let between = c.note_call.new.history.items in
-    let call = c.in_ok-claimed.ensures.notes in
-    let claimed = claimed_is old now before between c.args.seat c.args.command.now call c.in_ok-claimed.claimed c.in_ok-claimed.ensures.claims in
+    let now : PlayState = g.H.PlayHeap.state c.call.new.self in
+    let call = call_noted old now c.args.seat c.args.command.now c.in_ok-call.field-0 c.in_ok-call.ensures.answers in
+    let claimed = claimed_is old now c.args.seat c.args.command.now call c.claimed_since-claimed.result
+    (c.claimed_since-claimed.ensures ∙ ap (λ (l : List Entry). claimed_by (drop (length l) now.entries)) c.entries-before.ensures.entries) in
     rw c.in-Some.is
     (IfOk-weaker c.note_slack.result _ _
-    (λ new notes. slack_line old now before between c.args.seat c.args.command.now call _ c.in_ok-claimed.claimed (g.H.PlayHeap.state new) c.note_slack.new.history.items claimed notes)
+    (λ new notes. slack_line old now c.args.seat c.args.command.now call _ c.claimed_since-claimed.result (g.H.PlayHeap.state new) claimed notes)
     c.note_slack.ensures.notes)
 
 pub returns-in-None-clause-notes : goal.returns-in-None-clause-notes
 returns-in-None-clause-notes g c =
     let old : PlayState = g.H.PlayHeap.state c.args.whole in
-    rw c.in-None.is
-    (bare_line old (g.H.PlayHeap.state c.note_call.new.whole) c.args.history.now.items c.note_call.new.history.items c.args.seat c.args.command.now c.in_ok-claimed.ensures.notes)
+    let now : PlayState = g.H.PlayHeap.state c.call.new.self in
+    rw c.in-None.is (bare_line old now c.args.seat c.args.command.now (call_noted old now c.args.seat c.args.command.now c.in_ok-call.field-0 c.in_ok-call.ensures.answers))

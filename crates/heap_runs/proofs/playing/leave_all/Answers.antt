@@ -1,26 +1,30 @@
 use Rattle.std.proofs.Common.{◌≡◌, ℕ, length, subst, arith}
+use Rattle.heap_model.specs.declared.command.Command.TheVariants.{Leave}
 use Rattle.heap_runs.specs.PlayHeap.{PlayState}
 use Rattle.heap_runs.specs.Playing.{HaveLeft}
 use Rattle.heap_runs.proofs.Leaves.{left_none, left_more}
 use Rattle.heap_runs.proofs.NextLine.{may_leave}
+use Rattle.heap_runs.proofs.Told.{call_noted}
 use Rattle.heap_runs.proofs.playing.leave_all.Goals as goal
 
 pub loop-seat-init : goal.loop-seat-init
-loop-seat-init g c = left_none c.args.script.now.heap (g.H.PlayHeap.state c.args.whole.now) c.args.history.now.items (length c.args.script.now.lines) c.requires
+loop-seat-init g c = left_none c.args.script.now.heap (g.H.PlayHeap.state c.args.whole.now) (length c.args.script.now.lines) c.requires
 
-pub note_call-requires : goal.note_call-requires
-note_call-requires g c =
+pub call-requires : goal.call-requires
+call-requires g c =
     let now : PlayState = g.H.PlayHeap.state c.loop-seat.whole in
     let left = c.loop-seat.invariant in
-    record { may = may_leave now c.loop-seat.seat (rw left.follows.of_heap c.loop-seat-test.true) (left.others c.loop-seat.seat (omega arith) c.loop-seat-test.true) }
+    record { may = may_leave now c.loop-seat.seat (rw left.of_heap c.loop-seat-test.true) (left.others c.loop-seat.seat (omega arith) c.loop-seat-test.true) }
 
 pub loop-seat-preserved : goal.loop-seat-preserved
 loop-seat-preserved g c =
     let laws = c.seat_laws.ensures in
-    left_more laws.counts laws.others c.args.script.now.heap (g.H.PlayHeap.state c.loop-seat.whole) (g.H.PlayHeap.state c.note_call.new.whole) c.args.history.now.items c.loop-seat.history.items c.note_call.new.history.items
-    c.loop-seat.seat c.loop-seat.invariant c.in_ok-note_call.ensures.notes
+    let now : PlayState = g.H.PlayHeap.state c.loop-seat.whole in
+    let new : PlayState = g.H.PlayHeap.state c.call.new.self in
+    left_more laws.counts laws.others c.args.script.now.heap (g.H.PlayHeap.state c.args.whole.now) now new c.loop-seat.seat c.loop-seat.invariant
+    (call_noted now new c.loop-seat.seat Leave c.in_ok-call.field-0 c.in_ok-call.ensures.answers)
 
 pub returns : goal.returns
 returns g c =
     let all : c.loop-seat.seat ≡ c.args.script.now.heap.seats = omega (arith, c.loop-seat-test.false, c.loop-seat.auto.seat-end) in
-    subst (λ (n : ℕ). HaveLeft c.args.script.now.heap (g.H.PlayHeap.state c.loop-seat.whole) c.args.history.now.items c.loop-seat.history.items n) all c.loop-seat.invariant
+    subst (λ (n : ℕ). HaveLeft c.args.script.now.heap (g.H.PlayHeap.state c.args.whole.now) (g.H.PlayHeap.state c.loop-seat.whole) n) all c.loop-seat.invariant

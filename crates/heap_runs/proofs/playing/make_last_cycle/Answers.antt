@@ -25,12 +25,9 @@ returns g c =
     elim c.if-phase-ne-REST.branch [
       | then-phase-ne-REST+in_ok-note_cycle w ↦
           let now : PlayState = g.H.PlayHeap.state w.note_cycle.new.whole in
-          let then_ : NotesCycle now new w.note_cycle.new.history.items c.note_cycle-2.new.history.items = rw (← w.whole-is, ← w.history-is) next in
-          record {
-            notes = last_behind old now new c.args.history.now.items w.note_cycle.new.history.items c.note_cycle-2.new.history.items (λ at_rest. w.if-phase-ne-REST.true (omega (arith, begun, at_rest)))
-                w.in_ok-note_cycle.ensures.notes then_;
-          }
+          let then_ : NotesCycle now new = rw (← w.whole-is) next in
+          record { notes = last_behind old now new (λ at_rest. w.if-phase-ne-REST.true (omega (arith, begun, at_rest))) w.in_ok-note_cycle.ensures.notes then_ }
       | else-phase-ne-REST w ↦
-          let only : NotesCycle old new c.args.history.now.items c.note_cycle-2.new.history.items = rw (← w.whole-is, ← w.history-is) next in
-          record { notes = last_at_rest old new c.args.history.now.items c.note_cycle-2.new.history.items (omega (arith, begun, w.if-phase-ne-REST.false)) only }
+          let only : NotesCycle old new = rw (← w.whole-is) next in
+          record { notes = last_at_rest old new (omega (arith, begun, w.if-phase-ne-REST.false)) only }
     ]

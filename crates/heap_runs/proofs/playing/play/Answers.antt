@@ -1,4 +1,4 @@
-use Rattle.std.proofs.Common.{is_some, ◌≡◌, ◌+◌, ◌*◌, ◌<◌, List, refl, ap, subst, ◌∙◌, rules}
+use Rattle.std.proofs.Common.{is_some, ◌≡◌, ◌+◌, ◌*◌, ◌<◌, List, length, refl, ap, subst, ◌∙◌}
 use Rattle.heap_model.specs.declared.heap.Heap.{Heap}
 use Rattle.heap_model.specs.declared.entry.Entry.{Entry}
 use Rattle.heap_model.specs.account.Space.{words_granted, words_returned}
@@ -11,24 +11,22 @@ use Rattle.heap_runs.proofs.playing.play.Goals as goal
 pub make_last_cycle-requires : goal.make_last_cycle-requires
 make_last_cycle-requires g c =
     let left = c.in_ok-leave_all.ensures in
-    record { gone = λ number under. left.gone number (subst (λ (h : Heap). number < h.seats) left.follows.of_heap under) }
+    record { gone = λ number under. left.gone number (subst (λ (h : Heap). number < h.seats) left.of_heap under) }
 
 pub returns : goal.returns
 returns g c =
     let script = c.args.script.now in
-    let laws = c.account_laws.ensures in
     let middle : PlayState = g.H.PlayHeap.state c.in_ok-whole.whole in
     let gone : PlayState = g.H.PlayHeap.state c.leave_all.new.whole in
     let last : PlayState = g.H.PlayHeap.state c.make_last_cycle.new.whole in
-    let plays = c.in_ok-whole.ensures.plays in
     let left = c.in_ok-leave_all.ensures in
     let notes = c.in_ok-make_last_cycle.ensures.notes in
-    let mark : SpaceMark = record { before = c.len.result; used = c.in_use.result; total = c.from.result * c.from-2.result; spine = c.words_in_use.result; budget = c.from-3.result } in
-    let played = subst (λ (h : Heap). IsPlayed h middle.entries) plays.follows.of_heap c.entries.ensures.played in
-    let played_last = subst (λ (h : Heap). IsPlayed h last.entries) (notes.same_heap ∙ left.follows.of_heap) c.entries-3.ensures.played in
-    whole_play laws.turned laws.counts c.law_sweep_exact.ensures.emptied (is_some c.args.pace) script middle gone last c.answer_lines.new.history.items c.leave_all.new.history.items c.make_last_cycle.new.history.items mark c.in_use-2.result _ plays c.in_ok-whole.ensures.answered left notes played played_last
-    (search rules) (subst (λ (es : List Entry). ShowsUse script.heap es c.in_use.result) c.entries.ensures.entries (subst (λ (h : Heap). ShowsUse h c.entries.result.now c.in_use.result) c.requires.heap c.in_use.ensures))
+    let mark : SpaceMark = record { before = length c.entries.result.now; used = c.in_use.result; total = c.from.result * c.from-2.result; spine = c.words_in_use.result; budget = c.from-3.result } in
+    let played = subst (λ (h : Heap). IsPlayed h last.entries) (notes.same_heap ∙ left.of_heap) c.entries-4.ensures.played in
+    whole_play c.law_sweep_exact.ensures.emptied (is_some c.args.pace) script middle gone last c.into_entries.result.items mark c.in_use-2.result _ c.in_ok-whole.ensures.answered left notes played c.into_entries.ensures
+    (ap (length {A = Entry}) c.entries.ensures.entries)
+    (subst (λ (es : List Entry). ShowsUse script.heap es c.in_use.result) c.entries-2.ensures.entries (subst (λ (h : Heap). ShowsUse h c.entries-2.result.now c.in_use.result) c.requires.heap c.in_use.ensures))
     (rw (c.from.ensures, c.from-2.ensures, c.requires.heap) refl)
-    (subst (λ (es : List Entry). c.words_in_use.result + words_returned es ≡ words_granted es) c.entries-2.ensures.entries c.words_in_use.ensures) (c.from-3.ensures ∙ ap (λ (h : Heap). h.spine) c.requires.heap)
-    (subst (λ (es : List Entry). ShowsUse script.heap es c.in_use-2.result) c.entries-3.ensures.entries (subst (λ (h : Heap). ShowsUse h c.entries-3.result.now c.in_use-2.result) c.requires.heap c.in_use-2.ensures))
+    (subst (λ (es : List Entry). c.words_in_use.result + words_returned es ≡ words_granted es) c.entries-3.ensures.entries c.words_in_use.ensures) (c.from-3.ensures ∙ ap (λ (h : Heap). h.spine) c.requires.heap)
+    (subst (λ (es : List Entry). ShowsUse script.heap es c.in_use-2.result) c.entries-4.ensures.entries (subst (λ (h : Heap). ShowsUse h c.entries-4.result.now c.in_use-2.result) c.requires.heap c.in_use-2.ensures))
     (rw (c.requires.heap, c.from_vec.ensures) refl)

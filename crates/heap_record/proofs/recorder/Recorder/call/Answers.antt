@@ -1,9 +1,10 @@
 use Rattle.std.proofs.Common.{◌-◌, List, length, drop, refl, ap, subst, ◌∙◌, arith}
+use Rattle.heap_model.specs.account.Turned.{without_turned}
 use Rattle.heap_model.specs.declared.entry.Entry.{Entry}
 use Rattle.core_machine.specs.machine.Value.{MachineValue, log_of}
 use Rattle.heap_record.specs.contracts.recorder.Recorder.{the_view}
 use Rattle.heap_record.specs.Recorded.{Recorded, AnyEvents, MakesCall}
-use Rattle.heap_record.proofs.Calls.{since, AddsTold, noted_since, CallFacts, call_facts, makes_call}
+use Rattle.heap_record.proofs.Calls.{since, AddsTold, noted_since, history_since, made_of_heap, CallFacts, call_facts, makes_call}
 use Rattle.heap_record.proofs.Leading.{led_call}
 use Rattle.heap_record.proofs.recorder.Recorder.call.Goals as goal
 use Rattle.heap_record.proofs.recorder.Recorder.call.Goals.{After-play_call-reply, After-note_since}
@@ -17,17 +18,20 @@ facts c =
 
 -- what contracts see once it was noted
 abbrev after : After-note_since → Recorded
-after c = record (the_view c.self.inside) { machine = c.play_call-reply.new.self; history = c.note_since.new.list.items; spare = c.note_since.new.spare }
+after c = record (the_view c.self.inside) { machine = c.play_call-reply.new.self; history = without_turned c.note_since.new.list.items; listed = c.note_since.new.list.items; spare = c.note_since.new.spare }
 
 -- it was noted
-noted : (c : After-note_since) → AddsTold (the_view c.self.inside) (after c) (since c.room.new.self c.play_call-reply.new.self c.args.seat)
-noted c =
+noted : (c : After-note_since) → CallFacts (the_view c.self.inside) c.room.new.self c.play_call-reply.new.self c.args.seat c.args.command.now c.play_call-reply.result
+    → AddsTold (the_view c.self.inside) (after c) (since c.room.new.self c.play_call-reply.new.self c.args.seat)
+noted c made =
     let old : Recorded = the_view c.self.inside in
     let one = c.room.new.self in
     let two = c.play_call-reply.new.self in
+    let listed = noted_since old one two c.args.seat c.log-before.result.now c.reserve.new.self.items c.note_since.new.list.items c.note_since.ensures.items c.reserve.ensures.items c.log-before.ensures in
     record {
       same_heap = c.play_call-reply.ensures.heap ∙ ap (λ (m : MachineValue). m.heap) c.room.ensures.same;
-      noted = noted_since old one two c.args.seat c.log-before.result.now c.reserve.new.self.items c.note_since.new.list.items c.note_since.ensures.items c.reserve.ensures.items c.log-before.ensures;
+      noted = history_since old c.note_since.new.list.items (since one two c.args.seat) refl listed (made_of_heap old.machine.heap old.machine.state two.state (since one two c.args.seat) c.args.seat c.args.command.now c.play_call-reply.result made.made);
+      listed = listed;
       left = c.note_since.ensures.left ∙ ap (λ (l : List Entry). old.spare - length (drop (length l) (log_of two c.args.seat))) c.log-before.ensures;
       turns_stay = refl;
       last_stays = refl;
@@ -36,7 +40,7 @@ noted c =
 -- so it is what contracts say of it
 makes : (c : After-note_since) → CallFacts (the_view c.self.inside) c.room.new.self c.play_call-reply.new.self c.args.seat c.args.command.now c.play_call-reply.result
     → MakesCall (the_view c.self.inside) (after c) c.args.seat c.args.command.now c.play_call-reply.result
-makes c made = makes_call (the_view c.self.inside) (after c) c.room.new.self c.args.seat c.args.command.now c.play_call-reply.result made (noted c)
+makes c made = makes_call (the_view c.self.inside) (after c) c.room.new.self c.args.seat c.args.command.now c.play_call-reply.result made (noted c made)
 
 pub note_since-requires-clause-longer : goal.note_since-requires-clause-longer
 note_since-requires-clause-longer c = rw c.log-before.ensures (facts (goal.at.note_since-requires-clause-longer c).After-play_call-reply).longer

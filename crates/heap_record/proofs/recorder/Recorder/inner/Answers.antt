@@ -1,11 +1,12 @@
 use Rattle.std.proofs.Common.{◌-◌, List, length, drop, refl, sym, ap, subst, ◌∙◌, arith}
+use Rattle.heap_model.specs.account.Turned.{without_turned}
 use Rattle.heap_model.specs.declared.entry.Entry.{Entry}
 use Rattle.core_machine.specs.machine.Machine.{BeginsInner, Can}
 use Rattle.core_machine.specs.machine.Value.{MachineValue, log_of}
 use Rattle.heap_record.specs.contracts.recorder.Recorder.{the_view}
 use Rattle.heap_record.specs.Recorded.{Recorded, AnyEvents, MakesInner}
-use Rattle.heap_record.proofs.Calls.{noted_since}
-use Rattle.heap_record.proofs.Inners.{InnerFacts, inner_facts, makes_inner}
+use Rattle.heap_record.proofs.Calls.{since, noted_since, history_since}
+use Rattle.heap_record.proofs.Inners.{InnerFacts, inner_facts, facts_of_heap, makes_inner}
 use Rattle.heap_record.proofs.Leading.{led_inner}
 use Rattle.heap_record.proofs.recorder.Recorder.inner.Goals as goal
 use Rattle.heap_record.proofs.recorder.Recorder.inner.Goals.{After-play_inner, After-note_since}
@@ -16,15 +17,17 @@ facts c = inner_facts (the_view c.self.inside) c.room.new.self c.play_inner.new.
 
 -- what contracts see once it was noted
 abbrev after : After-note_since → Recorded
-after c = record (the_view c.self.inside) { machine = c.play_inner.new.self; history = c.note_since.new.list.items; spare = c.note_since.new.spare }
+after c = record (the_view c.self.inside) { machine = c.play_inner.new.self; history = without_turned c.note_since.new.list.items; listed = c.note_since.new.list.items; spare = c.note_since.new.spare }
 
 -- so it is what contracts say of it
 makes : (c : After-note_since) → InnerFacts (the_view c.self.inside) c.room.new.self c.play_inner.new.self c.args.seat c.args.inner → MakesInner (the_view c.self.inside) (after c) c.args.seat c.args.inner
 makes c made =
     let old : Recorded = the_view c.self.inside in
+    let listed = noted_since old c.room.new.self c.play_inner.new.self c.args.seat c.log-before.result.now c.reserve.new.self.items c.note_since.new.list.items c.note_since.ensures.items c.reserve.ensures.items c.log-before.ensures in
     makes_inner old (after c) c.room.new.self c.args.seat c.args.inner made (record {
       same_heap = c.play_inner.ensures.heap ∙ ap (λ (m : MachineValue). m.heap) c.room.ensures.same;
-      noted = noted_since old c.room.new.self c.play_inner.new.self c.args.seat c.log-before.result.now c.reserve.new.self.items c.note_since.new.list.items c.note_since.ensures.items c.reserve.ensures.items c.log-before.ensures;
+      noted = history_since old c.note_since.new.list.items (since c.room.new.self c.play_inner.new.self c.args.seat) refl listed (facts_of_heap old c.room.new.self c.play_inner.new.self c.args.seat c.args.inner made);
+      listed = listed;
       left = c.note_since.ensures.left ∙ ap (λ (l : List Entry). old.spare - length (drop (length l) (log_of c.play_inner.new.self c.args.seat))) c.log-before.ensures;
       turns_stay = refl;
       last_stays = refl;

@@ -4,7 +4,7 @@ use Rattle.heap_model.specs.declared.calls.collect.Inner.{Inner}
 use Rattle.heap_model.specs.declared.reply.Reply.{Reply}
 use Rattle.core_machine.specs.seat.Looks.{FirstUpTo}
 use Rattle.heap_record.specs.Recorded.{MakesInner, Recorded}
-use Rattle.heap_runs.specs.MachineHeap.{play_state_of}
+use Rattle.heap_runs.specs.MachineHeap.{run_state_of}
 use Rattle.heap_runs.specs.PlayHeap.{AnswersCollect}
 use Rattle.heap_runs.proofs.Noted.{first_looked, may_note, collect_machine, collect_answers}
 use Rattle.heap_runs.proofs.Standing.{stands}
@@ -32,7 +32,7 @@ returns-clause-answers c =
     let two : Recorded = c.end_whole.new.self in
     let three : Recorded = c.make_inner-2.new.self in
     let sees = subst (λ (inner : Inner). MakesInner two three c.args.seat inner) c.seen_by.ensures c.in_ok-make_inner-2.ensures.makes in
-    subst (λ (reply : Reply). AnswersCollect (play_state_of c.args.self.now) (play_state_of c.make_inner-3.new.self) c.args.seat reply) (sym c.noted.ensures)
+    subst (λ (reply : Reply). AnswersCollect (run_state_of c.args.self.now) (run_state_of c.make_inner-3.new.self) c.args.seat reply) (sym c.noted.ensures)
     (collect_answers c.args.self.now c.make_inner.new.self two three c.make_inner-3.new.self c.args.seat c.in_ok-came.came c.in_ok-make_inner.ensures.makes c.in_ok-came.ensures.ends sees c.in_ok-make_inner-3.ensures.makes)
 
 pub returns-clause-machine : goal.returns-clause-machine

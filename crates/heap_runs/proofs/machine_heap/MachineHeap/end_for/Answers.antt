@@ -2,7 +2,7 @@ use Rattle.std.proofs.Common.{◌≡◌, ap, subst, ◌∙◌, arith}
 use Rattle.heap_model.specs.declared.calls.collector_calls.Turn.{Turn}
 use Rattle.heap_model.specs.declared.calls.collector_calls.Turn.TheVariants as turns
 use Rattle.heap_record.specs.Recorded.{Recorded, MakesTurn}
-use Rattle.heap_runs.specs.MachineHeap.{play_state_of}
+use Rattle.heap_runs.specs.MachineHeap.{run_state_of}
 use Rattle.heap_runs.specs.PlayHeap.{TakesTurn}
 use Rattle.heap_runs.proofs.Collecting.{goes_none, goes_then, goes_turn, goes_answer, stays_none, stays_turn, stays_wait, stays_answer, ends_waiting, ends_cycle}
 use Rattle.heap_runs.proofs.Standing.{stands}
@@ -16,39 +16,39 @@ pub turns-preserved-in-Stepped : goal.turns-preserved-in-Stepped
 turns-preserved-in-Stepped c =
     let goes = c.turns.invariant.goes in
     record {
-      goes = goes_then c.args.self.now c.turns.self c.turn.new.self c.args.seat goes
-          (goes_turn c.turns.self c.turn.new.self c.args.seat c.in_ok-turn.field-0 c.in_ok-turn.ensures.turn c.in_ok-turn.ensures.machine goes.present);
+      goes = goes_then c.args.self.now c.turns.self c.take_turn.new.self c.args.seat goes
+          (goes_turn c.turns.self c.take_turn.new.self c.args.seat c.in_ok-take_turn.field-0 c.in_ok-take_turn.ensures.turn c.in_ok-take_turn.ensures.machine goes.present);
       between = c.known-in-Stepped.ensures;
-      stays = stays_turn c.args.self.now c.turns.self c.turn.new.self c.in_ok-turn.field-0 c.turns.invariant.stays c.in_ok-turn.ensures.turn c.in-Stepped.is;
+      stays = stays_turn c.args.self.now c.turns.self c.take_turn.new.self c.in_ok-take_turn.field-0 c.turns.invariant.stays c.in_ok-take_turn.ensures.turn c.in-Stepped.is;
     }
 
 pub turns-smaller-in-Stepped : goal.turns-smaller-in-Stepped
 turns-smaller-in-Stepped c =
     let now : Recorded = c.turns.self in
-    let new : Recorded = c.turn.new.self in
-    let goes = goes_turn now new c.args.seat c.in_ok-turn.field-0 c.in_ok-turn.ensures.turn c.in_ok-turn.ensures.machine c.turns.invariant.goes.present in
+    let new : Recorded = c.take_turn.new.self in
+    let goes = goes_turn now new c.args.seat c.in_ok-take_turn.field-0 c.in_ok-take_turn.ensures.turn c.in_ok-take_turn.ensures.machine c.turns.invariant.goes.present in
     stepped_fewer now new c.args.seat (stands c.law_every_run.ensures.run new.machine.heap new.machine.state new.history c.known-in-Stepped.ensures) c.known-in-Stepped.ensures goes.present
-    (subst (λ (turn : Turn). TakesTurn (play_state_of now) (play_state_of new) turn) c.in-Stepped.is c.in_ok-turn.ensures.turn)
+    (subst (λ (turn : Turn). TakesTurn (run_state_of now) (run_state_of new) turn) c.in-Stepped.is c.in_ok-take_turn.ensures.turn)
 
 pub returns-then-other-seat : goal.returns-then-other-seat
 returns-then-other-seat c =
     let now : Recorded = c.turns.self in
-    let new : Recorded = c.turn.new.self in
-    let takes = subst (λ (turn : Turn). TakesTurn (play_state_of now) (play_state_of new) turn) c.in-Waits.is c.in_ok-turn.ensures.turn in
-    let turned = subst (λ (turn : Turn). MakesTurn now new turn) c.in-Waits.is c.in_ok-turn.ensures.machine in
+    let new : Recorded = c.take_turn.new.self in
+    let takes = subst (λ (turn : Turn). TakesTurn (run_state_of now) (run_state_of new) turn) c.in-Waits.is c.in_ok-take_turn.ensures.turn in
+    let turned = subst (λ (turn : Turn). MakesTurn now new turn) c.in-Waits.is c.in_ok-take_turn.ensures.machine in
     record { ends = ends_waiting c.args.self.now now new c.args.seat c.in-Waits.other c.in-Waits.answered c.in-Waits.phase c.turns.invariant.goes takes turned c.if-other-seat.true }
 
 pub turns-smaller : goal.turns-smaller
 turns-smaller c =
     let old : Recorded = c.turns.self in
-    let now : Recorded = c.turn.new.self in
+    let now : Recorded = c.take_turn.new.self in
     let new : Recorded = c.make_inner.new.self in
     let runs = c.law_every_run.ensures.run in
     let is = c.in-Waits.is in
     let own : c.in-Waits.other ≡ c.args.seat = omega (arith, c.if-other-seat.false) in
-    let turn_is : c.in_ok-turn.field-0 ≡ turns.Waits c.args.seat c.in-Waits.answered c.in-Waits.phase = is ∙ ap (λ n. turns.Waits n c.in-Waits.answered c.in-Waits.phase) own in
-    let takes = subst (λ (turn : Turn). TakesTurn (play_state_of old) (play_state_of now) turn) turn_is c.in_ok-turn.ensures.turn in
-    let turned = subst (λ (turn : Turn). MakesTurn old now turn) turn_is c.in_ok-turn.ensures.machine in
+    let turn_is : c.in_ok-take_turn.field-0 ≡ turns.Waits c.args.seat c.in-Waits.answered c.in-Waits.phase = is ∙ ap (λ n. turns.Waits n c.in-Waits.answered c.in-Waits.phase) own in
+    let takes = subst (λ (turn : Turn). TakesTurn (run_state_of old) (run_state_of now) turn) turn_is c.in_ok-take_turn.ensures.turn in
+    let turned = subst (λ (turn : Turn). MakesTurn old now turn) turn_is c.in_ok-take_turn.ensures.machine in
     answered_fewer old now new c.args.seat c.in-Waits.answered c.in-Waits.phase (stands runs old.machine.heap old.machine.state old.history c.turns.invariant.between)
     (stands runs now.machine.heap now.machine.state now.history c.known-in-Waits.ensures) (stands runs new.machine.heap new.machine.state new.history c.known-in-Waits-2.ensures) c.turns.invariant.between c.turns.invariant.goes.present
     takes turned c.in_ok-make_inner-in-Waits.ensures.makes
@@ -56,20 +56,20 @@ turns-smaller c =
 pub turns-preserved : goal.turns-preserved
 turns-preserved c =
     let goes = c.turns.invariant.goes in
-    let turned = goes_turn c.turns.self c.turn.new.self c.args.seat c.in_ok-turn.field-0 c.in_ok-turn.ensures.turn c.in_ok-turn.ensures.machine goes.present in
-    let answered = goes_answer c.turn.new.self c.make_inner.new.self c.args.seat c.in_ok-make_inner-in-Waits.ensures.makes turned.present in
-    let takes = subst (λ (turn : Turn). TakesTurn (play_state_of c.turns.self) (play_state_of c.turn.new.self) turn) c.in-Waits.is c.in_ok-turn.ensures.turn in
-    let waited = stays_wait c.args.self.now c.turns.self c.turn.new.self c.in-Waits.other c.in-Waits.answered c.in-Waits.phase c.turns.invariant.stays takes in
+    let turned = goes_turn c.turns.self c.take_turn.new.self c.args.seat c.in_ok-take_turn.field-0 c.in_ok-take_turn.ensures.turn c.in_ok-take_turn.ensures.machine goes.present in
+    let answered = goes_answer c.take_turn.new.self c.make_inner.new.self c.args.seat c.in_ok-make_inner-in-Waits.ensures.makes turned.present in
+    let takes = subst (λ (turn : Turn). TakesTurn (run_state_of c.turns.self) (run_state_of c.take_turn.new.self) turn) c.in-Waits.is c.in_ok-take_turn.ensures.turn in
+    let waited = stays_wait c.args.self.now c.turns.self c.take_turn.new.self c.in-Waits.other c.in-Waits.answered c.in-Waits.phase c.turns.invariant.stays takes in
     record {
-      goes = goes_then c.args.self.now c.turns.self c.make_inner.new.self c.args.seat goes (goes_then c.turns.self c.turn.new.self c.make_inner.new.self c.args.seat turned answered);
+      goes = goes_then c.args.self.now c.turns.self c.make_inner.new.self c.args.seat goes (goes_then c.turns.self c.take_turn.new.self c.make_inner.new.self c.args.seat turned answered);
       between = c.known-in-Waits-2.ensures;
-      stays = stays_answer c.args.self.now c.turn.new.self c.make_inner.new.self c.args.seat waited c.in_ok-make_inner-in-Waits.ensures.makes;
+      stays = stays_answer c.args.self.now c.take_turn.new.self c.make_inner.new.self c.args.seat waited c.in_ok-make_inner-in-Waits.ensures.makes;
     }
 
 pub returns-in-Ended : goal.returns-in-Ended
 returns-in-Ended c =
     let now : Recorded = c.turns.self in
-    let new : Recorded = c.turn.new.self in
-    let takes = subst (λ (turn : Turn). TakesTurn (play_state_of now) (play_state_of new) turn) c.in-Ended.is c.in_ok-turn.ensures.turn in
-    let turned = subst (λ (turn : Turn). MakesTurn now new turn) c.in-Ended.is c.in_ok-turn.ensures.machine in
+    let new : Recorded = c.take_turn.new.self in
+    let takes = subst (λ (turn : Turn). TakesTurn (run_state_of now) (run_state_of new) turn) c.in-Ended.is c.in_ok-take_turn.ensures.turn in
+    let turned = subst (λ (turn : Turn). MakesTurn now new turn) c.in-Ended.is c.in_ok-take_turn.ensures.machine in
     record { ends = ends_cycle c.args.self.now now new c.args.seat c.in-Ended.cycle c.in-Ended.kept c.turns.invariant.goes c.turns.invariant.stays takes turned }

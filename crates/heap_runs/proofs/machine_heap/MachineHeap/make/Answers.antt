@@ -11,4 +11,4 @@ invariant_of-result c =
     let machine = c.in_ok-machine.machine in
     let limits = subst IsHeap (sym c.in_ok-machine.ensures.heap) c.requires in
     let opens = subst (λ (h : Heap). IsOpening h machine.state) (sym c.in_ok-machine.ensures.heap) c.in_ok-machine.ensures.opening in
-    rw c.new.ensures (led_none OneCallAtATime machine.heap machine.state _ limits opens refl tt)
+    rw c.new.ensures (led_none OneCallAtATime machine.heap machine.state _ limits opens refl tt, record { same = refl; right = tt })

@@ -1,4 +1,7 @@
-use Rattle.std.proofs.Common.{◌+◌, sym, ap, subst, ◌∙◌, arith, refl}
+use Rattle.std.proofs.Common.{◌≡◌, ◌+◌, ◌-◌, ◌^◌, min, List, [], ◌∷◌, ◌++◌, length, drop, length-append, sym, ap, subst, ◌∙◌, arith, refl}
+use Rattle.heap_model.specs.account.Space.{total}
+use Rattle.heap_model.specs.declared.entry.Entry.{Entry}
+use Rattle.heap_model.specs.declared.entry.Entry.TheVariants.{Said}
 use Rattle.locked_heap.specs.declared.progress.Progress.{Progress}
 use Rattle.std.proofs.lemmas.Option.{slice_get_within}
 use Rattle.locked_heap.specs.Given.{script_of}
@@ -8,7 +11,7 @@ use Rattle.locked_heap.proofs.Calling.{script_right, can_call, called_on}
 use Rattle.locked_heap.proofs.Coming.{read_is}
 use Rattle.locked_heap.proofs.GivenRuns.{run_call}
 use Rattle.locked_heap.proofs.Parting.{not_parted_set, stands_still}
-use Rattle.locked_heap.proofs.Owing.{owes_still, on_err}
+use Rattle.locked_heap.proofs.Owing.{owes_still, owes_call, on_err}
 use Rattle.locked_heap.proofs.locked.Locked.call.Goals as goal
 
 pub call-requires : goal.call-requires
@@ -20,13 +23,13 @@ call-requires g c =
     }
 
 pub invariant_of-self : goal.invariant_of-self
-invariant_of-self g c = stands_still g.N.Handed.given _ c.call.new.self c.self.inside.patience c.self.invariant c.in_err-called.ensures.still
+invariant_of-self g c = stands_still g.N.Handed.given _ c.call.new.self c.self.inside.patience c.self.invariant c.in_err-call.ensures.still
 
 pub invariant_of-self-2 : goal.invariant_of-self-2
 invariant_of-self-2 g c =
     let inside = c.self.inside in
     let next : IsNext g.N.Handed.given inside.seats.items c.args.seat c.args.command.now = subst (λ (v : LockedValue). IsNext g.N.Handed.given v.seats c.args.seat c.args.command.now) (sym c.self.view_is) c.requires.next in
-    let makes = c.in_ok-called.ensures.makes in
+    let makes = c.in_ok-call.ensures.makes in
     let read = read_is inside.seats.items c.args.seat c.index-progress.result.now (omega (arith, next.within, c.self.invariant.come.seated)) c.index-progress.ensures in
     record {
       run = run_call g.N.Handed.given inside.recorder c.call.new.self c.self.invariant.run c.args.seat c.args.command.now _ makes;
@@ -46,6 +49,20 @@ overflow_add-progress g c =
     let script = script_right c.law_every_run.ensures.run given inside.recorder inside.seats.items c.args.seat c.self.invariant.run c.self.invariant.come next.within in
     omega (arith, ap (λ (p : Progress). p.place) read, within, script.few)
 
-pub returns-in_err-called-clause-still : goal.returns-in_err-called-clause-still
-returns-in_err-called-clause-still g c =
-    on_err c.from_residual.result _ (owes_still _ _ _ c.self.view_is c.in_err-called.ensures.still.history_stays refl)
+pub split_at-requires : goal.split_at-requires
+split_at-requires g c =
+    let makes = c.in_ok-call.ensures.makes in
+    omega (arith, ap (length {A = Entry}) c.entries-first.ensures, ap (length {A = Entry}) (c.entries.ensures ∙ makes.listed), length-append c.self.inside.recorder.listed (makes.call.before ++ Said c.args.seat c.args.command.now c.in_ok-call.field-0 ∷ []))
+
+pub returns-clause-owes : goal.returns-clause-owes
+returns-clause-owes g c =
+    let old = c.self.inside.recorder in
+    let new = c.call.new.self in
+    let owed = c.saturating_add-self-inside.result in
+    subst (λ (v : LockedValue). owed ≡ min (v.owed + total (λ e. e.taken) (drop (length v.recorded.history) new.history)) (2 ^ 64 - 1)) c.self.view_is
+    (owes_call old new c.split_at.result.1.now c.claimed.result c.self.inside.owed owed c.args.seat c.args.command.now c.in_ok-call.field-0 c.in_ok-call.ensures.makes
+    (c.split_at.ensures.back ∙ ap (λ (l : List Entry). drop (length l) c.entries.result.now) c.entries-first.ensures ∙ ap (drop (length old.listed)) c.entries.ensures) c.claimed.ensures c.saturating_add-self-inside.ensures)
+
+pub returns-in_err-call-clause-still : goal.returns-in_err-call-clause-still
+returns-in_err-call-clause-still g c =
+    on_err c.from_residual.result _ (owes_still _ _ _ c.self.view_is c.in_err-call.ensures.still.history_stays refl)

@@ -9,4 +9,4 @@ pub returns : goal.returns
 returns g c =
     let law = c.law_every_run.ensures in
     whole_run law.run law.words law.finds c.law_sweep_exact.ensures.emptied g.N.Handed.given c.finish_all.new.self c.end_whole_cycle.new.collector _ c.known.ensures.run c.known.ensures.come c.in_ok-finish_all.ensures
-    c.known.ensures.parted (subst (λ (r : Recorded). EndsWhole r c.end_whole_cycle.new.collector) (ap (λ (v : LockedValue). v.recorded) c.self.view_is) (ends_whole _ c.end_whole_cycle.new.collector c.in_ok-end_whole_cycle.ensures)) c.into_history.ensures refl c.in_ok-waits.ensures
+    c.known.ensures.parted (subst (λ (r : Recorded). EndsWhole r c.end_whole_cycle.new.collector) (ap (λ (v : LockedValue). v.recorded) c.self.view_is) (ends_whole _ c.end_whole_cycle.new.collector c.in_ok-end_whole_cycle.ensures)) c.into_entries.ensures refl c.in_ok-waits.ensures

@@ -23,6 +23,7 @@ invariant_of-result g c =
         given_right = c.requires.given;
         of_heap = c.requires.heap;
         led = led_none (OpensAs given) machine.heap machine.state _ limits (rw (c.requires.heap, c.requires.opening) c.requires.given.opens) refl c.requires.opening;
+        plain = refl;
       });
       come = all_opened given c.new.result.machine.state c.new.result.history c.in_ok-vec.field-0.items c.requires.given (ap (λ (r : Recorded). r.machine.state) c.new.ensures ∙ c.requires.opening)
           (ap (λ (r : Recorded). r.history) c.new.ensures) begin;

@@ -1,11 +1,13 @@
-use Rattle.std.proofs.Common.{◌-◌, List, Some, length, drop, refl, ap, subst, ◌∙◌, arith}
+use Rattle.std.proofs.Common.{◌-◌, List, Some, length, drop, refl, sym, ap, subst, ◌∙◌, arith}
+use Rattle.heap_model.specs.account.Turned.{without_turned}
 use Rattle.heap_model.specs.declared.entry.Entry.{Entry}
-use Rattle.core_machine.specs.machine.Machine.{State}
+use Rattle.core_machine.specs.machine.Machine.{State, Turns}
 use Rattle.core_machine.specs.machine.Value.{log_of, spare_of}
 use Rattle.core_rule.proofs.parties.TurnLogs.{TurnFacts}
 use Rattle.heap_record.specs.contracts.recorder.Recorder.{the_view}
 use Rattle.heap_record.specs.Recorded.{Recorded, AnyEvents, MakesTurn}
-use Rattle.heap_record.proofs.Calls.{since, noted_since}
+use Rattle.heap_record.proofs.Calls.{since, noted_since, history_since}
+use Rattle.heap_record.proofs.HeapEntries.{AreOfHeap, event_of_heap}
 use Rattle.heap_record.proofs.Leading.{led_turn}
 use Rattle.heap_record.proofs.MachineTurns.{noted_turn, makes_turn}
 use Rattle.heap_record.proofs.recorder.turning.RecorderCollectorCalls.turn.Goals as goal
@@ -19,7 +21,7 @@ facts c =
 
 -- what contracts see once it was noted
 abbrev after : After-saturating_add-self-inside → Recorded
-after c = record { machine = c.play_turn-turn.new.self; history = c.note_since.new.list.items; spare = c.note_since.new.spare; turns = c.saturating_add-self-inside.result; last_turn = Some c.play_turn-turn.result }
+after c = record { machine = c.play_turn-turn.new.self; history = without_turned c.note_since.new.list.items; listed = c.note_since.new.list.items; spare = c.note_since.new.spare; turns = c.saturating_add-self-inside.result; last_turn = Some c.play_turn-turn.result }
 
 -- so it is what contracts say of it
 makes : (c : After-saturating_add-self-inside) → TurnFacts c.self.inside.machine c.play_turn-turn.new.self c.heap-collector.result.seats → MakesTurn (the_view c.self.inside) (after c) c.play_turn-turn.result
@@ -29,9 +31,11 @@ makes c made =
     let old : Recorded = the_view c.self.inside in
     let two = c.play_turn-turn.new.self in
     let party = c.heap-collector.result.seats in
+    let listed = noted_since old old.machine two party c.log-before.result.now old.listed c.note_since.new.list.items c.note_since.ensures.items refl c.log-before.ensures in
     makes_turn law.run law.turns old (after c) c.play_turn-turn.result (since old.machine two party) c.self.invariant.0 (record {
       same_heap = turn.heap;
-      noted = noted_since old old.machine two party c.log-before.result.now old.history c.note_since.new.list.items c.note_since.ensures.items refl c.log-before.ensures;
+      noted = history_since old c.note_since.new.list.items (since old.machine two party) refl listed (subst AreOfHeap (sym made.told) (event_of_heap old.machine.heap old.machine.state Turns));
+      listed = listed;
       left = c.note_since.ensures.left ∙ ap (λ (l : List Entry). old.spare - length (drop (length l) (log_of two party))) c.log-before.ensures;
       turns_stay = refl;
       last_stays = refl;
