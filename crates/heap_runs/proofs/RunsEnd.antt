@@ -1,16 +1,14 @@
 -- What a run on a shared table comes to, by what its workers came to and how it ended.
-use Rattle.std.proofs.Common.{◌≡◌, ℕ, zero, suc, ◌+◌, ◌<◌, ◌≤◌, ◌==◌, ◌||◌, ◌&&◌, Bool, true, false, if◌then◌else◌, List, [], ◌∷◌, ◌++◌, length, map, take, drop, Some, inl, inr, refl, sym, ap, subst, ◌∙◌, append_assoc, arith}
+use Rattle.std.proofs.Common.{◌≡◌, ℕ, suc, ◌<◌, ◌==◌, ◌&&◌, Bool, true, false, if◌then◌else◌, List, [], ◌∷◌, ◌++◌, length, map, take, drop, Some, inl, inr, refl, sym, ap, ◌∙◌, append_assoc, arith}
 use Rattle.std.specs.Prelude.{All, slice_get, slice_index_or}
-use Rattle.std.specs.List.{AllByRecursion, list_all, list_any, range_with_len}
+use Rattle.std.specs.List.{AllByRecursion, list_all, list_any}
 use Rattle.std.proofs.lemmas.Bool.{or_cases}
-use Rattle.std.proofs.Math.Bool.{or-true}
-use Rattle.std.proofs.lemmas.List.{length-map, take-append-drop, take_all, drop_all}
+use Rattle.std.proofs.Math.Bool.{or-true, or-false}
+use Rattle.std.proofs.lemmas.List.{take-append-drop, take_all, drop_all}
 use Rattle.std.proofs.lemmas.List.Concat.{flat_map-cons}
-use Rattle.std.proofs.lemmas.List.FromFn.{length-range_with_len}
 use Rattle.std.proofs.lemmas.List.Folds.{list_any-append}
 use Rattle.std.proofs.lemmas.Option.{slice_get-get_or}
 use Rattle.atomic_table.specs.Seated.{TableId}
-use Rattle.heap_model.specs.Heap.{IsHeap}
 use Rattle.heap_model.specs.account.PhaseCounts.{has_left, is_leave_of}
 use Rattle.heap_model.specs.account.Turned.{is_of_heap}
 use Rattle.heap_model.specs.declared.command.Command.{Command}
@@ -24,7 +22,7 @@ use Rattle.heap_table.specs.Closed.{ClosedTable}
 use Rattle.heap_table.specs.SeatHeld.{SeatHeld}
 use Rattle.collector_turns.specs.Collector.{CollectorValue}
 use Rattle.heap_runs.specs.Finishing.{HasGone, HasLogs}
-use Rattle.heap_runs.specs.Role.{BeginsWith, IsOfRun}
+use Rattle.heap_runs.specs.Role.{IsOfRun}
 use Rattle.heap_runs.specs.SeatWork.{IsReadyToWork, HasWorked, HaveWorked, script_at}
 
 -- the command is a leave
@@ -33,17 +31,13 @@ is_leaving Leave = true
 is_leaving _ = false
 
 -- the entry of a command that is one is the seat's leave
+leaves_if : (b : Bool) (command : Command) → list_any is_leaving (if b then command ∷ [] else []) ≡ true → (b ≡ true) × (is_leaving command ≡ true)
+leaves_if true command some = (refl, sym (or-false (is_leaving command)) ∙ some)
+leaves_if false command some = absurd (cc some)
+
 leaves_by : (number other : ℕ) (command : Command) (reply : Reply) → list_any is_leaving (if other == number then command ∷ [] else []) ≡ true → is_leave_of number (Said other command reply) ≡ true
-leaves_by number other Leave reply some = by (other == number) some
-  where
-    by : (b : Bool) → list_any is_leaving (if b then Leave ∷ [] else []) ≡ true → b ≡ true
-    by true some_ = refl
-    by false some_ = absurd (cc some_)
-leaves_by number other command reply some = absurd (none command (other == number) some)
-  where
-    none : (c : Command) (b : Bool) → list_any is_leaving (if b then c ∷ [] else []) ≡ true → ⊥
-    none c false some_ = cc some_
-    none c true some_ = cc some_
+leaves_by number other Leave reply some = (leaves_if (other == number) Leave some).0
+leaves_by number other command reply some = (leaves_if (other == number) command some).1
 
 leave_by : (number : ℕ) (entry : Entry) → list_any is_leaving (command_told number entry) ≡ true → is_leave_of number entry ≡ true
 leave_by number (Said other command reply) some = leaves_by number other command reply some
@@ -84,7 +78,7 @@ module _ (patience : ℕ) (scripts : List (List Command)) (table : TableId) (hea
       let one : HasWorked patience old (script_at scripts old.number) new = worked.each k old new (slice_get-get_or olds k d within) (slice_get-get_or news k d below) in
       let was : IsReadyToWork table heap scripts old = ready k d within in
       let told : has_left old.number (old.seat.mine ++ one.made.part) ≡ true
-          = list_any-append (is_leave_of old.number) old.seat.mine one.made.part ∙ rw (leave_told old.number one.made.part (script_at scripts old.number) one.made.answered) (or-true (has_left old.number old.seat.mine)) in
+      = list_any-append (is_leave_of old.number) old.seat.mine one.made.part ∙ rw (leave_told old.number one.made.part (script_at scripts old.number) one.made.answered) (or-true (has_left old.number old.seat.mine)) in
       record {
         table_is = one.made.table_stays ∙ was.of_table.table_is;
         heap_is = one.made.heap_stays ∙ was.of_table.heap_is;
@@ -131,9 +125,3 @@ run_opens table heap before collector table_is heap_is log_is = record {
   goes_on = ap (take (length before)) log_is ∙ take_all (length before) before (omega arith);
   own = ap (λ l. list_all is_of_heap (drop (length before) l)) log_is ∙ ap (list_all is_of_heap) (drop_all (length before) before (omega arith));
 }
-
--- the seats are few
-pub few_seats : (heap : Heap) (seats : List SeatHeld) → IsHeap heap → map (λ held. held.number) seats ≡ range_with_len 0 heap.seats → length seats < 2 ^ 16
-few_seats heap seats limits numbers =
-    let many : length seats ≡ heap.seats = sym (length-map seats (λ (held : SeatHeld). held.number)) ∙ ap length numbers ∙ length-range_with_len 0 heap.seats in
-    omega (arith, many, limits.seats_fit)

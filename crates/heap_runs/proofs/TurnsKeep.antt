@@ -1,6 +1,5 @@
 -- What turns of a table's collector leave as it was.
 use Rattle.std.proofs.Common.{◌≡◌, ℕ, zero, suc, refl, sym, ap, subst, ◌∙◌}
-use Rattle.heap_table.specs.CollectorHeld.{CollectorHeld}
 use Rattle.heap_table.specs.Known.{CollectorKnown}
 use Rattle.heap_record.specs.LastCycle.{MakesInRoom}
 use Rattle.collector_turns.specs.Collector.{CollectorValue}

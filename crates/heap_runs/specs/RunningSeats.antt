@@ -1,5 +1,5 @@
 -- What a run on a shared table comes to.
-use Rattle.std.specs.Prelude.{◌≡◌, ◌≢◌, ℕ, ◌<◌, ◌≤◌, ◌^◌, List, length, map, All}
+use Rattle.std.specs.Prelude.{◌≡◌, ℕ, List, map, All}
 use Rattle.std.specs.List.{range_with_len}
 use Rattle.heap_model.specs.declared.command.Command.{Command}
 use Rattle.heap_table.specs.SeatHeld.{SeatHeld}

@@ -1,9 +1,10 @@
-ghost use Rattle.std.specs.Prelude.{◌≡◌, ◌+◌, ◌-◌, ◌^◌, min, IfOk, OnOk, OnErr};
+ghost use Rattle.std.specs.Prelude.{◌≡◌, ℕ, ◌+◌, ◌-◌, ◌^◌, ◌≤◌, ◌↔◌, min, IsTrue, IfOk, OnOk, OnErr};
 ghost use Rattle.collector_turns.specs.Turning.{MakesRoom};
 ghost use Rattle.heap_runs.specs.Role.{IsOfRun, MakesOneTurn, MakesSlack};
 
 use collector_turns::Collector;
 use heap_model::{CollectorCalls, Memory, Turn};
+use heap_record::SlackWork;
 use slack_pace::{MOST_SLACK_TURNS, Pace, slack};
 use std::marker::{Brand, PhantomData};
 
@@ -73,20 +74,11 @@ impl<N: HeldName, P> Held<N, P> {
     {
         self.gone = self.gone.saturating_add(1);
     }
-
-    /// So many seats' workers have ended.
-    pub fn end_all(&mut self, count: u16)
-        ensures gone { self.new.gone ≡ count }
-        ensures collector { self.new.collector ≡ self.old.collector }
-        ensures owed { self.new.owed ≡ self.old.owed }
-    {
-        self.gone = count;
-    }
 }
 
 impl<N: HeldName> Held<N> {
     /// Makes the turns that the pace asks for, by what was claimed since it was asked last, or those up to the first that waits.
-    pub fn make_slack(&mut self) -> Result<(), Memory>
+    fn pay(&mut self) -> Result<(), Memory>
         ensures came { OnOk result (came self.old.pace self.old.owed (kept self.new.pace)) }
         ensures slack { OnOk result (MakesSlack (asks self.old.pace self.old.owed) self.old.collector self.new.collector) }
         ensures paid { OnOk result (self.new.owed ≡ 0) }
@@ -99,5 +91,37 @@ impl<N: HeldName> Held<N> {
         slack(&mut self.pace, &mut self.collector, claimed);
         self.owed = 0;
         Ok(())
+    }
+}
+
+impl<N: HeldName> SlackWork for Held<N> {
+    type Own = ();
+
+    ghost over = { λ held. N.heap.seats ≤ held.gone };
+
+    ghost slackened = { λ old new. (asked : ℕ) × MakesSlack asked old.collector new.collector };
+
+    /// No more slack is wanted once as many workers have ended as there are seats.
+    fn is_over(&self) -> bool
+        ensures { IsTrue result ↔ (N.heap.seats ≤ self.now.gone) }
+    {
+        u16::from(self.collector.heap().seats) <= self.gone
+    }
+
+    fn make_slack(&mut self, _own: &mut ()) -> Result<(), Memory>
+        requires { ¬ (N.heap.seats ≤ self.old.gone) }
+        ensures slackened { OnOk result ((asked : ℕ) × MakesSlack asked self.old.collector self.new.collector) }
+        ensures slack { OnOk result (MakesSlack (asks self.old.pace self.old.owed) self.old.collector self.new.collector) }
+        ensures paid { OnOk result (self.new.owed ≡ 0) }
+    {
+        self.pay()
+    }
+
+    /// All seats' workers have ended.
+    fn end(&mut self)
+        ensures ended { N.heap.seats ≤ self.new.gone }
+        ensures collector { self.new.collector ≡ self.old.collector }
+    {
+        self.gone = u16::from(self.collector.heap().seats);
     }
 }

@@ -50,8 +50,6 @@ fn run_named<N: HeldName + Send + Sync, G: Gate, R: Threads + Wait + Sync>(
     requires patience { 1 ≤ patience }
     ensures { IfOk result (IsRanOf patience (map (λ script. script.items) scripts.now) seats.items collector) }
 {
-    // What is true of every collector's heap is known from here on.
-    let _ = collector.heap();
     let held = Mutex::new(Held::<N> {
         collector,
         pace,

@@ -5,23 +5,11 @@ ghost use Rattle.heap_runs.specs.CollectCall.{IsPresent, LooksAround, MayAnswer,
 
 use crate::role::{Held, HeldName};
 use core_machine::FoundBehind;
-use heap_model::phase_plan::{CYCLE_PHASES, REST};
 use heap_model::{CollectReply, Inner, Memory, SeatCalls, Turn};
+use heap_record::next_whole_cycle;
 use mutator_seat::Seat;
 use std::sync::{Mutex, Wait};
 use std::thread::yield_now;
-
-/// The first cycle that begins at this phase or behind it.
-fn next_whole_cycle(phase: u64) -> u64
-    ensures behind { phase ≤ 7 * result }
-    ensures first { 7 * result < phase + 7 }
-{
-    if phase % CYCLE_PHASES == REST {
-        phase / CYCLE_PHASES
-    } else {
-        phase / CYCLE_PHASES + 1
-    }
-}
 
 /// Where a turn waits for the seat itself, answers. Where it waits for another one, asks whether that one is behind, and tells what it found where it is.
 fn ask(seat: &mut Seat, turn: Turn) -> Result<Option<FoundBehind>, Memory>

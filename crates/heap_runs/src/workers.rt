@@ -1,31 +1,14 @@
-ghost use Rattle.std.specs.Prelude.{◌≡◌, ◌<◌, ◌≤◌, ◌^◌, length, map, All, IfOk};
+ghost use Rattle.std.specs.Prelude.{◌≡◌, ◌≤◌, map, All, IfOk};
 ghost use Rattle.heap_runs.specs.SeatWork.{IsReadyToWork, HasWorked, HaveWorked, script_at};
 
 use crate::role::{Held, HeldName};
 use crate::seat_work::work;
 use heap_model::{Command, Gate, Memory};
+use heap_record::{SlackWork, work_slack};
 use mutator_seat::Seat;
 use std::alloc::Global;
 use std::sync::{Mutex, Wait};
-use std::thread::{Threads, join, map_vec, yield_now};
-
-/// Makes slack turns of the collector until so many seats' workers have ended.
-fn make_turns<N: HeldName, R: Wait>(
-    rt: &R,
-    held: &Mutex<Held<N>>,
-    count: u16,
-) -> Result<(), Memory> {
-    for _ in rt.forever() {
-        let mut role = held.lock(rt);
-        if role.gone >= count {
-            return Ok(());
-        }
-        role.make_slack()?;
-        drop(role);
-        yield_now();
-    }
-    unreachable!()
-}
+use std::thread::{Threads, join, map_vec};
 
 /// The seats of the workers that came to their ends, if memory was wanting to none.
 fn each_seat(alloc: Global, done: Vec<Result<Seat, Memory>>) -> Result<Vec<Seat>, Memory>
@@ -47,7 +30,6 @@ fn work_seats<N: HeldName + Send + Sync, G: Gate, R: Threads + Wait + Sync>(
     scripts: &[Vec<Command>],
     patience: u32,
     gate: &G,
-    count: u16,
 ) -> Result<Vec<Seat>, Memory>
     requires ready { All (IsReadyToWork N.table N.heap (map (λ script. script.items) scripts.now)) seats.items }
     requires patience { 1 ≤ patience }
@@ -65,7 +47,7 @@ fn work_seats<N: HeldName + Send + Sync, G: Gate, R: Threads + Wait + Sync>(
             work(rt, held, seat, scripts[number].as_slice(), patience, gate)
         },
     );
-    held.lock(rt).end_all(count);
+    held.lock(rt).end();
     each_seat(alloc, done?)
 }
 
@@ -81,19 +63,17 @@ pub fn work_all<N: HeldName + Send + Sync, G: Gate, R: Threads + Wait + Sync>(
     gate: &G,
 ) -> Result<Vec<Seat>, Memory>
     requires ready { All (IsReadyToWork N.table N.heap (map (λ script. script.items) scripts.now)) seats.items }
-    requires few { length seats.items < 2 ^ 16 }
     requires patience { 1 ≤ patience }
     ensures { IfOk result (λ done. HaveWorked patience (map (λ script. script.items) scripts.now) seats.items done.items) }
 {
-    let count = seats.len() as u16;
     let (turns, back) = join(
         rt,
-        move || make_turns(rt, held, count),
+        move || work_slack(rt, held, &mut ()),
         move || -> Result<Vec<Seat>, Memory>
             requires ready { All (IsReadyToWork N.table N.heap (map (λ script. script.items) scripts.now)) seats.items }
             requires patience { 1 ≤ patience }
             ensures { IfOk result (λ done. HaveWorked patience (map (λ script. script.items) scripts.entry.now) seats.items done.items) }
-        { work_seats(rt, alloc, held, seats, scripts, patience, gate, count) },
+        { work_seats(rt, alloc, held, seats, scripts, patience, gate) },
     );
     turns?;
     back

@@ -1,5 +1,5 @@
 use Rattle.heap_runs.proofs.RoleOn.{run_room, run_slack}
-use Rattle.heap_runs.proofs.role.Held+N.make_slack.Goals as goal
+use Rattle.heap_runs.proofs.role.Held+N.pay.Goals as goal
 
 pub invariant_of-self-2 : goal.invariant_of-self-2
 invariant_of-self-2 g c =
