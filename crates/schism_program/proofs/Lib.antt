@@ -3,3 +3,5 @@ pub mod OneStatus
 pub mod SeatScripts
 pub mod RunHistories
 pub mod Inputs
+pub mod OpenedSeats
+pub mod TableRuns

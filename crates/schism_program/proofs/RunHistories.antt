@@ -22,11 +22,10 @@ run_of_script given ran script same handed run =
       heap = refl;
       unmarked = refl;
       legal = record { entries = whole.objects; mark = tt; end_used = run.used };
-      whole = whole;
+      whole = (whole, subst (λ (h : Heap). EndsEmpty h ran.history.items) same run.last_cycle);
       unturned = run_of_heap given ran run;
       commands = λ number within.
           run.commands number (subst (λ (h : Heap). number < h.seats) (sym same) within) ∙ ap (λ (commands : List Command). commands ++ Leave ∷ []) (handed number within);
-      last_cycle = subst (λ (h : Heap). EndsEmpty h ran.history.items) same run.last_cycle;
       none_used = run.none_used;
       all_returned = run.all_returned;
     }

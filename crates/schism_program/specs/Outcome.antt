@@ -8,7 +8,8 @@ use Rattle.io_edge.specs.Left.{GivesAll, LosesNext, LosesUpTo}
 use Rattle.io_edge.specs.Taken.{Takes, TakesFront}
 use Rattle.schism_program.specs.declared.status.Status.{Status}
 use Rattle.schism_program.specs.declared.status.Status.TheVariants as statuses
-use Rattle.schism_program.specs.Works.{FailsAt, IsIllegalAt, MakesText}
+use Rattle.heap_table.specs.Closed.{ClosedTable}
+use Rattle.schism_program.specs.Works.{FailsAt, IsIllegalAt, LeavesTable, MakesText}
 
 -- all that was left was read, where the work has an input; where it has none, nothing was
 abbrev pub IsRead : Work → Option (List ℕ) → Option (List ℕ) → List ℕ → Type 0
@@ -37,6 +38,15 @@ WritesAll words left left' taken taken' = Writes (Takes taken taken') words left
 -- all was read, and a front of the text that the work makes of it was written
 abbrev pub WritesFront : List (List ℕ) → Option (List ℕ) → Option (List ℕ) → Option (List ℕ) → Option (List ℕ) → Type 0
 WritesFront words left left' taken taken' = Writes (TakesFront taken taken') words left left'
+
+-- all was read, the text that the work makes of it was written, and of a run without the lock the closed table is left, whose run the text tells
+pub record LeavesAll (words : List (List ℕ)) (left left' taken taken' : Option (List ℕ)) (closed : Option ClosedTable) : Type 0 where
+  pub work : Work
+  pub input : List ℕ
+  pub text : List ℕ
+  pub reads : ReadsInput words left left' work input
+  pub written : Takes taken taken' text
+  pub leaves : LeavesTable work input text closed
 
 -- all was read, and this line is refused
 pub record IsRefusedAt (words : List (List ℕ)) (left left' : Option (List ℕ)) (line : ℕ) (cause : Cause) : Type 0 where

@@ -5,7 +5,7 @@ use Rattle.heap_model.specs.declared.command.Command.{Command}
 use Rattle.heap_model.specs.declared.command.Command.TheVariants.{Leave}
 use Rattle.heap_model.specs.declared.entry.Entry.{Entry}
 use Rattle.heap_model.specs.declared.heap.Heap.{Heap}
-use Rattle.heap_model.specs.Logs.{KeepsLogs}
+use Rattle.heap_model.specs.Logs.{logs_of, KeepsLogs}
 use Rattle.heap_model.specs.account.Account.{IsLegal}
 use Rattle.heap_model.specs.account.Space.{words_granted, words_returned}
 use Rattle.heap_model.specs.account.Turned.{is_of_heap}
@@ -20,6 +20,8 @@ use Rattle.script_text.specs.Text.{text_of}
 use Rattle.reply_text.specs.declared.history.History.{History}
 use Rattle.reply_text.specs.History.{history_lines}
 use Rattle.log_merge.specs.Legal.{IsLegalHistory}
+use Rattle.heap_table.specs.Closed.{ClosedTable}
+use Rattle.heap_runs.specs.Finishing.{EndsBehindLeaves, EndsUnused}
 use Rattle.locked_heap.specs.declared.ran.LockedRan.{LockedRan}
 
 -- the command of the line, where the line is the seat's
@@ -31,10 +33,11 @@ line_commands number (lines.Turns command) = []
 abbrev pub seat_commands : ℕ → List Line → List Command
 seat_commands number script = flat_map (line_commands number) script
 
--- behind one lock the order itself is legal in full as a run; else some order of the same entries is that keeps each log's order
-abbrev pub IsLegalRun : Bool → Heap → List Entry → Type 0
-IsLegalRun true heap entries = IsLegal heap false entries
-IsLegalRun false heap entries = (other : List Entry) × KeepsLogs entries other × IsLegal heap false other
+-- behind one lock the order itself is legal in full as a run, and its last cycle is the first that began behind every leave; else some order of the same entries, which keeps each log's
+-- order, is legal in full, and its last cycle began behind every leave
+abbrev pub IsWholeRun : Bool → Heap → List Entry → Type 0
+IsWholeRun true heap entries = IsLegal heap false entries × EndsEmpty heap entries
+IsWholeRun false heap entries = (other : List Entry) × KeepsLogs entries other × IsLegal heap false other × EndsBehindLeaves heap other
 
 -- the history is that of a run of the script: each seat answers its own lines and leaves, and at the end nothing is in use
 pub record IsRunOf (locked : Bool) (script : Script) (history : History) : Type 0 where
@@ -42,13 +45,11 @@ pub record IsRunOf (locked : Bool) (script : Script) (history : History) : Type 
   pub heap : history.heap ≡ script.heap
   pub unmarked : history.mark ≡ None
   pub legal : IsLegalHistory history
-  pub whole : IsLegalRun locked history.heap history.entries
+  pub whole : IsWholeRun locked history.heap history.entries
   -- no entry answers a command of the collector
   pub unturned : AllByRecursion (λ entry. is_of_heap entry ≡ true) history.entries
   -- the lines of a seat are answered in their order, each once, and behind them it leaves
   pub commands : (number : ℕ) → number < script.heap.seats → commands_told number history.entries ≡ seat_commands number script.lines ++ Leave ∷ []
-  -- the last cycle began behind every leave
-  pub last_cycle : EndsEmpty script.heap history.entries
   pub none_used : history.end_used ≡ 0
   pub all_returned : words_returned history.entries ≡ words_granted history.entries
 
@@ -63,3 +64,22 @@ pub record Runs (locked : Bool) (input text : List ℕ) : Type 0 where
   pub spelled : IsScript forms.Run input script
   pub ran : IsRunOf locked script history
   pub rendered : text ≡ text_of (history_lines history)
+
+-- the entries of the history are those of the closed table's logs, whose words stand for a legal history of them at the end of which nothing is in use
+pub record IsOfTable (history : History) (closed : ClosedTable) : Type 0 where
+  pub heap_is : closed.heap ≡ history.heap
+  pub logs_are : closed.logs ≡ logs_of history.heap history.entries
+  pub unused : EndsUnused closed
+
+-- the text tells a run of the input's script, without a lock, on the table that was closed
+pub record RunsOnTable (input text : List ℕ) (closed : ClosedTable) : Type 0 where
+  pub script : Script
+  pub history : History
+  pub spelled : IsScript forms.Run input script
+  pub ran : IsRunOf false script history
+  pub rendered : text ≡ text_of (history_lines history)
+  pub tabled : IsOfTable history closed
+
+-- the history that tells a run of these entries, at whose end nothing is in use
+abbrev pub merged_history : Heap → List Entry → History
+merged_history heap entries = record { form = forms.Run; heap = heap; entries = entries; mark = None; end_used = 0 }

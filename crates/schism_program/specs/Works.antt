@@ -1,11 +1,12 @@
 -- What the program does with an input, by the work that its words ask for.
-use Rattle.std.specs.Prelude.{◌≡◌, ℕ, List, Some, is_some}
+use Rattle.std.specs.Prelude.{◌≡◌, ℕ, false, List, Option, Some, None, is_some, IsSomeAnd}
 use Rattle.form_words.specs.declared.work.Work.{Work}
 use Rattle.form_words.specs.declared.work.Work.TheVariants.{Play, Run, Check, Make}
 use Rattle.script_text.specs.declared.cause.Cause.{Cause}
 use Rattle.script_text.specs.declared.script.Form.TheVariants as forms
 use Rattle.reply_text.specs.read.Faults.{first_history_fault}
-use Rattle.schism_program.specs.Running.{Runs}
+use Rattle.heap_table.specs.Closed.{ClosedTable}
+use Rattle.schism_program.specs.Running.{Runs, RunsOnTable}
 use Rattle.schism_program.specs.Serving.{FailsAsScript, IsScriptText, Plays, IsMadeText}
 use Rattle.schism_program.specs.Verdict.{FindsIllegal, FindsLegal, IsLegalText}
 
@@ -34,3 +35,13 @@ FailsAt (Make start seats lines) input line cause = ⊥
 abbrev pub IsIllegalAt : Work → List ℕ → ℕ → Type 0
 IsIllegalAt Check input line = FindsIllegal input line
 IsIllegalAt work input line = ⊥
+
+-- the work is a run without the lock
+abbrev pub IsOpenRun : Work → Type 0
+IsOpenRun (Run pace false patience) = Unit {0}
+IsOpenRun work = ⊥
+
+-- a run without the lock leaves the closed table on which it ran; no other work leaves one
+abbrev pub LeavesTable : Work → List ℕ → List ℕ → Option ClosedTable → Type 0
+LeavesTable (Run pace false patience) input text closed = IsSomeAnd closed (RunsOnTable input text)
+LeavesTable work input text closed = closed ≡ None

@@ -6,10 +6,12 @@ ghost use Rattle.script_text.specs.Grammar.{IsScript};
 ghost use Rattle.script_text.specs.Writing.{IsOfForm};
 ghost use Rattle.script_text.specs.Text.{text_of};
 ghost use Rattle.schism_program.specs.Serving.{told_lines, FailsAsScript, IsMadeText, Plays};
-ghost use Rattle.schism_program.specs.Works.{FailsAt, IsIllegalAt, MakesText};
+ghost use Rattle.schism_program.specs.Works.{FailsAt, IsIllegalAt, IsOpenRun, LeavesTable, MakesText};
 
 use crate::fault::WorkFault;
+use crate::made::Made;
 use crate::running::run_text;
+use crate::table_run::run_on_table;
 use crate::verdict::verdict;
 use form_words::{PaceName, Work};
 use heap_model::{Gate, Memory};
@@ -75,8 +77,8 @@ fn made_script_text(alloc: Global, start: u32, seats: u8, lines: u32) -> Result<
     Ok(text)
 }
 
-/// The text that the work makes of the input. Only a run may wait, and only its work is handed the runtime.
-pub fn made_text<G: Gate, R: Threads + Wait + Sync>(
+/// The text that the work makes of the input, where it is no run without the lock. Only a run may wait, and only its work is handed the runtime.
+fn text_alone<G: Gate, R: Threads + Wait + Sync>(
     rt: &R,
     alloc: Global,
     work: Work,
@@ -84,7 +86,8 @@ pub fn made_text<G: Gate, R: Threads + Wait + Sync>(
     paces: Paces,
     gate: &G,
 ) -> Result<Vec<u8>, WorkFault>
-    requires { IsWork work }
+    requires work { IsWork work }
+    requires alone { ¬ IsOpenRun work }
     ensures ok { IfOk result (λ text. MakesText work input.now text.items) }
     ensures refused { (fault : ALineFault) → result ≡ Err (WorkFault.Refused fault) →
         FailsAt work input.now fault.line fault.cause }
@@ -109,4 +112,37 @@ pub fn made_text<G: Gate, R: Threads + Wait + Sync>(
             lines,
         } => Ok(made_script_text(alloc, start, seats, lines)?),
     }
+}
+
+/// The text that the work makes of the input, and the table that it closes where it is a run without the lock.
+pub fn made_work<G: Gate, R: Threads + Wait + Sync>(
+    rt: &R,
+    alloc: Global,
+    work: Work,
+    input: &[u8],
+    paces: Paces,
+    gate: &G,
+) -> Result<Made, WorkFault>
+    requires { IsWork work }
+    ensures ok { IfOk result (λ made. MakesText work input.now made.text.items) }
+    ensures closed { IfOk result (λ made. LeavesTable work input.now made.text.items made.closed) }
+    ensures refused { (fault : ALineFault) → result ≡ Err (WorkFault.Refused fault) →
+        FailsAt work input.now fault.line fault.cause }
+    ensures not_legal { (line : ℕ) → result ≡ Err (WorkFault.NotLegal line) →
+        IsIllegalAt work input.now line }
+{
+    if let Work::Run {
+        locked: false,
+        pace: PaceName::Steady,
+        patience,
+    } = work
+    {
+        let run = run_on_table(rt, alloc, input, paces.steady, patience, gate)?;
+        return Ok(Made {
+            text: run.text,
+            closed: Some(run.closed),
+        });
+    }
+    let text = text_alone(rt, alloc, work, input, paces, gate)?;
+    Ok(Made { text, closed: None })
 }

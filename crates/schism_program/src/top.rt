@@ -1,17 +1,19 @@
-ghost use Rattle.std.specs.Prelude.{◌≡◌, ◌≢◌, ℕ, ◌↔◌, ◌⊎◌, map};
+ghost use Rattle.std.specs.Prelude.{◌≡◌, ◌≢◌, ℕ, ◌↔◌, ◌⊎◌, None, map};
 ghost use Rattle.script_text.specs.declared.cause.Cause.{Cause};
 ghost use Rattle.form_words.specs.Works.{AskFor, IsForm, HasInput};
 ghost use Rattle.form_words.specs.declared.work.Work.{Work as AWork};
 ghost use Rattle.io_edge.specs.Faults.{Rose};
 ghost use Rattle.schism_program.specs.Due.{IsDue};
-ghost use Rattle.schism_program.specs.Outcome.{IsNotLegal, IsRefusedAt, IsWriting, ReadsNoMore, ReadsTooMuch, WritesAll, WritesFront};
+ghost use Rattle.schism_program.specs.Outcome.{IsNotLegal, IsRefusedAt, LeavesAll, IsWriting, ReadsNoMore, ReadsTooMuch, WritesAll, WritesFront};
 
 use crate::fault::WorkFault;
 use crate::input::read_input;
-use crate::serving::made_text;
+use crate::made::Made;
+use crate::serving::made_work;
 use crate::status::Status;
 use form_words::Work;
 use heap_model::Gate;
+use heap_table::Closed;
 use io_edge::{ReadAllFault, Sink, Source, write_all};
 use script_text::LineFault;
 use slack_pace::Paces;
@@ -19,9 +21,17 @@ use std::alloc::Global;
 use std::sync::Wait;
 use std::thread::Threads;
 
+/// Leaves this table, or none, in place of what there was.
+fn leave(closed: &mut Option<Closed>, table: Option<Closed>)
+    ensures { closed.new ≡ table }
+{
+    *closed = table;
+}
+
 /// Plays or runs the script that the source gives, or checks the history, or makes a script, as the words ask, and writes what comes
 /// of it to the sink. The whole text stands before the first byte is written. The runtime and the gate are for a run alone: what the other forms
 /// call to make their text (`played_text`, `verdict`, `made_script_text`) takes neither, and has no bound by which it may start a thread or wait.
+/// `closed` gets the table on which a run without the lock went, with its words and logs; whatever it held before is dropped.
 pub fn schism<S: Source, K: Sink, G: Gate, R: Threads + Wait + Sync>(
     rt: &R,
     alloc: Global,
@@ -30,6 +40,7 @@ pub fn schism<S: Source, K: Sink, G: Gate, R: Threads + Wait + Sync>(
     sink: &mut K,
     paces: Paces,
     gate: &G,
+    closed: &mut Option<Closed>,
 ) -> Status
     ensures usage { (result ≡ Status.Usage) ↔ (¬ IsForm (map (λ w. w.now) words.now)) }
     ensures unread { result ≡ Status.Usage → source.new ≡ source.old }
@@ -50,6 +61,11 @@ pub fn schism<S: Source, K: Sink, G: Gate, R: Threads + Wait + Sync>(
     ensures front { result ≡ Status.WriteFault → WritesFront (map (λ w. w.now) words.now)
         (S.left source.old) (S.left source.new) (K.taken sink.old) (K.taken sink.new) }
 
+    // The table on which a run went without the lock is left where all is done, and else none is.
+    ensures unclosed { result ≢ Status.Done → closed.new ≡ None }
+    ensures closed { result ≡ Status.Done → LeavesAll (map (λ w. w.now) words.now)
+        (S.left source.old) (S.left source.new) (K.taken sink.old) (K.taken sink.new) closed.new }
+
     // What words and input call for comes where no fault was counted, unless memory is wanting.
     ensures complete { (status : Status) →
         IsDue (map (λ w. w.now) words.now) (S.left source.old) status →
@@ -64,6 +80,7 @@ pub fn schism<S: Source, K: Sink, G: Gate, R: Threads + Wait + Sync>(
     ensures read_count { result ≢ Status.ReadFault → S.faults source.new ≡ S.faults source.old }
     ensures write_count { result ≢ Status.WriteFault → K.faults sink.new ≡ K.faults sink.old }
 {
+    leave(closed, None);
     let Some(work) = Work::of(words) else {
         return Status::Usage;
     };
@@ -73,8 +90,11 @@ pub fn schism<S: Source, K: Sink, G: Gate, R: Threads + Wait + Sync>(
         Err(ReadAllFault::ReadFault) => return Status::ReadFault,
         Err(ReadAllFault::Memory) => return Status::Memory,
     };
-    let text = match made_text(rt, alloc, work, &input, paces, gate) {
-        Ok(text) => text,
+    let Made {
+        text,
+        closed: table,
+    } = match made_work(rt, alloc, work, &input, paces, gate) {
+        Ok(made) => made,
         Err(WorkFault::Refused(LineFault { line, cause })) => return Status::Refused {
             line,
             cause,
@@ -83,7 +103,10 @@ pub fn schism<S: Source, K: Sink, G: Gate, R: Threads + Wait + Sync>(
         Err(WorkFault::Memory) => return Status::Memory,
     };
     match write_all(sink, &text) {
-        Ok(()) => Status::Done,
+        Ok(()) => {
+            leave(closed, table);
+            Status::Done
+        }
         Err(_) => Status::WriteFault,
     }
 }

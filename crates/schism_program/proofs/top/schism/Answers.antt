@@ -27,5 +27,5 @@ returns-in-Ok-write_all-clause-complete g c = λ status due calm_source calm_sin
     let work = c.in-Some.work in
     let input = c.in-Ok.input.items in
     let short : length input ≤ most_bytes work = search rules in
-    let makes : MakesText work input c.in-Ok-made_text.text.items = search rules in
+    let makes : MakesText work input c.in-Ok-made_work.made.text.items = search rules in
     inl (only_due _ _ _ work input statuses.Done status c.in-Some.ensures.some c.in-Ok.ensures.read (short, made_suits work input _ makes) due)

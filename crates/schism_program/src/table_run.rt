@@ -1,0 +1,92 @@
+ghost use Rattle.std.specs.Prelude.{◌≡◌, ◌≤◌, ℕ, Err, IfOk, IfSome, All};
+ghost use Rattle.script_text.specs.declared.cause.LineFault.{LineFault as ALineFault};
+ghost use Rattle.script_text.specs.declared.script.Form.TheVariants.{Run};
+ghost use Rattle.heap_table.specs.SeatHeld.{SeatHeld};
+ghost use Rattle.mutator_seat.specs.Resting.{IsBetweenCalls};
+ghost use Rattle.schism_program.specs.Running.{merged_history, RunsOnTable};
+ghost use Rattle.schism_program.specs.Serving.{FailsAsScript};
+
+use crate::fault::WorkFault;
+use crate::running::scripts_of;
+use crate::serving::script_of;
+use collector_turns::Collector;
+use core_machine::Log;
+use heap_model::{Entry, Gate, Heap, Memory};
+use heap_runs::{Ran, run_seats};
+use heap_table::{Closed, HeapTable, Holder};
+use log_merge::merge;
+use mutator_seat::Seat;
+use reply_text::{History, render_history};
+use script_text::{Form, Sequence};
+use slack_pace::Pace;
+use std::alloc::Global;
+use std::sync::Wait;
+use std::thread::Threads;
+
+/// A run on a shared table: the text that tells it, and the table as it was closed.
+#[derive(Drop)]
+pub struct TableRun {
+    pub text: Vec<u8>,
+    pub closed: Closed,
+}
+
+/// The seats of these holders, in their order.
+fn seats_of(alloc: Global, holders: Vec<Holder>) -> Result<Vec<Seat>, Memory>
+    requires { All IsBetweenCalls holders.items }
+    ensures { IfOk result (λ seats. seats.items ≡ holders.items) }
+{
+    let mut seats = Vec::new(alloc);
+    for holder in holders {
+        seats.push(Seat::make(holder))?;
+    }
+    Ok(seats)
+}
+
+/// The history that tells a run of these entries, at whose end nothing is in use.
+fn history_of(heap: Heap, entries: Vec<Entry>) -> History
+    ensures { result ≡ merged_history heap entries.items }
+{
+    History {
+        form: Form::Run,
+        heap,
+        entries: Sequence::from_vec(entries),
+        mark: None,
+        end_used: 0,
+    }
+}
+
+/// Runs the script that the input is on a shared table, each seat on a thread of its own and with no lock round a word of the heap, and tells the run.
+pub fn run_on_table<G: Gate, R: Threads + Wait + Sync>(
+    rt: &R,
+    alloc: Global,
+    input: &[u8],
+    pace: Box<dyn Pace>,
+    patience: u32,
+    gate: &G,
+) -> Result<TableRun, WorkFault>
+    requires { 1 ≤ patience }
+    ensures ok { IfOk result (λ run. RunsOnTable input.now run.text.items run.closed) }
+    ensures refused { (fault : ALineFault) → result ≡ Err (WorkFault.Refused fault) →
+        FailsAsScript Run input.now fault.line fault.cause }
+    ensures legal { (line : ℕ) → result ≡ Err (WorkFault.NotLegal line) → ⊥ }
+{
+    let script = script_of(alloc, input, Form::Run)?;
+    let scripts = scripts_of(alloc, &script)?;
+    let (holders, collector) = HeapTable::make::<Log, Log>(alloc, script.heap)?;
+    let seats = seats_of(alloc, holders)?;
+    let collector = Collector::make(collector);
+    let Ran { closed, .. } = run_seats(
+        rt,
+        alloc,
+        seats,
+        collector,
+        scripts.as_slice(),
+        pace,
+        patience,
+        gate,
+    )?;
+    let entries = merge(alloc, closed.logs(), script.heap)?;
+    let history = history_of(script.heap, entries);
+    let text = render_history(alloc, &history)?;
+    Ok(TableRun { text, closed })
+}
