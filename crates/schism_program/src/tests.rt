@@ -19,7 +19,7 @@ mod turns;
 
 use crate::status::Status;
 use crate::top::schism;
-use comparing::same;
+use comparing::holds;
 use heap_model::{Gate, OpenGate};
 use io_edge::{MemSink, MemSource, NeverSink, NeverSource, Sink, Source};
 use script_text::Cause;
@@ -129,7 +129,7 @@ fn written_at<G: Gate>(
     paces: Paces,
 ) -> Result<Vec<u8>, AllocError> {
     let (end, written) = told_at(rt, alloc, line, text, gate, paces)?;
-    same(rt, &end, &Status::Done, &line);
+    holds(rt, end == Status::Done, &line);
     Ok(written)
 }
 

@@ -2,17 +2,21 @@
 
 ghost use Rattle.std.specs.Prelude.{IsTrue};
 
-use std::fmt::{Debug, Display};
+use crate::status::Status;
+use std::fmt::Display;
 use std::process::Abort;
 
-/// What was found is what was wanted, at this place of a test.
-pub(super) fn same<T: PartialEq + Debug>(
+/// The program ended so, and wrote these bytes, at this place of a test.
+pub(super) fn tells(
     rt: &impl Abort,
-    found: &T,
-    wanted: &T,
+    found: &(Status, Vec<u8>),
+    end: Status,
+    written: &[u8],
     at: &impl Display,
 ) {
-    assert_eq!(rt; found, wanted, "at {at}");
+    let (status, bytes) = found;
+    assert_eq!(rt; *status, end, "at {at}");
+    assert_eq!(rt; bytes.as_slice(), written, "at {at}");
 }
 
 /// What was wanted holds, at this place of a test.

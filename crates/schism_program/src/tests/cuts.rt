@@ -1,6 +1,6 @@
 //! The first script, cut at every length: it is played where the cut is at the end of a line, and refused elsewhere.
 
-use super::comparing::{holds, same};
+use super::comparing::holds;
 use super::{FIRST, FIRST_PLAYED, ended};
 use crate::status::Status;
 use std::process::Abort;
@@ -57,14 +57,14 @@ fn is_front_played(rt: &impl Abort, taken: &[u8], front: usize, last: &str, cut:
 
 #[test]
 fn plays_the_first_script_cut_at_the_end_of_a_line(rt: HostRuntime) -> Result<(), Fail> {
-    same(&rt, &FIRST.len(), &64, &"the first script");
+    holds(&rt, FIRST.len() == 64, &"the first script");
     for cut in 0..65 {
         let text = FIRST.as_bytes().get(..cut).expect(&rt, "a front of it");
         let (end, taken) = ended(&rt, rt.alloc(), &["play"], text, &[], &[])?;
-        same(&rt, &refused_line(end), &faulty_line(cut), &cut);
+        holds(&rt, refused_line(end) == faulty_line(cut), &cut);
         match front_played(cut) {
             Some((front, last)) => {
-                same(&rt, &end, &Status::Done, &cut);
+                holds(&rt, end == Status::Done, &cut);
                 is_front_played(&rt, &taken, front, last, cut);
             }
             None => {

@@ -1,7 +1,7 @@
 //! The forms of the words after the program's name: plays at a steady pace, briefs, and scripts that are made.
 
-use super::comparing::same;
-use super::{FIRST, ended, written};
+use super::comparing::tells;
+use super::{FIRST, ended, told, written};
 use crate::status::Status;
 use heap_model::OpenGate;
 use std::alloc::{AllocError, Global};
@@ -10,109 +10,45 @@ use std::sync::Wait;
 use std::test::Fail;
 use std::thread::Threads;
 
-/// Words that are no form, each with one space between two.
-const NO_FORMS: [&str; 44] = [
-    "plays",
-    "Check",
-    "play extra",
-    "play check",
-    "check play",
-    "check --brief",
-    "check --pace steady",
-    "--brief play",
-    "play --brief --brief",
-    "play --pace steady --pace steady",
-    "play --pace steady --brief --pace steady",
-    "play --pace",
-    "play --pace debt",
-    "play --pace --brief steady",
-    "play --pace=steady",
-    "play --brief=",
-    "play -- --brief",
-    "play --brief --",
-    "play --locked",
-    "play --patience 5",
-    "run extra",
-    "--locked run",
-    "run --brief",
-    "run --locked --locked",
-    "run --locked --patience",
-    "run --patience 0",
-    "run --patience 01",
-    "run --patience 1000001",
-    "run --patience -1",
-    "run --patience=5",
-    "run --patience 5 --patience 5",
-    "run --pace steady --pace steady",
-    "run --pace --locked steady",
-    "run --pace debt",
-    "run -- --locked",
-    "make",
-    "make 7 4",
-    "make 7 4 2000 1",
-    "make 2147483648 1 1",
-    "make 1 0 1",
-    "make 1 17 1",
-    "make 1 1 32769",
-    "make 01 1 1",
-    "make 1 1 +1",
+/// Words, and the status to which they come where the first call of each side would fail: so neither side is touched where it is Usage.
+const STATUSES: [(&[&str], Status); 9] = [
+    (&[], Status::Usage),
+    (&["plays"], Status::Usage),
+    (&[" play"], Status::Usage),
+    (&["play", "--locked"], Status::Usage),
+    (&["play", "--pace", "steady", "--brief"], Status::ReadFault),
+    (&["run", "--locked", "--patience", "1"], Status::ReadFault),
+    (&["check"], Status::ReadFault),
+    (&["make", "0", "1", "0"], Status::WriteFault),
+    (&["make", "0", "17", "0"], Status::Usage),
 ];
 
-/// Words with a space in one of them, which are no form either.
-const SPACED: [&[&str]; 5] = [
-    &[" play"],
-    &["play "],
-    &["check\n"],
-    &["play", " --brief"],
-    &["make", "1 ", "1", "1"],
-];
-
-/// Words that read a script or a history at first.
-const READERS: [&str; 12] = [
-    "play",
-    "play --brief",
-    "play --pace steady",
-    "play --brief --pace steady",
-    "play --pace steady --brief",
-    "run",
-    "run --locked",
-    "run --pace steady",
-    "run --patience 1",
-    "run --patience 1000000 --pace steady --locked",
-    "run --locked --patience 1000 --pace steady",
-    "check",
-];
-
-/// Words that read nothing and write a script.
-const MAKERS: [&str; 2] = ["make 2147483647 16 32768", "make 0 1 0"];
-
-/// The words of each line come to the status where the first call of each side would fail: so neither side is touched where it is Usage.
-fn all_end(
+/// What the words in the line write of the text.
+fn writes(
     rt: &(impl Abort + Threads + Wait + Sync),
     alloc: Global,
-    lines: &[&str],
-    status: Status,
+    line: &str,
+    text: &[u8],
+    wanted: &[u8],
 ) -> Result<(), AllocError> {
-    for line in lines {
-        let words: Vec<&str> = line.split(' ').collect(alloc)?;
-        let (end, _) = ended(rt, alloc, &words, FIRST.as_bytes(), &[0], &[0])?;
-        same(rt, &end, &status, line);
-    }
+    let told = told(rt, alloc, line, text, &OpenGate)?;
+    tells(rt, &told, Status::Done, wanted, &line);
     Ok(())
 }
 
 #[test]
 fn says_usage_of_other_words(rt: HostRuntime) -> Result<(), Fail> {
     let alloc = rt.alloc();
-    let (end, _) = ended(&rt, alloc, &[], FIRST.as_bytes(), &[0], &[0])?;
-    same(&rt, &end, &Status::Usage, &"no words");
-    for words in SPACED {
-        let (end, _) = ended(&rt, alloc, words, FIRST.as_bytes(), &[0], &[0])?;
-        same(&rt, &end, &Status::Usage, &words[0]);
+    for (words, status) in STATUSES {
+        let told = ended(&rt, alloc, words, FIRST.as_bytes(), &[0], &[0])?;
+        tells(
+            &rt,
+            &told,
+            status,
+            b"",
+            words.first().unwrap_or(&"no words"),
+        );
     }
-    all_end(&rt, alloc, &NO_FORMS, Status::Usage)?;
-    all_end(&rt, alloc, &READERS, Status::ReadFault)?;
-    all_end(&rt, alloc, &MAKERS, Status::WriteFault)?;
     Ok(())
 }
 
@@ -121,13 +57,11 @@ fn says_usage_of_other_words(rt: HostRuntime) -> Result<(), Fail> {
 #[test]
 fn makes_a_script_and_plays_it(rt: HostRuntime) -> Result<(), Fail> {
     let alloc = rt.alloc();
-    let script = written(&rt, alloc, "make 1 1 4", b"", &OpenGate)?;
-    let wanted = "schism 1\nheap 64 256 1\n0 copy 14 1\n0 set 11 3 2\n0 set 4 6 13\n0 poll\n";
-    same(&rt, &script.as_slice(), &wanted.as_bytes(), &"the script");
-    let played = written(&rt, alloc, "play", &script, &OpenGate)?;
+    let script = b"schism 1\nheap 64 256 1\n0 copy 14 1\n0 set 11 3 2\n0 set 4 6 13\n0 poll\n";
+    writes(&rt, alloc, "make 1 1 4", b"", script)?;
     let wanted =
         "history 1 play\nheap 64 256 1\n0 copy 14 1 = ok\n0 set 11 3 2 = no object\n0 set 4 6 13 = no object\n0 poll = 0\nspace used 11 of 1024 spine 0 of 256\n0 leave = ok\nc phase 1\nc phase 2\nc phase 3\nc phase 4\nc phase 5\nc frees 11\nc phase 6\nc ends 0 kept 0\nend used 0\n";
-    same(&rt, &played.as_slice(), &wanted.as_bytes(), &"the play");
+    writes(&rt, alloc, "play", script, wanted.as_bytes())?;
     Ok(())
 }
 
@@ -139,8 +73,7 @@ fn plays_a_made_script_at_a_steady_pace(rt: HostRuntime) -> Result<(), Fail> {
     let wanted =
         "brief 1\nheap 64 256 4\ncommands 2000 refused 232\nmade 409 cycles 14 freed 1737 swung 195\nspace used 252 of 1024 spine 108 of 256\nend used 0\n";
     for line in ["play --pace steady --brief", "play --brief --pace steady"] {
-        let brief = written(&rt, alloc, line, &script, &OpenGate)?;
-        same(&rt, &brief.as_slice(), &wanted.as_bytes(), &line);
+        writes(&rt, alloc, line, &script, wanted.as_bytes())?;
     }
     Ok(())
 }
@@ -156,9 +89,8 @@ fn plays_at_a_steady_pace(rt: HostRuntime) -> Result<(), Fail> {
     let alloc = rt.alloc();
     let script =
         b"schism 1\nheap 3 0 2\n1 new 1 47\n0 poll\n1 poll\n0 poll\n1 poll\n0 poll\n1 poll\n0 num 2 9\n0 new 1 47\n0 nil 2\n";
-    let played = written(&rt, alloc, "play --pace steady", script, &OpenGate)?;
     let wanted =
         "history 1 play\nheap 3 0 2\n1 takes 16\n1 new 1 47 = 1.0\nc phase 1\n0 answers 1\n0 poll = 1\n1 answers 1\n1 poll = 1\nc phase 2\n0 answers 2\n0 poll = 2\n1 answers 2\n1 poll = 2\nc phase 3\n0 answers 3\n0 poll = 3\n1 answers 3\n1 poll = 3\n0 num 2 9 = ok\n0 takes 5\n0 takes 16\n0 new 1 47 = 0.0\nc phase 4\n0 nil 2 = ok\nspace used 48 of 48 spine 0 of 0\n0 gives back 5\n0 leave = ok\n1 leave = ok\nc phase 5\nc phase 6\nc ends 0 kept 43\nc phase 8\nc phase 9\nc phase 10\nc phase 11\nc phase 12\nc frees 16\nc frees 16\nc frees 11\nc phase 13\nc ends 1 kept 0\nend used 0\n";
-    same(&rt, &played.as_slice(), &wanted.as_bytes(), &"the play");
+    writes(&rt, alloc, "play --pace steady", script, wanted.as_bytes())?;
     Ok(())
 }

@@ -1,24 +1,11 @@
 //! Histories that are checked, and texts that are none.
 
-use super::comparing::{holds, same};
+use super::comparing::tells;
 use super::{FIRST, ended, illegal, refused};
 use crate::status::Status;
 use script_text::Cause;
 use std::alloc::{AllocError, Global};
 use std::test::Fail;
-
-/// A text that is no history, and the line and the cause.
-const REFUSED: [(&str, u32, Cause); 5] = [
-    ("history 1 play\nheap 1 0 1\n", 3, Cause::NoEnd),
-    (
-        "history 1 play\nheap 1 0 1\nend used 11\n",
-        3,
-        Cause::BadEntry,
-    ),
-    ("history 1 play\nheap 0 0 1\n", 2, Cause::BadHeap),
-    (FIRST, 1, Cause::NoHeader),
-    ("", 1, Cause::NoHeader),
-];
 
 // The history of a seat that made one record and left, and of the cycle that then freed it with the board. The reply in the
 // fourth line says which object was made.
@@ -47,19 +34,15 @@ fn checks_histories_of_collections(rt: HostRuntime) -> Result<(), Fail> {
         (one_dropped(alloc, 10)?, illegal(20), ""),
         (one_dropped(alloc, 16)?, illegal(20), ""),
     ] {
-        let (end, told) = ended(&rt, alloc, &["check"], history.as_bytes(), &[], &[])?;
-        same(&rt, &end, &status, &history);
-        same(&rt, &told.as_slice(), &verdict.as_bytes(), &history);
+        let told = ended(&rt, alloc, &["check"], history.as_bytes(), &[], &[])?;
+        tells(&rt, &told, status, verdict.as_bytes(), &history);
     }
     Ok(())
 }
 
 #[test]
-fn checks_no_other_texts(rt: HostRuntime) -> Result<(), Fail> {
-    for (text, line, cause) in REFUSED {
-        let (end, told) = ended(&rt, rt.alloc(), &["check"], text.as_bytes(), &[], &[])?;
-        same(&rt, &end, &refused(line, cause), &text);
-        holds(&rt, told.is_empty(), &text);
-    }
+fn checks_no_script(rt: HostRuntime) -> Result<(), Fail> {
+    let told = ended(&rt, rt.alloc(), &["check"], FIRST.as_bytes(), &[], &[])?;
+    tells(&rt, &told, refused(1, Cause::NoHeader), b"", &"a script");
     Ok(())
 }

@@ -1,6 +1,6 @@
 //! Worked histories with their verdicts.
 
-use super::comparing::{holds, same};
+use super::comparing::holds;
 use super::ended;
 use crate::status::{Status, status_text};
 use std::alloc::{AllocError, Global};
@@ -121,10 +121,9 @@ fn judges(
         let (status, taken) = ended(rt, alloc, &["check"], text.as_bytes(), &[], &[])?;
         if status == Status::Done {
             let written = format!(in alloc; "{verdict}\n")?;
-            same(rt, &taken.as_slice(), &written.as_bytes(), case);
+            holds(rt, taken.as_slice() == written.as_bytes(), case);
         } else {
-            let said = status_text(&status);
-            same(rt, &said.as_str(), &verdict, case);
+            holds(rt, status_text(&status).as_str() == verdict, case);
             holds(rt, taken.is_empty(), case);
         }
     }

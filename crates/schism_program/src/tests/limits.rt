@@ -1,6 +1,6 @@
 //! How much is read of a script and of a history.
 
-use super::comparing::{holds, same};
+use super::comparing::{holds, tells};
 use super::{ended, refused, status_of};
 use crate::status::Status;
 use heap_model::OpenGate;
@@ -16,10 +16,8 @@ fn reads_no_more_than_the_limit(rt: HostRuntime) -> Result<(), Fail> {
     ] {
         let mut text = Vec::from_slice(rt.alloc(), b"schism 1\nheap 1 0 1\n")?;
         text.resize(count, b' ')?;
-        same(&rt, &text.len(), &count, &count);
-        let (end, taken) = ended(&rt, rt.alloc(), &["play"], &text, &[], &[])?;
-        same(&rt, &end, &status, &count);
-        holds(&rt, taken.is_empty(), &count);
+        let told = ended(&rt, rt.alloc(), &["play"], &text, &[], &[])?;
+        tells(&rt, &told, status, b"", &count);
     }
     Ok(())
 }
@@ -35,7 +33,7 @@ fn reads_no_more_of_a_history_than_the_limit(rt: HostRuntime) -> Result<(), Fail
         let mut source = MemSource::new(text, 4096, Vec::new(alloc));
         let mut sink = MemSink::new(Vec::new(alloc), 8, Vec::new(alloc));
         let end = status_of(&rt, alloc, &["check"], &mut source, &mut sink, &OpenGate)?;
-        same(&rt, &end, &status, &count);
+        holds(&rt, end == status, &count);
     }
     Ok(())
 }

@@ -5,7 +5,7 @@ mod gates;
 mod judging;
 mod paced;
 
-use super::comparing::{holds, same};
+use super::comparing::{holds, tells};
 use super::several_seats::text_of;
 use super::{refused, told, written, written_at};
 use gates::{OneAfterTheOther, TwoAtOnce};
@@ -125,9 +125,8 @@ fn waits_for_a_seat_that_never_polls(rt: HostRuntime) -> Result<(), Fail> {
 fn refuses_lines_of_the_collector(rt: HostRuntime) -> Result<(), Fail> {
     let script = b"schism 1\nheap 1 0 1\nc turns 2\nc turns 5\n";
     for line in RUNS {
-        let (end, taken) = told(&rt, rt.alloc(), line, script, &OpenGate)?;
-        same(&rt, &end, &refused(3, Cause::NoSeat), &line);
-        holds(&rt, taken.is_empty(), &line);
+        let told = told(&rt, rt.alloc(), line, script, &OpenGate)?;
+        tells(&rt, &told, refused(3, Cause::NoSeat), b"", &line);
     }
     Ok(())
 }

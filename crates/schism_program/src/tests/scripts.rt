@@ -1,6 +1,6 @@
-//! Scripts that are played, with their histories and what the check of these says, and scripts that are refused.
+//! Scripts that are played, with their histories and what the check of these says, and one that is refused.
 
-use super::comparing::{holds, same};
+use super::comparing::tells;
 use super::several_seats::plays;
 use super::{ended, refused};
 use script_text::Cause;
@@ -55,39 +55,21 @@ const PLAYS: [(&str, &str, &str); 9] = [
     ),
 ];
 
-/// A script that is refused, and the line and the cause.
-const REFUSED: [(&str, u32, Cause); 6] = [
-    (
-        "schism 1\nheap 66 1024 1\n0 array 1 4097\n",
-        3,
-        Cause::OutOfRange,
-    ),
-    (
-        "schism 1\nheap 1 0 1\n0 poll\n0 num 1 01\n",
-        4,
-        Cause::BadNumber,
-    ),
-    (
-        "schism 1\nheap 1 0 1\n0 num 1 1073741824\n",
-        3,
-        Cause::OutOfRange,
-    ),
-    ("schism 1\n", 2, Cause::BadHeap),
-    ("schism 1", 2, Cause::BadHeap),
-    ("", 1, Cause::NoHeader),
-];
-
 #[test]
 fn plays_scripts_and_checks_the_plays(rt: HostRuntime) -> Result<(), Fail> {
     plays(&rt, rt.alloc(), &PLAYS)
 }
 
 #[test]
-fn refuses_scripts(rt: HostRuntime) -> Result<(), Fail> {
-    for (text, line, cause) in REFUSED {
-        let (end, taken) = ended(&rt, rt.alloc(), &["play"], text.as_bytes(), &[], &[])?;
-        same(&rt, &end, &refused(line, cause), &text);
-        holds(&rt, taken.is_empty(), &text);
-    }
+fn refuses_a_number_that_begins_with_a_zero(rt: HostRuntime) -> Result<(), Fail> {
+    let text = b"schism 1\nheap 1 0 1\n0 poll\n0 num 1 01\n";
+    let told = ended(&rt, rt.alloc(), &["play"], text, &[], &[])?;
+    tells(
+        &rt,
+        &told,
+        refused(4, Cause::BadNumber),
+        b"",
+        &"a zero first",
+    );
     Ok(())
 }

@@ -1,6 +1,6 @@
 //! Plays of several seats, which take turns by whole commands.
 
-use super::comparing::same;
+use super::comparing::tells;
 use super::ended;
 use crate::status::Status;
 use std::alloc::{AllocError, Global};
@@ -85,13 +85,11 @@ pub(super) fn plays(
     for &(script, history, verdict) in rows {
         let script = text_of(alloc, script)?;
         let history = text_of(alloc, history)?;
-        let (end, written) = ended(rt, alloc, &["play"], script.as_bytes(), &[], &[])?;
-        same(rt, &end, &Status::Done, &script);
-        same(rt, &written.as_slice(), &history.as_bytes(), &script);
-        let (end, told) = ended(rt, alloc, &["check"], history.as_bytes(), &[], &[])?;
-        same(rt, &end, &Status::Done, &script);
+        let played = ended(rt, alloc, &["play"], script.as_bytes(), &[], &[])?;
+        tells(rt, &played, Status::Done, history.as_bytes(), &script);
+        let told = ended(rt, alloc, &["check"], history.as_bytes(), &[], &[])?;
         let verdict = text_of(alloc, verdict)?;
-        same(rt, &told.as_slice(), &verdict.as_bytes(), &script);
+        tells(rt, &told, Status::Done, verdict.as_bytes(), &script);
     }
     Ok(())
 }

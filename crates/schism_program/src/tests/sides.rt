@@ -1,6 +1,6 @@
 //! Which side failed, where a read or a write does, and what comes where none fails.
 
-use super::comparing::{holds, same};
+use super::comparing::{holds, tells};
 use super::{FIRST, FIRST_PLAYED, ended, refused, status_of};
 use crate::status::Status;
 use heap_model::OpenGate;
@@ -21,11 +21,10 @@ fn says_which_side_failed(rt: HostRuntime) -> Result<(), Fail> {
         (14, 35, Status::Done, 276),
     ] {
         let text = FIRST.as_bytes();
-        let (end, taken) = ended(&rt, alloc, &["play"], text, &[read], &[write])?;
+        let told = ended(&rt, alloc, &["play"], text, &[read], &[write])?;
         let at = format!(in alloc; "read {read}, write {write}")?;
-        same(&rt, &end, &status, &at);
-        same(&rt, &taken.len(), &front, &at);
-        holds(&rt, FIRST_PLAYED.as_bytes().starts_with(&taken), &at);
+        let written = FIRST_PLAYED.as_bytes().get(..front).ok_or("a front")?;
+        tells(&rt, &told, status, written, &at);
     }
     Ok(())
 }
@@ -35,7 +34,6 @@ fn says_which_side_failed(rt: HostRuntime) -> Result<(), Fail> {
 fn says_which_side_failed_in_a_check(rt: HostRuntime) -> Result<(), Fail> {
     let alloc = rt.alloc();
     let text = FIRST_PLAYED.as_bytes();
-    same(&rt, &text.len(), &276, &"the first play");
     for (read, write, status, front) in [
         (0, 99, Status::ReadFault, ""),
         (56, 99, Status::ReadFault, ""),
@@ -43,10 +41,9 @@ fn says_which_side_failed_in_a_check(rt: HostRuntime) -> Result<(), Fail> {
         (57, 1, Status::WriteFault, "legal 15"),
         (57, 2, Status::Done, "legal 15\n"),
     ] {
-        let (end, told) = ended(&rt, alloc, &["check"], text, &[read], &[write])?;
+        let told = ended(&rt, alloc, &["check"], text, &[read], &[write])?;
         let at = format!(in alloc; "read {read}, write {write}")?;
-        same(&rt, &end, &status, &at);
-        same(&rt, &told.as_slice(), &front.as_bytes(), &at);
+        tells(&rt, &told, status, front.as_bytes(), &at);
     }
     Ok(())
 }
@@ -67,8 +64,8 @@ fn ends_as_it_should_where_no_side_fails(rt: HostRuntime) -> Result<(), Fail> {
         let mut sink = NeverSink::new(Vec::with_capacity(alloc, room)?);
         let end = status_of(&rt, alloc, &[word], &mut source, &mut sink, &OpenGate)?;
         let at = format!(in alloc; "{word} with room for {room}")?;
-        same(&rt, &end, &status, &at);
-        same(&rt, &sink.bytes(), &told.map(|text| text.as_bytes()), &at);
+        holds(&rt, end == status, &at);
+        holds(&rt, sink.bytes() == told.map(|text| text.as_bytes()), &at);
     }
     Ok(())
 }

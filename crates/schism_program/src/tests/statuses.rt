@@ -1,6 +1,6 @@
 //! The number and the text of each status, and what is said of it on standard error.
 
-use super::comparing::same;
+use super::comparing::holds;
 use super::{illegal, refused};
 use crate::ending::report;
 use crate::status::{Status, status_text};
@@ -25,8 +25,8 @@ fn names_each_status(rt: HostRuntime) {
         (Status::TooLong, 6, "too long"),
         (illegal(4), 7, "not legal at line 4"),
     ] {
-        same(&rt, &status.number(), &number, &text);
-        same(&rt, &status_text(&status).as_str(), &text, &number);
+        holds(&rt, status.number() == number, &text);
+        holds(&rt, status_text(&status).as_str() == text, &text);
     }
 }
 
@@ -42,13 +42,12 @@ fn reports_a_status_by_a_line_and_a_number(rt: HostRuntime) -> Result<(), Fail> 
         (Status::Memory, 5, "memory\n"),
     ] {
         let mut errors = NeverSink::new(Vec::with_capacity(rt.alloc(), 64)?);
-        same(
+        holds(
             &rt,
-            &report(&status, &mut errors),
-            &ExitCode::from(number),
+            report(&status, &mut errors) == ExitCode::from(number),
             &line,
         );
-        same(&rt, &errors.bytes(), &Some(line.as_bytes()), &line);
+        holds(&rt, errors.bytes() == Some(line.as_bytes()), &line);
     }
     Ok(())
 }

@@ -1,6 +1,6 @@
 //! A run is judged for its objects and its end line: what is wrong in a play for its space or its phases alone is legal in a run.
 
-pub const CASES: [&str; 30] = [
+pub const CASES: [&str; 27] = [
     // More than there are, none, and more than its own.
     "pair; 0 takes 99; 1 takes 0; 1 gives back 1; end used 109 => not legal at line 4",
     "run; 0 takes 99; 1 takes 0; 1 gives back 1; end used 109 => legal 3",
@@ -23,8 +23,6 @@ pub const CASES: [&str; 30] = [
     "run; 0 takes 5; 1 takes 2; 0 gives back 3; end used 15 => legal 3",
     "run; 0 takes 5; 1 takes 2; 0 gives back 3; end used 18 => not legal at line 6",
     "run; c frees 11; end used 0 => legal 1",
-    "run; c frees 12; end used 0 => not legal at line 4",
-    "run; c frees 12; end used 18446744073709551615 => not legal at line 4",
     "run; c frees 12; 0 takes 2; end used 1 => legal 2",
     // Two seats set one field: the second shows the stamp of the first.
     "run; 0 num 1 5 = ok; 1 set 0 3 1 = was -; 0 set 0 3 1 = was 1:1; 1 get 2 0 3 = number 5 at 0:1; end used 11 => legal 4",
@@ -37,5 +35,4 @@ pub const CASES: [&str; 30] = [
     "run; 0 new 1 2 = 0.0; 0 get 2 1 2 = nil at -; end used 11 => not legal at line 4",
     "run; 1 leave = ok; 0 takes 1; 0 len 0 = 32; end used 12 => legal 3",
     "run; 0 leave = ok; 0 takes 1; end used 12 => not legal at line 4",
-    "run; 0 leave = ok; 0 len 0 = 32; end used 11 => not legal at line 4",
 ];

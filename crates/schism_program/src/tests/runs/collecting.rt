@@ -2,7 +2,7 @@
 
 ghost use Rattle.std.specs.Prelude.{◌≤◌};
 
-use super::super::comparing::{holds, same};
+use super::super::comparing::holds;
 use super::super::several_seats::text_of;
 use super::gates::OneAfterTheOther;
 use super::judging::has_line;
@@ -67,10 +67,9 @@ fn waits_as_often_as_asked(rt: HostRuntime) -> Result<(), Fail> {
     for patience in [1, 3, 7] {
         let gate = OneAfterTheOther::new();
         let waits = waits_of(&rt, rt.alloc(), script, patience, &gate)?;
-        same(
+        holds(
             &rt,
-            &waits.as_slice(),
-            &[u64::from(patience), 0].as_slice(),
+            waits.as_slice() == [u64::from(patience), 0].as_slice(),
             &patience,
         );
     }
