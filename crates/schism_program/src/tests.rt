@@ -15,12 +15,14 @@ mod scripts;
 mod several_seats;
 mod sides;
 mod statuses;
+mod tables;
 mod turns;
 
 use crate::status::Status;
 use crate::top::schism;
 use comparing::holds;
 use heap_model::{Gate, OpenGate};
+use heap_table::Closed;
 use io_edge::{MemSink, MemSource, NeverSink, NeverSource, Sink, Source};
 use script_text::Cause;
 use slack_pace::{Paces, Steady};
@@ -52,7 +54,21 @@ fn status_at<S: Source, K: Sink, G: Gate>(
     gate: &G,
     paces: Paces,
 ) -> Status {
-    schism(rt, alloc, words, source, sink, paces, gate)
+    ended_with(rt, alloc, words, source, sink, gate, paces, &mut None)
+}
+
+// The same, with the table that is left.
+fn ended_with<S: Source, K: Sink, G: Gate>(
+    rt: &(impl Threads + Wait + Sync),
+    alloc: Global,
+    words: &[&str],
+    source: &mut S,
+    sink: &mut K,
+    gate: &G,
+    paces: Paces,
+    closed: &mut Option<Closed>,
+) -> Status {
+    schism(rt, alloc, words, source, sink, paces, gate, closed)
 }
 
 // The paces of the program.

@@ -1,9 +1,10 @@
-//! Runs: each seat works on a thread of its own, so what comes differs from run to run. Each history is checked, and judged in full as a run.
+//! Runs: each seat works on a thread of its own, so what comes differs from run to run. Each history is checked, and behind one lock judged in full as a run.
 
 mod collecting;
 mod gates;
 mod judging;
 mod paced;
+mod past_pace;
 
 use super::comparing::{holds, tells};
 use super::several_seats::text_of;
@@ -12,6 +13,7 @@ use gates::{OneAfterTheOther, TwoAtOnce};
 use heap_model::{Gate, OpenGate};
 use judging::{begins_line, has_line, judge};
 use paced::Paced;
+use past_pace::PastThePace;
 use script_text::Cause;
 use std::alloc::Global;
 use std::process::Abort;
@@ -19,7 +21,7 @@ use std::sync::Wait;
 use std::test::Fail;
 use std::thread::Threads;
 
-/// The words of a run, by which the heap is behind one lock either way.
+/// The words of a run: on a table that the seats share, and behind one lock.
 const RUNS: [&str; 2] = ["run", "run --locked"];
 
 /// What a run of the script tells, which is legal. Lines stand with "; " between them.
@@ -33,9 +35,17 @@ fn ran<G: Gate>(
     let script = text_of(alloc, script)?;
     let history = written(rt, alloc, line, script.as_bytes(), gate)?;
     written(rt, alloc, "check", &history, &OpenGate)?;
-    judge(alloc, &history)?;
+    judge_locked(alloc, line, &history)?;
     holds(rt, has_line(&history, b"end used 0"), &script);
     Ok(history)
+}
+
+/// Judges the history by all the rules of a run where it was made behind one lock: else its logs stand one behind the other as far as objects allow, and no more is said of their order.
+fn judge_locked(alloc: Global, line: &str, history: &[u8]) -> Result<(), Fail> {
+    if line.split(' ').any(|word| word == "--locked") {
+        judge(alloc, history)?;
+    }
+    Ok(())
 }
 
 // Each seat goes on to its second command only once the other one has come there too: so no thread made both scripts. Of the two sets one
@@ -83,7 +93,7 @@ fn asks_the_pace_for_what_was_claimed(rt: HostRuntime) -> Result<(), Fail> {
         for line in ["run --patience 1000000", "run --locked --patience 1000000"] {
             let (gate, paces) = Paced::new(alloc, claims, 1000)?;
             let history = written_at(&rt, alloc, line, text.as_bytes(), &gate, paces)?;
-            judge(alloc, &history)?;
+            judge_locked(alloc, line, &history)?;
             holds(&rt, gate.was_right(others), &script);
             holds(&rt, begins_line(&history, reply.as_bytes()), &script);
         }
@@ -136,11 +146,26 @@ fn runs_made_scripts(rt: HostRuntime) -> Result<(), Fail> {
     let alloc = rt.alloc();
     for made in ["make 7 2 200", "make 7 4 200", "make 7 16 320"] {
         let script = written(&rt, alloc, made, b"", &OpenGate)?;
-        for _ in 0..10 {
-            let history = written(&rt, alloc, "run --locked", &script, &OpenGate)?;
-            written(&rt, alloc, "check", &history, &OpenGate)?;
-            judge(alloc, &history)?;
+        for line in RUNS {
+            for _ in 0..10 {
+                let history = written(&rt, alloc, line, &script, &OpenGate)?;
+                written(&rt, alloc, "check", &history, &OpenGate)?;
+                judge_locked(alloc, line, &history)?;
+            }
         }
     }
+    Ok(())
+}
+
+// The seats take no fragment, so they go on to their third commands while the lock that the collector stands under is held by whoever asks the pace.
+#[test]
+fn goes_past_the_pace(rt: HostRuntime) -> Result<(), Fail> {
+    let alloc = rt.alloc();
+    let script =
+        "schism 1; heap 1 0 2; 0 num 1 5; 0 set 0 3 1; 0 get 2 0 3; 1 num 1 6; 1 set 0 3 1; 1 get 2 0 3";
+    let text = text_of(alloc, script)?;
+    let (gate, paces) = PastThePace::new(alloc)?;
+    written_at(&rt, alloc, "run", text.as_bytes(), &gate, paces)?;
+    holds(&rt, gate.met(), &"run");
     Ok(())
 }
