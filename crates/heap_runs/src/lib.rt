@@ -1,4 +1,4 @@
-//! Heaps that plays are made on: whole calls of seats and turns of the collector, one after another.
+//! Plays, which make whole calls of seats and turns of the collector one after another, and runs, which let the seats of one table work in threads beside its collector.
 #![tactic(auto)]
 
 mod finishing;

@@ -14,6 +14,7 @@ use std::test::Fail;
 mod growing;
 mod one_table;
 mod pacing;
+mod seat_runs;
 
 /// The script that the text is.
 fn script_of(alloc: Global, text: &str) -> Result<Script, Fail>
