@@ -5,3 +5,4 @@ pub mod Calls
 pub mod Inners
 pub mod MachineTurns
 pub mod TurnsInRoom
+pub mod TellsOne

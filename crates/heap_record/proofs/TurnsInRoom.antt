@@ -11,6 +11,7 @@ use Rattle.heap_model.specs.account.Turned.{is_of_heap}
 use Rattle.heap_model.specs.PhasePlan.{cycle_phases}
 use Rattle.heap_model.specs.calls.CollectorCalls.{CollectorState, StepsTo, ComesTo, Turns}
 use Rattle.slack_pace.specs.Slack.{CountsTurns}
+use Rattle.core_rule.proofs.runs.LoneEntries.{all_append}
 use Rattle.heap_record.specs.LastCycle.{MakesInRoom, EndsWholeCycle}
 
 -- so many such turns were made, which told these entries
@@ -27,7 +28,7 @@ abbrev pub IsRoom : CollectorState → CollectorState → Type 0
 IsRoom old new = new ≡ record old { spare = new.spare }
 
 -- a step's entry answers no command of the collector
-step_of_heap : (now : ℕ) (entry : Entry) (later : ℕ) → StepsTo now entry later → is_of_heap entry ≡ true
+pub step_of_heap : (now : ℕ) (entry : Entry) (later : ℕ) → StepsTo now entry later → is_of_heap entry ≡ true
 step_of_heap now (entries.Turned command reply) later steps = absurd steps
 step_of_heap now _ later steps = refl
 
@@ -42,11 +43,6 @@ told_by old new turns.Stepped (inl none) = record { more = []; own = tt; grown =
 told_by old new turns.Stepped (inr steps) = record { more = steps.0 ∷ []; own = (step_of_heap old.phase steps.0 new.phase steps.1, tt); grown = steps.2 }
 told_by old new (turns.Waits seat answered phase) comes = record { more = []; own = tt; grown = comes.0.0 ∙ sym (append-nil old.log) }
 told_by old new (turns.Ended cycle kept) comes = record { more = Ends cycle kept ∷ []; own = (refl, tt); grown = comes.0 }
-
-both_own : (front more : List Entry) → AllByRecursion (λ entry. is_of_heap entry ≡ true) front → AllByRecursion (λ entry. is_of_heap entry ≡ true) more
-    → AllByRecursion (λ entry. is_of_heap entry ≡ true) (front ++ more)
-both_own [] more own then_ = then_
-both_own (entry ∷ front) more own then_ = (own.0, both_own front more own.1 then_)
 
 module _ (Whole : Type 0) (state : Whole → CollectorState) (Rooms : Whole → Whole → Type 0) (Does : Whole → Whole → Turn → Type 0) where
   -- none was made yet
@@ -70,7 +66,7 @@ module _ (Whole : Type 0) (state : Whole → CollectorState) (Rooms : Whole → 
           made = (now, ready, turn, so_far.made, rooms, does);
           counted = one_more turn turned;
           told = so_far.told ++ tells.more;
-          own = both_own so_far.told tells.more so_far.own tells.own;
+          own = all_append (λ entry. is_of_heap entry ≡ true) so_far.told tells.more so_far.own tells.own;
           grown = more_told tells.more tells.grown;
         }
 

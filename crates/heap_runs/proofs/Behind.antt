@@ -19,6 +19,7 @@ use Rattle.core_rule.proofs.entries.PhaseEntries.{seats_phase}
 use Rattle.core_rule.proofs.runs.Plays.{keeps_there}
 use Rattle.heap_table.specs.Folded.{SeatsBefore}
 use Rattle.heap_record.proofs.LastCycle.{left_before}
+use Rattle.log_merge.proofs.merge_lemmas.Parts.{IsParted, parted_filter}
 use Rattle.heap_runs.specs.Finishing.{EndsBehindLeaves}
 
 -- the list is parted at an element that passes the test
@@ -39,28 +40,6 @@ first_passing {X} test (x ∷ all) some = by (first_passing test all) (test x) r
     by later false fails some_ = let there = later some_ in
         record { before = x ∷ there.before; found = there.found; rest = there.rest; passes = there.passes; parts = ap (λ (l : List X). x ∷ l) there.parts }
 
--- the list is parted at the last element that passes the test
-record PartsAtLast {X : Type 0} (test : X → Bool) (all : List X) (last : X) : Type 0 where
-  before : List X
-  rest : List X
-  none : filter test rest ≡ []
-  parts : all ≡ before ++ last ∷ rest
-
--- it is where the last of those that pass stands
-last_passing : {X : Type 0} (test : X → Bool) (all earlier : List X) (last : X) → filter test all ≡ earlier ++ last ∷ [] → PartsAtLast test all last
-last_passing test [] [] last is = absurd (cc is)
-last_passing test [] (e ∷ earlier) last is = absurd (cc is)
-last_passing {X} test (x ∷ all) earlier last is = by (last_passing test all) (test x) earlier is
-  where
-    onward : PartsAtLast test all last → PartsAtLast test (x ∷ all) last
-    onward later = record { before = x ∷ later.before; rest = later.rest; none = later.none; parts = ap (λ (l : List X). x ∷ l) later.parts }
-
-    by : ((early : List X) (y : X) → filter test all ≡ early ++ y ∷ [] → PartsAtLast test all y) → (b : Bool) (early : List X) → (if b then x ∷ filter test all else filter test all) ≡ early ++ last ∷ []
-        → PartsAtLast test (x ∷ all) last
-    by later false early is_ = onward (later early last is_)
-    by later true [] is_ = record { before = []; rest = all; none = cc is_; parts = let same : x ≡ last = cc is_ in ap (λ (y : X). y ∷ all) same }
-    by later true (e ∷ early) is_ = onward (later early last (cc is_))
-
 -- a seat's leave is its own entry
 leaves_own : (number : ℕ) (entry : Entry) → is_leave_of number entry ≡ true → is_of number entry ≡ true
 leaves_own number (entries.Said other Leave reply) leaves = leaves
@@ -80,45 +59,45 @@ module _ (heap : Heap) (play : Bool) (history : List Entry) (legal : IsLegal hea
   abbrev ends : Entry
   ends = entries.Ends cycle kept
 
-  at : PartsAtLast is_collectors history ends
-  at = last_passing is_collectors history earlier ends collectors
+  at : IsParted is_collectors history earlier [] ends
+  at = parted_filter is_collectors history earlier [] ends collectors
 
-  space : KeepsSpaceAfter heap play [] (at.before ++ ends ∷ at.rest)
-  space = subst (λ (h : List Entry). KeepsSpaceAfter heap play [] h) at.parts legal.space
+  space : KeepsSpaceAfter heap play [] (at.front ++ ends ∷ at.back)
+  space = subst (λ (h : List Entry). KeepsSpaceAfter heap play [] h) at.parted legal.space
 
   -- the cycle ends when its last phase is on
-  through : phase at.before ≡ cycle_phases * cycle + 6
-  through = (keeps_there heap play [] at.before at.rest ends space).ends.0.0
+  through : phase at.front ≡ cycle_phases * cycle + 6
+  through = (keeps_there heap play [] at.front at.back ends space).ends.0.0
 
-  phase_past : phase (at.before ++ ends ∷ []) ≡ phase at.before + 1
-  phase_past = sum_by-append (λ e. (effect_of e).phases) at.before (ends ∷ [])
+  phase_past : phase (at.front ++ ends ∷ []) ≡ phase at.front + 1
+  phase_past = sum_by-append (λ e. (effect_of e).phases) at.front (ends ∷ [])
 
   -- so no entry of a seat stands behind its end
-  none_behind : (rest : List Entry) → history ≡ (at.before ++ ends ∷ []) ++ rest → filter is_collectors rest ≡ [] → rest ≡ []
+  none_behind : (rest : List Entry) → history ≡ (at.front ++ ends ∷ []) ++ rest → filter is_collectors rest ≡ [] → rest ≡ []
   none_behind [] parts none = refl
   none_behind (entry ∷ rest) parts none = by (is_collectors entry) refl none
     where
       by : (b : Bool) → is_collectors entry ≡ b → (if b then entry ∷ filter is_collectors rest else filter is_collectors rest) ≡ [] → entry ∷ rest ≡ []
       by true its none_ = absurd (cc none_)
-      by false its none_ = absurd (omega (arith, late (at.before ++ ends ∷ []) rest entry parts its, phase_past, through, began))
+      by false its none_ = absurd (omega (arith, late (at.front ++ ends ∷ []) rest entry parts its, phase_past, through, began))
 
-  ended : history ≡ at.before ++ ends ∷ []
+  ended : history ≡ at.front ++ ends ∷ []
   ended =
-      let parts : history ≡ (at.before ++ ends ∷ []) ++ at.rest = at.parts ∙ sym (append_assoc at.before (ends ∷ []) at.rest) in
-      at.parts ∙ ap (λ (l : List Entry). at.before ++ ends ∷ l) (none_behind at.rest parts at.none)
+      let parts : history ≡ (at.front ++ ends ∷ []) ++ at.back = at.parted ∙ sym (append_assoc at.front (ends ∷ []) at.back) in
+      at.parted ∙ ap (λ (l : List Entry). at.front ++ ends ∷ l) (none_behind at.back parts at.behind)
 
   -- a seat's leave stands before the cycle's begin
-  left_early : (number : ℕ) → has_left number history ≡ true → has_left number (up_to_cycle at.before) ≡ true
+  left_early : (number : ℕ) → has_left number history ≡ true → has_left number (up_to_cycle at.front) ≡ true
   left_early number left =
-      let there : has_left number at.before ≡ true
-      = sym (or-false (has_left number at.before)) ∙ sym (list_any-append (is_leave_of number) at.before (ends ∷ [])) ∙ ap (has_left number) (sym ended) ∙ left in
-      let leave = first_passing (is_leave_of number) at.before there in
+      let there : has_left number at.front ≡ true
+      = sym (or-false (has_left number at.front)) ∙ sym (list_any-append (is_leave_of number) at.front (ends ∷ [])) ∙ ap (has_left number) (sym ended) ∙ left in
+      let leave = first_passing (is_leave_of number) at.front there in
       let seats = leaves_seat number leave.found leave.passes in
       let parts : history ≡ leave.before ++ leave.found ∷ (leave.rest ++ ends ∷ [])
       = ended ∙ ap (λ (l : List Entry). l ++ ends ∷ []) leave.parts ∙ append_assoc leave.before (leave.found ∷ leave.rest) (ends ∷ []) in
       let no_phase : filter is_collectors (leave.found ∷ []) ≡ [] = rw seats refl in
       let front = leave.before ++ leave.found ∷ [] in
-      let whole : at.before ≡ front ++ leave.rest = leave.parts ∙ sym (append_assoc leave.before (leave.found ∷ []) leave.rest) in
+      let whole : at.front ≡ front ++ leave.rest = leave.parts ∙ sym (append_assoc leave.before (leave.found ∷ []) leave.rest) in
       let early : phase front ≤ cycle_phases * cycle
       = omega (arith, seats_phase leave.before (leave.found ∷ []) no_phase, late leave.before (leave.rest ++ ends ∷ []) leave.found parts seats, began) in
       let in_front : has_left number front ≡ true
@@ -128,4 +107,4 @@ module _ (heap : Heap) (play : Bool) (history : List Entry) (legal : IsLegal hea
 
   -- so it ends behind the leaves
   pub ends_behind : ((number : ℕ) → number < heap.seats → has_left number history ≡ true) → EndsBehindLeaves heap history
-  ends_behind gone = record { before = at.before; cycle = cycle; kept = kept; last = ended; left = λ number below. left_early number (gone number below) }
+  ends_behind gone = record { before = at.front; cycle = cycle; kept = kept; last = ended; left = λ number below. left_early number (gone number below) }

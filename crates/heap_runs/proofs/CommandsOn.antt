@@ -25,10 +25,11 @@ use Rattle.mutator_seat.specs.Calls.{MakesCall}
 use Rattle.mutator_seat.specs.Resting.{seat_state, MakesRoom}
 use Rattle.mutator_seat.proofs.Entries.{call_adds}
 use Rattle.mutator_seat.proofs.Replied.{is_done}
+use Rattle.heap_record.proofs.TellsOne.{commands_more, waits_more, waits_of, one_called}
 use Rattle.heap_runs.specs.CollectCall.{IsPresent, IsCauseOf, AnswersCollect}
 use Rattle.heap_runs.specs.SeatWork.{IsOfScript, objects_of, sets_of, MayWork, MayMakeNext, IsPaidSince, HasMade, GoesOn, HasWorked}
 use Rattle.heap_runs.proofs.LooksOn.{around_room, same_graph_seat, same_present}
-use Rattle.heap_runs.proofs.SeatTells.{commands_more, waits_more, waits_of, one_called, one_noted}
+use Rattle.heap_runs.proofs.SeatTells.{one_collected}
 
 -- every command but a collect is served
 pub served_once : (command : Command) → command ≢ commands.Collect → IsServed command
@@ -101,7 +102,7 @@ collect_paid patience old new reply answers (notes.Waits other answered phase) l
 
 pub collect_made : (patience : ℕ) (old new : SeatHeld) (reply : CollectReply) → AnswersCollect patience old new reply → HasMade patience old new (commands.Collect ∷ [])
 collect_made patience old new reply answers =
-    let one = one_noted old.number answers.answers reply answers.own in
+    let one = one_collected old.number answers.answers reply answers.own in
     record {
       table_stays = answers.same.table_stays;
       heap_stays = answers.same.heap_stays;

@@ -15,6 +15,7 @@ use Rattle.heap_model.specs.declared.heap.Heap.{Heap}
 use Rattle.collector_turns.specs.Collector.{CollectorValue, state_of}
 use Rattle.collector_turns.specs.Turning.{TakesTurn, MakesRoom}
 use Rattle.slack_pace.specs.Slack.{MakesOnward, MakesEach, MakesTurns}
+use Rattle.heap_record.proofs.TurnsInRoom.{step_of_heap}
 use Rattle.heap_runs.specs.Role.{BeginsWith, IsOfRun}
 
 -- a list that is longer still begins so
@@ -39,13 +40,9 @@ pub record AddsOn (old new : List Entry) : Type 0 where
 adds_none : (old new : List Entry) → new ≡ old → AddsOn old new
 adds_none old new same = record { added = []; own = refl; grown = same ∙ sym (append-nil old) }
 
-step_of_heap : (now : ℕ) (entry : Entry) (later : ℕ) → StepsTo now entry later → list_all is_of_heap (entry ∷ []) ≡ true
-step_of_heap now (entries.Turned command reply) later steps = absurd steps
-step_of_heap now _ later steps = refl
-
 turn_adds : (old new : CollectorState) (turn : Turn) → ComesTo old new turn → AddsOn old.log new.log
 turn_adds old new turns.Stepped (inl none) = adds_none old.log new.log none.0
-turn_adds old new turns.Stepped (inr steps) = record { added = steps.0 ∷ []; own = step_of_heap old.phase steps.0 new.phase steps.1; grown = steps.2 }
+turn_adds old new turns.Stepped (inr steps) = record { added = steps.0 ∷ []; own = rw (step_of_heap old.phase steps.0 new.phase steps.1) refl; grown = steps.2 }
 turn_adds old new (turns.Waits seat answered phase) comes = adds_none old.log new.log comes.0.0
 turn_adds old new (turns.Ended cycle kept) comes = record { added = Ends cycle kept ∷ []; own = refl; grown = comes.0 }
 

@@ -20,6 +20,7 @@ use Rattle.heap_model.specs.declared.reply.Reply.{Reply}
 use Rattle.heap_model.specs.runs.Told.{command_told, commands_told}
 use Rattle.heap_table.specs.Closed.{ClosedTable}
 use Rattle.heap_table.specs.SeatHeld.{SeatHeld}
+use Rattle.core_rule.proofs.runs.LoneEntries.{all_append}
 use Rattle.collector_turns.specs.Collector.{CollectorValue}
 use Rattle.heap_runs.specs.Finishing.{HasGone, HasLogs}
 use Rattle.heap_runs.specs.Role.{IsOfRun}
@@ -98,11 +99,6 @@ all_true (entry ∷ es) all = by (all_true es) (is_of_heap entry) refl all
     by rest true its all_ = (its, rest all_)
     by rest false its all_ = absurd (cc all_)
 
-both_own : (front more : List Entry) → AllByRecursion (λ entry. is_of_heap entry ≡ true) front → AllByRecursion (λ entry. is_of_heap entry ≡ true) more
-    → AllByRecursion (λ entry. is_of_heap entry ≡ true) (front ++ more)
-both_own [] more own then_ = then_
-both_own (entry ∷ front) more own then_ = (own.0, both_own front more own.1 then_)
-
 -- what the collector told in the run goes on from what it had told before
 pub logs_go_on : (table : TableId) (heap : Heap) (before : List Entry) (collector : CollectorValue) (seats : List SeatHeld) (closed : ClosedTable) → IsOfRun table heap before collector
     → HasLogs seats collector.holder.known.collector.log closed → HasLogs seats before closed
@@ -112,7 +108,7 @@ logs_go_on table heap before collector seats closed run logs =
     let whole : log ≡ before ++ rest = sym (take-append-drop (length before) log) ∙ ap (λ l. l ++ rest) run.goes_on in
     record {
       turned = rest ++ logs.turned;
-      own = both_own rest logs.turned (all_true rest run.own) logs.own;
+      own = all_append (λ entry. is_of_heap entry ≡ true) rest logs.turned (all_true rest run.own) logs.own;
       logs_are = logs.logs_are ∙ ap (λ (l : List Entry). map (λ (held : SeatHeld). held.seat.mine) seats ++ l ∷ []) (ap (λ l. l ++ logs.turned) whole ∙ append_assoc before rest logs.turned);
     }
 

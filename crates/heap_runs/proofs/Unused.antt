@@ -19,21 +19,10 @@ use Rattle.core_rule.specs.SweepLaws.{EachLastCycleBalances}
 use Rattle.heap_table.specs.Closed.{ClosedTable, HasOneHistory, logs_known}
 use Rattle.heap_table.specs.Known.{CollectorKnown}
 use Rattle.heap_table.specs.SeatHeld.{SeatHeld}
+use Rattle.log_merge.proofs.SameLogs.{snoc_same}
 use Rattle.heap_runs.specs.Finishing.{HasGone, EndsUnused}
 use Rattle.heap_runs.proofs.Behind.{gone_told, ends_behind}
 use Rattle.heap_runs.proofs.Folding.{places_of}
-
--- lists that are the same with one element more are the same, and so is the element
-snoc_same : {X : Type 0} → (xs ys : List X) (x y : X) → xs ++ x ∷ [] ≡ ys ++ y ∷ [] → (xs ≡ ys) × (x ≡ y)
-snoc_same [] [] x y same = (refl, cc same)
-snoc_same [] (b ∷ []) x y same = absurd (cc same)
-snoc_same [] (b ∷ (c ∷ ys)) x y same = absurd (cc same)
-snoc_same (a ∷ []) [] x y same = absurd (cc same)
-snoc_same (a ∷ (c ∷ xs)) [] x y same = absurd (cc same)
-snoc_same (a ∷ xs) (b ∷ ys) x y same =
-    let rest = snoc_same xs ys x y (cc same) in
-    let first : a ≡ b = cc same in
-    (ap (λ z. z ∷ xs) first ∙ ap (λ l. b ∷ l) rest.0, rest.1)
 
 -- the logs in the places of seats are the seats' own lists
 logs_there : (seats : List SeatHeld) → map (λ place. option_map_or (λ (seat : Seat). seat.mine) place []) (places_of seats) ≡ map (λ (held : SeatHeld). held.seat.mine) seats

@@ -29,7 +29,8 @@ use Rattle.heap_model.specs.runs.Told.{waits_told}
 use Rattle.locked_heap.proofs.Coming.{IsFresh, fresh_unless, come_next, come_left, all_come}
 use Rattle.locked_heap.proofs.FindsOn.{FindsOn, finds_on}
 use Rattle.locked_heap.proofs.GivenRuns.{run_stands, seats_are, run_call}
-use Rattle.locked_heap.proofs.TellsNone.{none_called, one_called}
+use Rattle.heap_record.proofs.TellsOne.{one_called}
+use Rattle.locked_heap.proofs.TellsNone.{none_called}
 
 -- every command but a collect is served
 served_once : (command : Command) → command ≢ commands.Collect → IsServed command

@@ -18,7 +18,7 @@ use Rattle.locked_heap.specs.Locked.{AllHaveCome}
 use Rattle.locked_heap.specs.Progress.{at_begin, progress_at, leave_told, IsTargetOf, IsAtCollect, HasCome}
 use Rattle.heap_model.specs.runs.Endings.{IsPaid}
 use Rattle.heap_model.specs.runs.Told.{commands_told, waits_told}
-use Rattle.locked_heap.proofs.TellsNone.{TellsNone, TellsOne, commands_more, waits_more}
+use Rattle.heap_record.proofs.TellsOne.{TellsNone, TellsOne, commands_more, waits_more}
 
 -- the seat is where it was with its objects and sets, has found another one behind as often at least, and looked first where it did
 pub record StaysOn (seat now : Seat) : Type 0 where

@@ -30,7 +30,8 @@ use Rattle.heap_record.specs.Recorded.{Recorded, MakesInner}
 use Rattle.heap_model.specs.runs.Told.{waits_told}
 use Rattle.locked_heap.proofs.Coming.{StaysOn, IsFresh, paid_still, paid_more, come_begun, come_next, all_come, all_stay}
 use Rattle.locked_heap.proofs.FindsOn.{compared_on}
-use Rattle.locked_heap.proofs.TellsNone.{none_at_all, none_quiet, none_noted, one_noted, waits_of}
+use Rattle.heap_record.proofs.TellsOne.{waits_of}
+use Rattle.locked_heap.proofs.TellsNone.{none_at_all, none_quiet, none_noted, one_inner}
 
 -- a seat with a target has looked
 looked_some : (first target : Option ℕ) → target ≢ None → IsTargetOf first target → (found : ℕ) → first_of first found ≡ first
@@ -105,7 +106,7 @@ module _ (given : Given) (old new : Recorded) (seats : List Progress) (number : 
       all_come given old.history new.history state new.machine.state seats number all is_next.within next added (after_inner heap state new.machine.state number (inners.Note came) makes.plays) makes.noted
       (λ other apart. none_noted heap state.words other number (seat_at state number).answered came apart)
       (come_next given old.history new.history number (seat_at state number) (seat_at new.machine.state number) (progress_at seats number) come added makes.noted Collect (waits_of came) next is_next.next is_next.there
-      (one_noted heap state.words number (seat_at state number).answered came) (ap (λ (t : Seat). t.left) after) (omega (arith, ap (λ (t : Seat). t.made) after)) (omega (arith, ap (λ (t : Seat). t.sets) after)) place gone
+      (one_inner heap state.words number (seat_at state number).answered came) (ap (λ (t : Seat). t.left) after) (omega (arith, ap (λ (t : Seat). t.made) after)) (omega (arith, ap (λ (t : Seat). t.sets) after)) place gone
       (earned come came (subst (λ (v : LockedValue). MayAnswer given v number came) is may)) (omega (arith, paid, ap (λ (t : Seat). t.looks.waits) after))
       (record { target = fresh; first = ap (λ (t : Seat). t.looks.first) after }))
     where

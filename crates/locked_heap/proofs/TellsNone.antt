@@ -1,11 +1,9 @@
 -- Entries that answer no command of a seat.
 use Rattle.std.specs.Prelude.{if◌then◌else◌}
-use Rattle.std.proofs.Common.{◌≡◌, ◌≢◌, ℕ, ◌+◌, ◌==◌, true, List, [], ◌∷◌, ◌++◌, length, filter, inl, inr, refl, sym, ap, ◌∙◌, length-append, arith}
+use Rattle.std.proofs.Common.{◌≡◌, ◌≢◌, ℕ, ◌==◌, true, List, [], ◌∷◌, ◌++◌, inl, inr, refl, sym, ap, ◌∙◌, arith}
 use Rattle.std.specs.List.{AllByRecursion}
-use Rattle.std.proofs.lemmas.Bool.{ne_eqb, eq-eqb}
+use Rattle.std.proofs.lemmas.Bool.{ne_eqb}
 use Rattle.std.proofs.lemmas.Bool.Decides.{eqb_tells}
-use Rattle.std.proofs.lemmas.Grind.{flat_map-append}
-use Rattle.std.proofs.lemmas.List.Elements.{filter-append}
 use Rattle.heap_model.specs.declared.calls.collect.CollectReply.{CollectReply}
 use Rattle.heap_model.specs.declared.calls.collect.CollectReply.TheVariants as notes
 use Rattle.heap_model.specs.declared.calls.collect.Inner.{Inner}
@@ -23,22 +21,11 @@ use Rattle.core_machine.specs.declared.table.address.Address.TheVariants.{Phase}
 use Rattle.core_machine.specs.seat.Looks.{noted_reply}
 use Rattle.core_machine.specs.table.Layout.{at}
 use Rattle.heap_model.specs.declared.heap.Heap.{Heap}
+use Rattle.heap_model.specs.runs.Told.{commands_told, waits_told}
+use Rattle.heap_record.proofs.TellsOne.{commands_more, waits_more, TellsNone, TellsOne, none_beside, waits_of, one_noted}
 use Rattle.locked_heap.specs.Locked.{IsQuiet}
-use Rattle.heap_model.specs.runs.Told.{command_told, commands_told, is_wait_of, waits_told}
 
--- more entries tell more
-pub commands_more : (number : ℕ) (front behind : List Entry) → commands_told number (front ++ behind) ≡ commands_told number front ++ commands_told number behind
-commands_more number front behind = flat_map-append (command_told number) front behind
-
-pub waits_more : (number : ℕ) (front behind : List Entry) → waits_told number (front ++ behind) ≡ waits_told number front + waits_told number behind
-waits_more number front behind =
-    ap (length {A = Entry}) (filter-append (is_wait_of number) front behind) ∙ length-append (filter (is_wait_of number) front) (filter (is_wait_of number) behind)
-
--- no command of the seat is answered
-pub record TellsNone (number : ℕ) (added : List Entry) : Type 0 where
-  pub commands : commands_told number added ≡ []
-  pub waits : waits_told number added ≡ 0
-
+-- nothing answers no command
 pub none_at_all : (number : ℕ) → TellsNone number []
 none_at_all number = record { commands = refl; waits = refl }
 
@@ -47,14 +34,6 @@ none_then number front behind first more = record {
   commands = commands_more number front behind ∙ ap (λ (l : List Command). l ++ commands_told number behind) first.commands ∙ more.commands;
   waits = omega (arith, waits_more number front behind, first.waits, more.waits);
 }
-
--- entries beside a reply answer none
-none_beside : (number other : ℕ) (before : List Entry) → AllByRecursion (IsBeside other) before → TellsNone number before
-none_beside number other [] beside = none_at_all number
-none_beside number other (Takes q count ∷ before) beside = let more = none_beside number other before beside.1 in record { commands = more.commands; waits = more.waits }
-none_beside number other (GivesBack q count ∷ before) beside = let more = none_beside number other before beside.1 in record { commands = more.commands; waits = more.waits }
-none_beside number other (Answers q phase ∷ before) beside = let more = none_beside number other before beside.1 in record { commands = more.commands; waits = more.waits }
-none_beside number other (_ ∷ before) beside = absurd beside.0
 
 -- those of the collector answer none
 pub none_collectors : (number : ℕ) (added : List Entry) → AllByRecursion (λ entry. is_collectors entry ≡ true) added → TellsNone number added
@@ -94,35 +73,6 @@ none_quiet heap words number other answered (inners.Note reply) quiet = absurd q
 pub none_noted : (heap : Heap) (words : List ℕ) (number other answered : ℕ) (came : CollectReply) → number ≢ other → TellsNone number (inner_entries heap words other answered (inners.Note came))
 none_noted heap words number other answered came apart = none_said number other commands.Collect (noted_reply came) apart
 
--- a call of the seat answers its command, and is no answer of a collect
-pub record TellsOne (number : ℕ) (command : Command) (waits : ℕ) (added : List Entry) : Type 0 where
-  pub commands : commands_told number added ≡ command ∷ []
-  pub counted : waits_told number added ≡ waits
-
--- how many waits a reply to a collect is
-abbrev pub waits_of : CollectReply → ℕ
-waits_of (notes.Cycle cycle) = 0
-waits_of (notes.Waits other answered p) = 1
-
-said_command : (number : ℕ) (command : Command) (reply : Reply) → commands_told number (Said number command reply ∷ []) ≡ command ∷ []
-said_command number command reply = rw (eq-eqb number number refl) refl
-
-said_once : (number : ℕ) (command : Command) (reply : Reply) → command ≢ commands.Collect → waits_told number (Said number command reply ∷ []) ≡ 0
-said_once number commands.Collect reply once = absurd (once refl)
-said_once number command reply once = refl
-
-said_noted : (number : ℕ) (came : CollectReply) → waits_told number (Said number commands.Collect (noted_reply came) ∷ []) ≡ waits_of came
-said_noted number (notes.Cycle cycle) = refl
-said_noted number (notes.Waits other answered p) = rw (eq-eqb number number refl) refl
-
-pub one_called : (number : ℕ) (before : List Entry) (command : Command) (reply : Reply) → command ≢ commands.Collect → AllByRecursion (IsBeside number) before
-    → TellsOne number command 0 (before ++ Said number command reply ∷ [])
-one_called number before command reply once beside =
-    let none = none_beside number number before beside in
-    record {
-      commands = commands_more number before (Said number command reply ∷ []) ∙ ap (λ (l : List Command). l ++ commands_told number (Said number command reply ∷ [])) none.commands ∙ said_command number command reply;
-      counted = omega (arith, waits_more number before (Said number command reply ∷ []), none.waits, said_once number command reply once);
-    }
-
-pub one_noted : (heap : Heap) (words : List ℕ) (number answered : ℕ) (came : CollectReply) → TellsOne number commands.Collect (waits_of came) (inner_entries heap words number answered (inners.Note came))
-one_noted heap words number answered came = record { commands = said_command number commands.Collect (noted_reply came); counted = said_noted number came }
+-- one that tells a reply answers the seat's collect
+pub one_inner : (heap : Heap) (words : List ℕ) (number answered : ℕ) (came : CollectReply) → TellsOne number commands.Collect (waits_of came) (inner_entries heap words number answered (inners.Note came))
+one_inner heap words number answered came = one_noted number [] came tt

@@ -3,4 +3,4 @@ mod LegalLemmas
 mod LineLemmas
 mod PassingLemmas
 pub mod SameLogs
-mod merge_lemmas
+pub mod merge_lemmas

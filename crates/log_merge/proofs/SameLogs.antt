@@ -2,8 +2,7 @@
 use Rattle.std.proofs.Common.{◌≡◌, ℕ, zero, suc, ◌+◌, ◌<◌, ◌≤◌, ◌==◌, ◌⊎◌, true, false, List, [], ◌∷◌, ◌++◌, length, map, filter, Some, inl, inr, refl, sym, ap, subst, ◌∙◌, arith}
 use Rattle.std.specs.Prelude.{slice_index_or, IfSome}
 use Rattle.std.specs.List.{AllByRecursion, range_with_len, sum_by}
-use Rattle.std.proofs.lemmas.Bool.{cases_lt}
-use Rattle.std.proofs.lemmas.Bool.Decides.{eqb_tells}
+use Rattle.std.proofs.lemmas.Bool.{cases_lt, eq-eqb, ne_eqb}
 use Rattle.std.proofs.lemmas.List.{length-replicate}
 use Rattle.std.proofs.lemmas.List.FromFn.{get_or-map-range_with_len}
 use Rattle.std.proofs.lemmas.List.Sums.{sum_by-cons}
@@ -50,13 +49,6 @@ one_of (entries.GivesBack number count) = inr (number, refl, refl, λ n. refl)
 one_of (entries.Answers number phase) = inr (number, refl, refl, λ n. refl)
 one_of _ = inl (refl, λ n. refl)
 
--- a number is itself, and no other
-itself : (k : ℕ) → (k == k) ≡ true
-itself k = elim (eqb_tells k k) as (λ _. (k == k) ≡ true) [ inl same ↦ same.0 | inr not_same ↦ absurd (not_same.1 refl) ]
-
-different : (j k : ℕ) → (j ≡ k → ⊥) → (j == k) ≡ false
-different j k apart = elim (eqb_tells j k) as (λ _. (j == k) ≡ false) [ inl same ↦ absurd (apart same.1) | inr not_same ↦ not_same.0 ]
-
 -- of a seat that the heap doesn't have there is no entry
 none_of : (seats : ℕ) (es : List Entry) (n : ℕ) → seats ≤ n → AllByRecursion (IsSeatBelow seats) es → filter (is_of n) es ≡ []
 none_of seats [] n past below = refl
@@ -67,7 +59,7 @@ none_of seats (e ∷ es) n past below = filter-no (is_of n) e es (other (one_of 
     other (inr seats_own) within =
         let m = seats_own.0 in
         let less : m < seats = subst (λ o. IfSome o (λ number. number < seats)) seats_own.1 within in
-        seats_own.3 n ∙ different m n (λ same. absurd (omega (arith, same, less, past)))
+        seats_own.3 n ∙ ne_eqb m n (λ same. absurd (omega (arith, same, less, past)))
 
 module _ (part : Effect → ℕ) where
   abbrev of_seat : List Entry → ℕ → ℕ
@@ -99,12 +91,12 @@ module _ (part : Effect → ℕ) where
           let less : m < seats = subst (λ o. IfSome o (λ number. number < seats)) own.1 within in
           let none = ap (total part) (filter-no is_collectors e es own.2) in
           let here : of_seat (e ∷ es) m ≡ of_seat es m + value
-          = ap (total part) (filter-yes (is_of m) e es (own.3 m ∙ itself m)) ∙ sum_by-cons (λ x. part (effect_of x)) e (filter (is_of m) es) ∙ omega arith in
-          let more = sum_one (of_seat es) (of_seat (e ∷ es)) 0 seats m value (λ n under apart. ap (total part) (filter-no (is_of n) e es (own.3 n ∙ different m n (λ same. apart (sym same))))) here (omega arith) (omega (arith, less)) in
+          = ap (total part) (filter-yes (is_of m) e es (own.3 m ∙ eq-eqb m m refl)) ∙ sum_by-cons (λ x. part (effect_of x)) e (filter (is_of m) es) ∙ omega arith in
+          let more = sum_one (of_seat es) (of_seat (e ∷ es)) 0 seats m value (λ n under apart. ap (total part) (filter-no (is_of n) e es (own.3 n ∙ ne_eqb m n (λ same. apart (sym same))))) here (omega arith) (omega (arith, less)) in
           omega (arith, whole, rest, none, more)
 
 -- lists that are the same with one element more are the same, and so is the element
-snoc_same : {X : Type 0} → (xs ys : List X) (x y : X) → xs ++ x ∷ [] ≡ ys ++ y ∷ [] → (xs ≡ ys) × (x ≡ y)
+pub snoc_same : {X : Type 0} → (xs ys : List X) (x y : X) → xs ++ x ∷ [] ≡ ys ++ y ∷ [] → (xs ≡ ys) × (x ≡ y)
 snoc_same [] [] x y same = (refl, cc same)
 snoc_same [] (b ∷ []) x y same = absurd (cc same)
 snoc_same [] (b ∷ (c ∷ ys)) x y same = absurd (cc same)

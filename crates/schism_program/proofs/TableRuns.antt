@@ -17,7 +17,7 @@ use Rattle.heap_model.specs.graph.Legal.{IsObjectLegal}
 use Rattle.heap_model.specs.runs.Told.{command_told, commands_told}
 use Rattle.heap_table.specs.Closed.{ClosedTable, HasOneHistory}
 use Rattle.heap_table.specs.SeatHeld.{SeatHeld}
-use Rattle.log_merge.proofs.SameLogs.{same_totals, keeps_logs}
+use Rattle.log_merge.proofs.SameLogs.{snoc_same, same_totals, keeps_logs}
 use Rattle.script_text.specs.declared.script.Script.{Script}
 use Rattle.heap_model.specs.account.Account.{IsLegal}
 use Rattle.heap_model.specs.account.Space.{fragments_gained, fragments_lost}
@@ -79,17 +79,6 @@ module _ (patience : ℕ) (scripts : List (List Command)) (history : List Entry)
         | inl same ↦ subst (λ m. commands_told m history ≡ script_at scripts m ++ Leave ∷ []) (sym same.1) here
         | inr apart ↦ told_from (k + 1) olds news (cc numbers) (omega (arith, many)) (λ place o w was now. each (suc place) o w was now) none.1 (cc parts) n (omega (arith, from, apart.1)) (omega (arith, to))
       ]
-
-snoc_same : {X : Type 0} → (xs ys : List X) (x y : X) → xs ++ x ∷ [] ≡ ys ++ y ∷ [] → (xs ≡ ys) × (x ≡ y)
-snoc_same [] [] x y same = (refl, cc same)
-snoc_same [] (b ∷ []) x y same = absurd (cc same)
-snoc_same [] (b ∷ (c ∷ ys)) x y same = absurd (cc same)
-snoc_same (a ∷ []) [] x y same = absurd (cc same)
-snoc_same (a ∷ (c ∷ xs)) [] x y same = absurd (cc same)
-snoc_same (a ∷ xs) (b ∷ ys) x y same =
-    let rest = snoc_same xs ys x y (cc same) in
-    let first : a ≡ b = cc same in
-    (ap (λ z. z ∷ xs) first ∙ ap (λ l. b ∷ l) rest.0, rest.1)
 
 module _ (patience : ℕ) (scripts : List (List Command)) (script : Script) (closed : ClosedTable) (merged : List Entry) (olds news : List SeatHeld)
     (heap_is : closed.heap ≡ script.heap) (legal : IsObjectLegal script.heap merged) (kept : closed.logs ≡ logs_of script.heap merged) (unused : EndsUnused closed)

@@ -18,6 +18,7 @@ use heap_model::{Command, Entry, Full, Heap, Id, Memory};
 use heap_table::{HeapTable, Holder};
 use object_chain::bear_record;
 use std::alloc::Global;
+use std::fmt::Debug;
 use std::process::Abort;
 use std::test::Fail;
 
@@ -54,13 +55,25 @@ fn no_fragments() -> Hand
     }
 }
 
-/// The log has these entries.
-fn tells(rt: &impl Abort, alloc: Global, log: &[Entry], lines: &[&str]) -> Result<(), Fail> {
+/// The log of the seat has these entries.
+fn tells(rt: &impl Abort, alloc: Global, holder: &Holder, lines: &[&str]) -> Result<(), Fail> {
+    let log = holder.log();
     same(rt, &log.len(), &lines.len(), &"the entries");
     for (entry, line) in log.iter().zip(lines) {
         same(rt, entry, &entry_of(alloc, line)?, line);
     }
     Ok(())
+}
+
+/// The seat's first object was made.
+fn is_the_first<E: PartialEq + Debug + Drop>(rt: &impl Abort, made: &Option<Result<Id, E>>) {
+    let first = Id::Made { seat: 0, count: 0 };
+    same(rt, made, &Some(Ok(first)), &"the id");
+}
+
+/// The hand has these fragments.
+fn has(rt: &impl Abort, hand: &Hand, fragments: &[u16]) {
+    same(rt, &hand.fragments.as_slice(), &fragments, &"the hand");
 }
 
 /// Makes the step that is due, if any.

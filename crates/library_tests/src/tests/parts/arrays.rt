@@ -6,7 +6,7 @@ ghost use Rattle.heap_model.specs.Needs.{spine_need_of};
 ghost use Rattle.core_machine.specs.declared.place.Making.TheVariants.{Refusing};
 ghost use Rattle.core_machine.specs.declared.place.Place.TheVariants.{Making};
 
-use super::{kept, lone_seat, no_fragments, tells};
+use super::{has, is_the_first, kept, lone_seat, no_fragments, tells};
 use crate::tests::comparing::{holds, same};
 use array_spine::{Budget, SpineFull, bear_array, cell_at, drop_budget, take_budget};
 use core_machine::{Access, AccessStep, Step};
@@ -102,18 +102,8 @@ fn the_second_array_has_no_spine_words(rt: HostRuntime) -> Result<(), Fail> {
     let mut holder = lone_seat(rt.alloc(), 2, 4)?;
     let mut hand = no_fragments();
     let made = make_array(&mut holder, &mut hand, 16, 4)?;
-    same(
-        &rt,
-        &made,
-        &Some(Ok(Id::Made { seat: 0, count: 0 })),
-        &"the id",
-    );
-    same(
-        &rt,
-        &hand.fragments.as_slice(),
-        &[11, 12, 13, 14, 15].as_slice(),
-        &"the hand",
-    );
+    is_the_first(&rt, &made);
+    has(&rt, &hand, &[11, 12, 13, 14, 15]);
     let again = make_array(&mut holder, &mut no_fragments(), 1, 1)?;
     same(
         &rt,
@@ -124,7 +114,7 @@ fn the_second_array_has_no_spine_words(rt: HostRuntime) -> Result<(), Fail> {
     tells(
         &rt,
         rt.alloc(),
-        holder.log(),
+        &holder,
         &[
             "0 takes 5",
             "0 array 1 16 = 0.0",
@@ -149,7 +139,7 @@ fn no_array_without_spine_words(rt: HostRuntime) -> Result<(), Fail> {
     tells(
         &rt,
         rt.alloc(),
-        holder.log(),
+        &holder,
         &["0 array 1 4 = spine need 1 used 0"],
     )
 }
@@ -164,7 +154,7 @@ fn an_array_without_fragments_gives_its_words_back(rt: HostRuntime) -> Result<()
     tells(
         &rt,
         rt.alloc(),
-        holder.log(),
+        &holder,
         &[
             "0 takes 5",
             "0 gives back 5",
@@ -172,12 +162,7 @@ fn an_array_without_fragments_gives_its_words_back(rt: HostRuntime) -> Result<()
         ],
     )?;
     let again = make_array(&mut holder, &mut no_fragments(), 16, 4)?;
-    same(
-        &rt,
-        &again,
-        &Some(Ok(Id::Made { seat: 0, count: 0 })),
-        &"the id",
-    );
+    is_the_first(&rt, &again);
     Ok(())
 }
 
@@ -187,12 +172,7 @@ fn the_largest_array_is_reached(rt: HostRuntime) -> Result<(), Fail> {
     let mut holder = lone_seat(rt.alloc(), 66, 1024)?;
     let mut hand = no_fragments();
     let made = make_array(&mut holder, &mut hand, 4096, 1024)?;
-    same(
-        &rt,
-        &made,
-        &Some(Ok(Id::Made { seat: 0, count: 0 })),
-        &"the id",
-    );
+    is_the_first(&rt, &made);
     same(&rt, &holder.log().len(), &66, &"the entries");
     let takes = Entry::Takes { seat: 0, count: 16 };
     let whole = holder.log().iter().filter(|entry| **entry == takes).count();

@@ -1,6 +1,6 @@
 //! A record of many fields is made and its last field is reached, and one is refused.
 
-use super::{lone_seat, make_record, no_fragments, tells};
+use super::{has, is_the_first, lone_seat, make_record, no_fragments, tells};
 use crate::tests::comparing::{holds, same};
 use core_machine::{Access, AccessStep, Step};
 use heap_model::{Command, Full, Id, Memory};
@@ -51,20 +51,13 @@ fn a_long_record_is_made(rt: HostRuntime) -> Result<(), Fail> {
     let mut holder = lone_seat(rt.alloc(), 4, 0)?;
     let mut hand = no_fragments();
     let made = make_record(&mut holder, &mut hand, 47, 16)?;
-    same(
+    is_the_first(&rt, &made);
+    has(
         &rt,
-        &made,
-        &Some(Ok(Id::Made { seat: 0, count: 0 })),
-        &"the id",
-    );
-    let first = [
-        11, 12, 13, 14, 15, 16, 17, 18, 19, 20, 21, 22, 23, 24, 25, 26,
-    ];
-    same(
-        &rt,
-        &hand.fragments.as_slice(),
-        &first.as_slice(),
-        &"the hand",
+        &hand,
+        &[
+            11, 12, 13, 14, 15, 16, 17, 18, 19, 20, 21, 22, 23, 24, 25, 26,
+        ],
     );
     same(
         &rt,
@@ -76,7 +69,7 @@ fn a_long_record_is_made(rt: HostRuntime) -> Result<(), Fail> {
     tells(
         &rt,
         rt.alloc(),
-        holder.log(),
+        &holder,
         &["0 takes 5", "0 takes 16", "0 new 1 47 = 0.0"],
     )?;
     // Behind the head's two fields each chain fragment has three, so the last is in the fifteenth, which comes behind the head.
@@ -110,7 +103,7 @@ fn a_long_record_is_refused(rt: HostRuntime) -> Result<(), Fail> {
     tells(
         &rt,
         rt.alloc(),
-        holder.log(),
+        &holder,
         &[
             "0 takes 5",
             "0 gives back 5",
