@@ -63,8 +63,6 @@ fn played_text(
     let script = script_of(alloc, input, Form::Play)?;
     let whole = MachineHeap::make(alloc, script.heap)?;
     let history = play(whole, script.heap, &script, pace)?;
-    // The text needs the room more than the script, which was played.
-    drop(script);
     let text = told_text(alloc, &history, brief)?;
     Ok(text)
 }
