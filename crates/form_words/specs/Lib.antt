@@ -1,2 +1,4 @@
 pub mod Settings
 pub mod Works
+pub mod Commands
+pub mod Matched
