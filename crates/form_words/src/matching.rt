@@ -1,6 +1,7 @@
-ghost use Rattle.std.specs.Prelude.{◌≡◌, ◌×◌, true, IfOk, IfNone, IfSome, map};
+ghost use Rattle.std.specs.Prelude.{◌≡◌, true, IfOk, IfNone, IfSome, map};
 ghost use Rattle.clap.specs.Words.{app_of, found_of, is_simple_and_free, matches_of, rows_of};
-ghost use Rattle.form_words.specs.Matched.{is_joined, Takes};
+ghost use Rattle.form_words.specs.Joined.{is_joined};
+ghost use Rattle.form_words.specs.Matched.{Takes};
 
 use clap::error::ErrorKind;
 use clap::{ArgMatches, Command};
@@ -18,7 +19,7 @@ fn is_joined(word: &str) -> bool
 
 /// What the command finds in the words, where it takes them.
 pub fn matches_in<'a>(command: Command<'a>, words: &'a [&'a str]) -> Result<Option<ArgMatches<'a>>, Memory>
-    requires { is_simple_and_free (app_of command.entry) ≡ true }
+    requires { is_simple_and_free (app_of command) ≡ true }
     ensures some { IfOk result (λ found. IfSome found (λ matches.
         Takes (app_of command.entry) (map (λ w. w.now) words.entry.now)
         × (rows_of (found_of matches) ≡ matches_of (app_of command.entry) (map (λ w. w.now) words.entry.now)))) }

@@ -1,7 +1,8 @@
-ghost use Rattle.std.specs.Prelude.{◌≡◌, IfSome, IfNone};
+ghost use Rattle.std.specs.Prelude.{◌≡◌, ℕ, Option as AnOption, IfSome, IfNone};
 ghost use Rattle.clap.specs.Words.{found_of, rows_of};
 ghost use Rattle.form_words.specs.declared.setting.Settings.{Settings as AreGiven};
-ghost use Rattle.form_words.specs.Matched.{HasFlags, HasValues};
+ghost use Rattle.form_words.specs.Matched.{HasFlags, HasPace, HasPatience, HasValues};
+ghost use Rattle.form_words.specs.declared.pace.PaceName.{PaceName as APaceName};
 
 use crate::pace::PaceName;
 use crate::range::number_in;
@@ -20,7 +21,10 @@ pub struct Settings {
 }
 
 /// The pace that was given, where one is named.
-fn pace_in(matches: &ArgMatches) -> Option<Option<PaceName>> {
+fn pace_in(matches: &ArgMatches) -> Option<Option<PaceName>>
+    ensures some { IfSome result (HasPace (rows_of (found_of matches.now))) }
+    ensures none { IfNone result ((pace : AnOption APaceName) → ¬ HasPace (rows_of (found_of matches.now)) pace) }
+{
     match matches.get_str("pace") {
         None => Some(None),
         Some(word) => Some(Some(PaceName::of(word)?)),
@@ -28,7 +32,10 @@ fn pace_in(matches: &ArgMatches) -> Option<Option<PaceName>> {
 }
 
 /// The patience that was given, where it is one.
-fn patience_in(matches: &ArgMatches) -> Option<Option<u32>> {
+fn patience_in(matches: &ArgMatches) -> Option<Option<u32>>
+    ensures some { IfSome result (HasPatience (rows_of (found_of matches.now))) }
+    ensures none { IfNone result ((patience : AnOption ℕ) → ¬ HasPatience (rows_of (found_of matches.now)) patience) }
+{
     match matches.get_str("patience") {
         None => Some(None),
         Some(word) => Some(Some(number_in(word, 1, MOST_PATIENCE)?)),

@@ -52,7 +52,7 @@ pub enum Work {
 
 /// The settings that the command finds in the words, where it takes them and each value is one.
 fn settings_by<'a>(command: Command<'a>, words: &'a [&'a str]) -> Result<Option<Settings>, Memory>
-    requires { is_simple_and_free (app_of command.entry) ≡ true }
+    requires { is_simple_and_free (app_of command) ≡ true }
     ensures some { IfOk result (λ found. IfSome found (FindsSettings (app_of command.entry) (map (λ w. w.now) words.entry.now))) }
     ensures none { IfOk result (λ found. IfNone found ((all : AreGiven) → ¬ FindsSettings (app_of command.entry) (map (λ w. w.now) words.entry.now) all)) }
 {
