@@ -13,7 +13,7 @@ use Rattle.form_words.specs.declared.setting.Settings.{Settings}
 use Rattle.form_words.specs.declared.work.Work.{Work}
 use Rattle.form_words.specs.declared.work.Work.TheVariants.{Play, Run, Check, Make}
 use Rattle.form_words.specs.Settings.{GiveSettings, no_settings}
-use Rattle.form_words.specs.Works.{Completes, MayBeMade, usual_patience}
+use Rattle.form_words.specs.Works.{Completes, MayBeMade, form_word, usual_patience}
 use Rattle.form_words.proofs.GivenSettings.{patience_within}
 use Rattle.form_words.proofs.MakingWords.{make_found, make_taken}
 use Rattle.form_words.proofs.OptionForms.{check_found, check_taken}
@@ -71,3 +71,16 @@ making_found words start seats lines made =
       takes = record { apart = apart; faultless = taken.0 };
       finds = subst (λ rows. FindsMaking rows (Make start seats lines)) (sym taken.1) (made.0, refl, refl, refl);
     })
+
+pub make_some : (words : List Text) (rows : List Row) (found : Option Work) → Takes make_app words → rows ≡ matches_of make_app words → IfSome found (λ work. (form_word work ≡ codes "make") × FindsMaking rows work)
+    → IfSome found (λ work. (form_word work ≡ codes "make") × Completes words work)
+make_some words rows None takes is some = tt
+make_some words rows (Some work) takes is some = (some.0, make_completes words work takes (subst (λ rs. FindsMaking rs work) is some.1))
+
+pub make_none : (words : List Text) (rows : List Row) (found : Option Work) → rows ≡ matches_of make_app words → IfNone found ((start seats lines : ℕ) → ¬ FindsMaking rows (Make start seats lines))
+    → IfNone found ((start seats lines : ℕ) → ¬ Completes words (Make start seats lines))
+make_none words rows None is none = λ start seats lines made. none start seats lines (subst (λ rs. FindsMaking rs (Make start seats lines)) (sym is) (making_found words start seats lines made).finds)
+make_none words rows (Some work) is none = tt
+
+pub no_make_found : (words : List Text) → ¬ Takes make_app words → (start seats lines : ℕ) → ¬ Completes words (Make start seats lines)
+no_make_found words none start seats lines made = none (making_found words start seats lines made).takes

@@ -8,4 +8,5 @@ pub mod OptionForms
 pub mod SettingRows
 pub mod SettingForms
 pub mod MakingWords
+pub mod FoundTexts
 pub mod FoundWorks

@@ -1,6 +1,6 @@
 ghost use Rattle.std.specs.Prelude.{◌≡◌, true, IfOk, IfNone, IfSome, map};
 ghost use Rattle.clap.specs.Words.{app_of, found_of, is_simple_and_free, matches_of, rows_of};
-ghost use Rattle.form_words.specs.Joined.{is_joined};
+ghost use Rattle.form_words.specs.Joined.{are_apart, is_joined};
 ghost use Rattle.form_words.specs.Matched.{Takes};
 
 use clap::error::ErrorKind;
@@ -17,6 +17,13 @@ fn is_joined(word: &str) -> bool
     }
 }
 
+/// Whether no word is one of those.
+fn are_apart(words: &[&str]) -> bool
+    ensures { result ≡ are_apart (map (λ w. w.now) words.now) }
+{
+    words.iter().all(|word| !is_joined(word))
+}
+
 /// What the command finds in the words, where it takes them.
 pub fn matches_in<'a>(command: Command<'a>, words: &'a [&'a str]) -> Result<Option<ArgMatches<'a>>, Memory>
     requires { is_simple_and_free (app_of command) ≡ true }
@@ -25,7 +32,7 @@ pub fn matches_in<'a>(command: Command<'a>, words: &'a [&'a str]) -> Result<Opti
         × (rows_of (found_of matches) ≡ matches_of (app_of command.entry) (map (λ w. w.now) words.entry.now)))) }
     ensures none { IfOk result (λ found. IfNone found (¬ Takes (app_of command.entry) (map (λ w. w.now) words.entry.now))) }
 {
-    if words.iter().any(|word| is_joined(word)) {
+    if !are_apart(words) {
         return Ok(None);
     }
     match command.try_get_matches_from(words) {

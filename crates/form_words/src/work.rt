@@ -1,5 +1,5 @@
-ghost use Rattle.std.specs.Prelude.{◌≡◌, ℕ, Bool as ABool, Option as AnOption, true, codes, map, IfNone, IfOk, IfSome};
-ghost use Rattle.clap.specs.Words.{app_of, found_of, is_simple_and_free, rows_of};
+ghost use Rattle.std.specs.Prelude.{◌≡◌, ◌≤◌, ℕ, Some, decimal, Bool as ABool, Option as AnOption, true, codes, map, IfNone, IfOk, IfSome};
+ghost use Rattle.clap.specs.Words.{app_of, first_of, found_of, is_simple_and_free, rows_of};
 ghost use Rattle.form_words.specs.Matched.{FindsMaking, FindsSettings};
 ghost use Rattle.form_words.specs.Works.{most_bytes, form_word, AskFor, Completes, IsForm, IsWork, HasInput};
 ghost use Rattle.form_words.specs.declared.pace.PaceName.{PaceName as APaceName};
@@ -98,10 +98,21 @@ fn check_of<'a>(alloc: Global, words: &'a [&'a str]) -> Result<Option<Work>, Mem
     ensures some { IfOk result (λ found. IfSome found (λ work. (form_word work ≡ codes "check") × Completes (map (λ w. w.now) words.entry.now) work)) }
     ensures none { IfOk result (λ found. IfNone found (¬ Completes (map (λ w. w.now) words.entry.now) works.Check)) }
 {
-    match matches_in(check_command(alloc), words)? {
-        Some(_) => Ok(Some(Work::Check)),
-        None => Ok(None),
+    let matches = matches_in(check_command(alloc), words)?;
+    if matches.is_some() {
+        Ok(Some(Work::Check))
+    } else {
+        Ok(None)
     }
+}
+
+/// The number at the place, in the range with both ends.
+fn number_at(matches: &ArgMatches, place: &str, least: u32, most: u32) -> Option<u32>
+    ensures some { IfSome result (λ n. (first_of place.now (rows_of (found_of matches.now)) ≡ Some (decimal n)) × (least ≤ n) × (n ≤ most)) }
+    ensures none { IfNone result ((n : ℕ) → first_of place.now (rows_of (found_of matches.now)) ≡ Some (decimal n) → least ≤ n → n ≤ most → ⊥) }
+{
+    let word = matches.get_str(place)?;
+    number_in(word, least, most)
 }
 
 /// The making by the words at the three places, where each is a number in its range.
@@ -109,9 +120,9 @@ fn making_in(matches: &ArgMatches) -> Option<Work>
     ensures some { IfSome result (λ work. (form_word work ≡ codes "make") × FindsMaking (rows_of (found_of matches.now)) work) }
     ensures none { IfNone result ((start seats lines : ℕ) → ¬ FindsMaking (rows_of (found_of matches.now)) (works.Make start seats lines)) }
 {
-    let start = number_in(matches.get_str("start")?, 0, MOST_START)?;
-    let seats = number_in(matches.get_str("seats")?, 1, u32::from(MOST_SEATS))?;
-    let lines = number_in(matches.get_str("lines")?, 0, MOST_MADE_LINES)?;
+    let start = number_at(matches, "start", 0, MOST_START)?;
+    let seats = number_at(matches, "seats", 1, u32::from(MOST_SEATS))?;
+    let lines = number_at(matches, "lines", 0, MOST_MADE_LINES)?;
     Some(Work::Make {
         start,
         seats: seats as u8,
