@@ -98,12 +98,10 @@ fn check_of<'a>(alloc: Global, words: &'a [&'a str]) -> Result<Option<Work>, Mem
     ensures some { IfOk result (λ found. IfSome found (λ work. (form_word work ≡ codes "check") × Completes (map (λ w. w.now) words.entry.now) work)) }
     ensures none { IfOk result (λ found. IfNone found (¬ Completes (map (λ w. w.now) words.entry.now) works.Check)) }
 {
-    let matches = matches_in(check_command(alloc), words)?;
-    if matches.is_some() {
-        Ok(Some(Work::Check))
-    } else {
-        Ok(None)
-    }
+    let Some(_matches) = matches_in(check_command(alloc), words)? else {
+        return Ok(None);
+    };
+    Ok(Some(Work::Check))
 }
 
 /// The number at the place, in the range with both ends.
