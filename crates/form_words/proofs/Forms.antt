@@ -39,23 +39,6 @@ pub no_make : (words rest : List (List ℕ)) (found : Option Work) → words ≡
 no_make words rest None begins none = no_form (codes "make") words rest _ begins refl (none _ _ _)
 no_make words rest (Some work) begins none = tt
 
--- settings of a run alone are no play's
-pub none_play : (words : List (List ℕ)) (settings : Settings) → GiveSettings no_settings words settings → (settings.locked ≡ true) ⊎ (is_some settings.patience ≡ true) → (pace : Option PaceName) (brief : Bool) → ¬ Completes words (Play pace brief)
-none_play words settings gives own pace brief gives' = by own where
-  same : settings ≡ record no_settings { pace = pace; brief = brief }
-  same = sym (settings_of-given words settings gives) ∙ settings_of-given words _ gives'
-
-  by : (settings.locked ≡ true) ⊎ (is_some settings.patience ≡ true) → ⊥
-  by (inl locked) = let none : settings.locked ≡ false = ap (λ (s : Settings). s.locked) same in cc
-  by (inr patience) = let none : is_some settings.patience ≡ false = ap (λ (s : Settings). is_some s.patience) same in cc
-
--- and a brief is no run's
-pub none_run : (words : List (List ℕ)) (settings : Settings) → GiveSettings no_settings words settings → settings.brief ≡ true → (pace : PaceName) (locked : Bool) (patience : ℕ) → ¬ Completes words (Run pace locked patience)
-none_run words settings gives brief pace locked patience (others, gives', is) =
-    let same : settings ≡ others = sym (settings_of-given words settings gives) ∙ settings_of-given words others gives' in
-    let none : settings.brief ≡ false = ap (λ (s : Settings). s.brief) same ∙ is.not_brief in
-    cc
-
 -- what was found has its numbers in their ranges
 pub found_within : (form : List ℕ) (rest : List (List ℕ)) (found : Option Work) → IfSome found (λ work. (form_word work ≡ form) × Completes rest work) → IfSome found IsWork
 found_within form rest None is = tt

@@ -9,10 +9,8 @@ use Rattle.std.proofs.lemmas.Fmt.{decimal_is_IsNumeral}
 use Rattle.std.proofs.lemmas.List.{append_cancel_left}
 use Rattle.heap_model.specs.Command.{IsWithin}
 use Rattle.form_words.specs.declared.pace.PaceName.TheVariants.{Steady}
-use Rattle.form_words.specs.declared.setting.Setting.{Setting}
-use Rattle.form_words.specs.declared.setting.Setting.TheVariants.{Pace, Brief, Locked, Patience}
 use Rattle.form_words.specs.declared.setting.Settings.{Settings}
-use Rattle.form_words.specs.Settings.{has, most_patience, no_settings, with_setting, setting_words, IsKnownSetting, AddSettings, GiveSettings}
+use Rattle.form_words.specs.Settings.{Brief, Locked, Pace, Patience, Setting, has, most_patience, no_settings, with_setting, setting_words, IsKnownSetting, AddSettings, GiveSettings}
 
 -- the value of a number's digits
 pub digits_value-decimal : (n : ℕ) → n < 2 ^ 64 → digits_value 10 (decimal n) ≡ n
@@ -62,46 +60,6 @@ pub settings_of-given : (words : List (List ℕ)) (all : Settings) → GiveSetti
 settings_of-given words all gives =
     let told = ap (λ ws. given_by ws None) gives.spelled ∙ given_by-given no_settings all gives.given gives.adds in
     ap (fold with_setting no_settings) told ∙ added no_settings all gives.given gives.adds
-
--- words that begin with no setting give none
-pub none_begins : (before all : Settings) (words : List (List ℕ)) → words ≢ [] → ((setting : Setting) (rest : List (List ℕ)) → IsKnownSetting setting → words ≢ setting_words setting ++ rest) → ¬ GiveSettings before words all
-none_begins before all words some none gives = by gives.given gives.adds gives.spelled where
-  by : (given : List Setting) → AddSettings before given all → words ≢ flat_map setting_words given
-  by [] adds spelled = some spelled
-  by (setting ∷ more) adds spelled = none setting (flat_map setting_words more) adds.0 spelled
-
--- words that begin with a setting give it first
-pub first_given : (before all : Settings) (setting : Setting) (words rest : List (List ℕ)) → IsKnownSetting setting → words ≡ setting_words setting ++ rest → GiveSettings before words all
-    → (has before setting ≡ false) × GiveSettings (with_setting before setting) rest all
-first_given before all setting words rest fits begins gives =
-    let more = given_by rest None in
-    let told : gives.given ≡ setting ∷ more
-    = sym (given_by-given before all gives.given gives.adds) ∙ ap (λ ws. given_by ws None) (sym gives.spelled ∙ begins) ∙ given_by-setting setting rest fits in
-    let adds : AddSettings before (setting ∷ more) all = subst (λ given. AddSettings before given all) told gives.adds in
-    let spelled : setting_words setting ++ rest ≡ setting_words setting ++ flat_map setting_words more = sym begins ∙ gives.spelled ∙ ap (flat_map setting_words) told in
-    (adds.1, record { given = more; spelled = append_cancel_left (setting_words setting) rest (flat_map setting_words more) spelled; adds = adds.2 })
-
--- and so they do where the rest gives the others
-pub given_first : (before all : Settings) (setting : Setting) (words rest : List (List ℕ)) → IsKnownSetting setting → words ≡ setting_words setting ++ rest → has before setting ≡ false
-    → GiveSettings (with_setting before setting) rest all → GiveSettings before words all
-given_first before all setting words rest fits begins new gives =
-    record { given = setting ∷ gives.given; spelled = begins ∙ ap (λ ws. setting_words setting ++ ws) gives.spelled; adds = (fits, new, gives.adds) }
-
--- so what is found of the rest is found of the words
-pub some_given : (before : Settings) (setting : Setting) (words rest : List (List ℕ)) (found : Option Settings) → IsKnownSetting setting → words ≡ setting_words setting ++ rest → has before setting ≡ false
-    → IfSome found (GiveSettings (with_setting before setting) rest) → IfSome found (GiveSettings before words)
-some_given before setting words rest None fits begins new gives = tt
-some_given before setting words rest (Some all) fits begins new gives = given_first before all setting words rest fits begins new gives
-
-pub none_given : (before : Settings) (setting : Setting) (words rest : List (List ℕ)) (found : Option Settings) → IsKnownSetting setting → words ≡ setting_words setting ++ rest
-    → IfNone found ((all : Settings) → ¬ GiveSettings (with_setting before setting) rest all) → IfNone found ((all : Settings) → ¬ GiveSettings before words all)
-none_given before setting words rest None fits begins none = λ all gives. none all (first_given before all setting words rest fits begins gives).1
-none_given before setting words rest (Some all) fits begins none = tt
-
--- where there are words, there is a first one
-pub some_word : (words : List (Bor (List ℕ))) → (length words == 0) ≡ false → map (λ (w : Bor (List ℕ)). w.now) words ≢ []
-some_word [] none same = cc
-some_word (word ∷ words) some same = cc
 
 -- a patience that was given is in its range
 pub patience_within : (words : List (List ℕ)) (all : Settings) → GiveSettings no_settings words all → IfSome all.patience (IsWithin 1 most_patience)

@@ -2,3 +2,11 @@ pub mod RangeNumbers
 pub mod GivenSettings
 pub mod AskedWork
 pub mod Forms
+pub mod OptionSteps
+pub mod OptionWalk
+pub mod OptionForms
+pub mod SettingRows
+pub mod SettingForms
+pub mod MakingWords
+pub mod FoundTexts
+pub mod FoundWorks

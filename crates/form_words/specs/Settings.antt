@@ -4,9 +4,14 @@ use Rattle.std.specs.List.{flat_map}
 use Rattle.heap_model.specs.Command.{IsWithin}
 use Rattle.form_words.specs.declared.pace.PaceName.{PaceName}
 use Rattle.form_words.specs.declared.pace.PaceName.TheVariants.{Steady}
-use Rattle.form_words.specs.declared.setting.Setting.{Setting}
-use Rattle.form_words.specs.declared.setting.Setting.TheVariants.{Pace, Brief, Locked, Patience}
 use Rattle.form_words.specs.declared.setting.Settings.{Settings}
+
+-- what may stand behind the word of a form, in any order and each kind once at most
+pub data Setting : Type 0 where
+  Pace : PaceName → Setting
+  Brief : Setting
+  Locked : Setting
+  Patience : ℕ → Setting
 
 -- the most finds that a patience asks for
 abbrev pub most_patience : ℕ

@@ -1,6 +1,8 @@
 //! The words after the program's name: which forms they have, with their settings, and the work that they ask for.
 #![tactic(auto)]
 
+mod command;
+mod matching;
 mod pace;
 mod range;
 mod setting;

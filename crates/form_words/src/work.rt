@@ -1,13 +1,21 @@
-ghost use Rattle.std.specs.Prelude.{◌≡◌, ℕ, Bool as ABool, Option as AnOption, codes, map, IfNone, IfSome};
+ghost use Rattle.std.specs.Prelude.{◌≡◌, ◌≤◌, ℕ, Some, decimal, Bool as ABool, Option as AnOption, true, codes, map, IfNone, IfOk, IfSome};
+ghost use Rattle.clap.specs.Words.{app_of, first_of, found_of, is_simple_and_free, rows_of};
+ghost use Rattle.form_words.specs.Matched.{FindsMaking, FindsSettings};
 ghost use Rattle.form_words.specs.Works.{most_bytes, form_word, AskFor, Completes, IsForm, IsWork, HasInput};
 ghost use Rattle.form_words.specs.declared.pace.PaceName.{PaceName as APaceName};
+ghost use Rattle.form_words.specs.declared.setting.Settings.{Settings as AreGiven};
 ghost use Rattle.form_words.specs.declared.work.Work.TheVariants as works;
 
+use crate::command::{check_command, make_command, play_command, run_command};
+use crate::matching::matches_in;
 use crate::pace::PaceName;
 use crate::range::number_in;
-use crate::setting::{Settings, first_word};
+use crate::setting::Settings;
+use clap::{ArgMatches, Command};
+use heap_model::Memory;
 use heap_model::limits::MOST_SEATS;
 use script_text::{MOST_MADE_LINES, MOST_START};
+use std::alloc::Global;
 
 /// The most bytes of a script that is played or run.
 pub const MOST_SCRIPT: usize = 1_048_576;
@@ -42,70 +50,77 @@ pub enum Work {
     },
 }
 
-/// The play that the words behind the form's ask for.
-fn play_of(words: &[&str]) -> Option<Work>
-    ensures some { IfSome result (λ work. (form_word work ≡ codes "play") × Completes (map (λ w. w.now) words.now) work) }
-    ensures none { IfNone result ((pace : AnOption APaceName) (brief : ABool) → ¬ Completes (map (λ w. w.now) words.now) (works.Play pace brief)) }
+/// The settings that the command finds in the words, where it takes them and each value is one.
+fn settings_by<'a>(command: Command<'a>, words: &'a [&'a str]) -> Result<Option<Settings>, Memory>
+    requires { is_simple_and_free (app_of command) ≡ true }
+    ensures some { IfOk result (λ found. IfSome found (FindsSettings (app_of command.entry) (map (λ w. w.now) words.entry.now))) }
+    ensures none { IfOk result (λ found. IfNone found ((all : AreGiven) → ¬ FindsSettings (app_of command.entry) (map (λ w. w.now) words.entry.now) all)) }
 {
-    let Some(settings) = Settings::of(words) else {
-        return None;
-    };
-    if settings.locked || settings.patience.is_some() {
-        return None;
+    match matches_in(command, words)? {
+        Some(matches) => Ok(Settings::of(&matches)),
+        None => Ok(None),
     }
-    Some(Work::Play {
+}
+
+/// The play that the words behind the form's ask for.
+fn play_of<'a>(alloc: Global, words: &'a [&'a str]) -> Result<Option<Work>, Memory>
+    ensures some { IfOk result (λ found. IfSome found (λ work. (form_word work ≡ codes "play") × Completes (map (λ w. w.now) words.entry.now) work)) }
+    ensures none { IfOk result (λ found. IfNone found ((pace : AnOption APaceName) (brief : ABool) → ¬ Completes (map (λ w. w.now) words.entry.now) (works.Play pace brief))) }
+{
+    let command = play_command(alloc)?;
+    let Some(settings) = settings_by(command, words)? else {
+        return Ok(None);
+    };
+    Ok(Some(Work::Play {
         pace: settings.pace,
         brief: settings.brief,
-    })
+    }))
 }
 
 /// The run that the words behind the form's ask for.
-fn run_of(words: &[&str]) -> Option<Work>
-    ensures some { IfSome result (λ work. (form_word work ≡ codes "run") × Completes (map (λ w. w.now) words.now) work) }
-    ensures none { IfNone result ((pace : APaceName) (locked : ABool) (patience : ℕ) → ¬ Completes (map (λ w. w.now) words.now) (works.Run pace locked patience)) }
+fn run_of<'a>(alloc: Global, words: &'a [&'a str]) -> Result<Option<Work>, Memory>
+    ensures some { IfOk result (λ found. IfSome found (λ work. (form_word work ≡ codes "run") × Completes (map (λ w. w.now) words.entry.now) work)) }
+    ensures none { IfOk result (λ found. IfNone found ((pace : APaceName) (locked : ABool) (patience : ℕ) → ¬ Completes (map (λ w. w.now) words.entry.now) (works.Run pace locked patience))) }
 {
-    let Some(settings) = Settings::of(words) else {
-        return None;
+    let command = run_command(alloc)?;
+    let Some(settings) = settings_by(command, words)? else {
+        return Ok(None);
     };
-    if settings.brief {
-        return None;
-    }
-    Some(Work::Run {
+    Ok(Some(Work::Run {
         pace: settings.pace.unwrap_or(PaceName::Steady),
         locked: settings.locked,
         patience: settings.patience.unwrap_or(USUAL_PATIENCE),
-    })
+    }))
 }
 
 /// The check, where no words stand behind the form's.
-fn check_of(words: &[&str]) -> Option<Work>
-    ensures some { IfSome result (λ work. (form_word work ≡ codes "check") × Completes (map (λ w. w.now) words.now) work) }
-    ensures none { IfNone result (¬ Completes (map (λ w. w.now) words.now) works.Check) }
+fn check_of<'a>(alloc: Global, words: &'a [&'a str]) -> Result<Option<Work>, Memory>
+    ensures some { IfOk result (λ found. IfSome found (λ work. (form_word work ≡ codes "check") × Completes (map (λ w. w.now) words.entry.now) work)) }
+    ensures none { IfOk result (λ found. IfNone found (¬ Completes (map (λ w. w.now) words.entry.now) works.Check)) }
 {
-    if words.is_empty() {
-        Some(Work::Check)
-    } else {
-        None
-    }
+    let Some(_matches) = matches_in(check_command(alloc), words)? else {
+        return Ok(None);
+    };
+    Ok(Some(Work::Check))
 }
 
-/// The making of a script that the words behind the form's ask for.
-fn make_of(words: &[&str]) -> Option<Work>
-    ensures some { IfSome result (λ work. (form_word work ≡ codes "make") × Completes (map (λ w. w.now) words.now) work) }
-    ensures none { IfNone result ((start seats lines : ℕ) → ¬ Completes (map (λ w. w.now) words.now) (works.Make start seats lines)) }
+/// The number at the place, in the range with both ends.
+fn number_at(matches: &ArgMatches, place: &str, least: u32, most: u32) -> Option<u32>
+    ensures some { IfSome result (λ n. (first_of place.now (rows_of (found_of matches.now)) ≡ Some (decimal n)) × (least ≤ n) × (n ≤ most)) }
+    ensures none { IfNone result ((n : ℕ) → first_of place.now (rows_of (found_of matches.now)) ≡ Some (decimal n) → least ≤ n → n ≤ most → ⊥) }
 {
-    let [start, seats, lines] = words else {
-        return None;
-    };
-    let Some(start) = number_in(start, 0, MOST_START) else {
-        return None;
-    };
-    let Some(seats) = number_in(seats, 1, u32::from(MOST_SEATS)) else {
-        return None;
-    };
-    let Some(lines) = number_in(lines, 0, MOST_MADE_LINES) else {
-        return None;
-    };
+    let word = matches.get_str(place)?;
+    number_in(word, least, most)
+}
+
+/// The making by the words at the three places, where each is a number in its range.
+fn making_in(matches: &ArgMatches) -> Option<Work>
+    ensures some { IfSome result (λ work. (form_word work ≡ codes "make") × FindsMaking (rows_of (found_of matches.now)) work) }
+    ensures none { IfNone result ((start seats lines : ℕ) → ¬ FindsMaking (rows_of (found_of matches.now)) (works.Make start seats lines)) }
+{
+    let start = number_at(matches, "start", 0, MOST_START)?;
+    let seats = number_at(matches, "seats", 1, u32::from(MOST_SEATS))?;
+    let lines = number_at(matches, "lines", 0, MOST_MADE_LINES)?;
     Some(Work::Make {
         start,
         seats: seats as u8,
@@ -113,22 +128,34 @@ fn make_of(words: &[&str]) -> Option<Work>
     })
 }
 
+/// The making of a script that the words behind the form's ask for.
+fn make_of<'a>(alloc: Global, words: &'a [&'a str]) -> Result<Option<Work>, Memory>
+    ensures some { IfOk result (λ found. IfSome found (λ work. (form_word work ≡ codes "make") × Completes (map (λ w. w.now) words.entry.now) work)) }
+    ensures none { IfOk result (λ found. IfNone found ((start seats lines : ℕ) → ¬ Completes (map (λ w. w.now) words.entry.now) (works.Make start seats lines))) }
+{
+    let command = make_command(alloc)?;
+    match matches_in(command, words)? {
+        Some(matches) => Ok(making_in(&matches)),
+        None => Ok(None),
+    }
+}
+
 impl Work {
-    /// The work that the words after the program's name ask for.
-    pub fn of(words: &[&str]) -> Option<Work>
-        ensures some { IfSome result (AskFor (map (λ w. w.now) words.now)) }
-        ensures none { IfNone result (¬ IsForm (map (λ w. w.now) words.now)) }
-        ensures range { IfSome result IsWork }
+    /// The work that the words after the program's name ask for: none, where they are no form.
+    pub fn of<'a>(alloc: Global, words: &'a [&'a str]) -> Result<Option<Work>, Memory>
+        ensures some { IfOk result (λ found. IfSome found (AskFor (map (λ w. w.now) words.entry.now))) }
+        ensures none { IfOk result (λ found. IfNone found (¬ IsForm (map (λ w. w.now) words.entry.now))) }
+        ensures range { IfOk result (λ found. IfSome found IsWork) }
     {
-        let Some((form, rest)) = first_word(words) else {
-            return None;
+        let Some((form, rest)) = words.split_first() else {
+            return Ok(None);
         };
-        match form {
-            "play" => play_of(rest),
-            "run" => run_of(rest),
-            "check" => check_of(rest),
-            "make" => make_of(rest),
-            _ => None,
+        match *form {
+            "play" => play_of(alloc, rest),
+            "run" => run_of(alloc, rest),
+            "check" => check_of(alloc, rest),
+            "make" => make_of(alloc, rest),
+            _ => Ok(None),
         }
     }
 

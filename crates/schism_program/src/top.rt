@@ -81,8 +81,10 @@ pub fn schism<S: Source, K: Sink, G: Gate, R: Threads + Wait + Sync>(
     ensures write_count { result ≢ Status.WriteFault → K.faults sink.new ≡ K.faults sink.old }
 {
     leave(closed, None);
-    let Some(work) = Work::of(words) else {
-        return Status::Usage;
+    let work = match Work::of(alloc, words) {
+        Ok(Some(work)) => work,
+        Ok(None) => return Status::Usage,
+        Err(_) => return Status::Memory,
     };
     let input = match read_input(alloc, work, source) {
         Ok(input) => input,

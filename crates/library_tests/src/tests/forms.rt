@@ -2,11 +2,12 @@
 
 use super::comparing::same;
 use form_words::{PaceName, Work};
-use std::alloc::{AllocError, Global};
+use heap_model::Memory;
+use std::alloc::Global;
 use std::test::Fail;
 
 /// Words that are no form, each with one space between two.
-const NO_FORMS: [&str; 44] = [
+const NO_FORMS: [&str; 49] = [
     "plays",
     "Check",
     "play extra",
@@ -42,6 +43,11 @@ const NO_FORMS: [&str; 44] = [
     "run --pace --locked steady",
     "run --pace debt",
     "run -- --locked",
+    "play -h",
+    "play --help",
+    "run --pace=steady",
+    "make -- 1 1 1",
+    "check --",
     "make",
     "make 7 4",
     "make 7 4 2000 1",
@@ -94,19 +100,20 @@ const MAKINGS: [(&str, u32, u8, u32); 2] = [
 ];
 
 /// The work that the words in the line ask for.
-fn asked(alloc: Global, line: &str) -> Result<Option<Work>, AllocError> {
+fn asked(alloc: Global, line: &str) -> Result<Option<Work>, Memory> {
     let words: Vec<&str> = line.split(' ').collect(alloc)?;
-    Ok(Work::of(&words))
+    Work::of(alloc, &words)
 }
 
 #[test]
 fn asks_for_nothing_by_other_words(rt: HostRuntime) -> Result<(), Fail> {
-    same(&rt, &Work::of(&[]), &None, &"no words");
+    let alloc = rt.alloc();
+    same(&rt, &Work::of(alloc, &[]), &Ok(None), &"no words");
     for words in SPACED {
-        same(&rt, &Work::of(words), &None, &words[0]);
+        same(&rt, &Work::of(alloc, words), &Ok(None), &words[0]);
     }
     for line in NO_FORMS {
-        same(&rt, &asked(rt.alloc(), line)?, &None, &line);
+        same(&rt, &asked(alloc, line), &Ok(None), &line);
     }
     Ok(())
 }
@@ -116,7 +123,7 @@ fn asks_for_the_work_of_a_form(rt: HostRuntime) -> Result<(), Fail> {
     let alloc = rt.alloc();
     for (line, pace, brief) in PLAYS {
         let work = Work::Play { pace, brief };
-        same(&rt, &asked(alloc, line)?, &Some(work), &line);
+        same(&rt, &asked(alloc, line), &Ok(Some(work)), &line);
         same(&rt, &work.most_bytes(), &Some(1_048_576), &line);
     }
     for (line, locked, patience) in RUNS {
@@ -125,7 +132,7 @@ fn asks_for_the_work_of_a_form(rt: HostRuntime) -> Result<(), Fail> {
             locked,
             patience,
         };
-        same(&rt, &asked(alloc, line)?, &Some(work), &line);
+        same(&rt, &asked(alloc, line), &Ok(Some(work)), &line);
         same(&rt, &work.most_bytes(), &Some(1_048_576), &line);
     }
     for (line, start, seats, lines) in MAKINGS {
@@ -134,11 +141,11 @@ fn asks_for_the_work_of_a_form(rt: HostRuntime) -> Result<(), Fail> {
             seats,
             lines,
         };
-        same(&rt, &asked(alloc, line)?, &Some(work), &line);
+        same(&rt, &asked(alloc, line), &Ok(Some(work)), &line);
         same(&rt, &work.most_bytes(), &None, &line);
     }
     let check = Work::Check;
-    same(&rt, &asked(alloc, "check")?, &Some(check), &"check");
+    same(&rt, &asked(alloc, "check"), &Ok(Some(check)), &"check");
     same(&rt, &check.most_bytes(), &Some(16_777_216), &"check");
     Ok(())
 }

@@ -1,14 +1,15 @@
-use Rattle.std.proofs.Common.{inl, inr, sym, ◌∙◌}
-use Rattle.form_words.specs.Settings.{no_settings}
-use Rattle.form_words.proofs.Forms.{none_play}
+use Rattle.std.proofs.Common.{◌≡◌, ℕ, Bor, List, map, refl, subst}
+use Rattle.clap.specs.Simple.{App}
+use Rattle.form_words.specs.Matched.{FindsSettings}
+use Rattle.form_words.proofs.FoundWorks.{no_play_found, play_completes}
 use Rattle.form_words.proofs.work.play_of.Goals as goal
-use Rattle.form_words.proofs.work.play_of.Goals.{then-settings-via-then-settings, then-settings-via-else-settings+then-is_some}
 
 pub returns-in_default-clause-none : goal.returns-in_default-clause-none
-returns-in_default-clause-none c = λ pace brief. c.in_default.ensures.none (record no_settings { pace = pace; brief = brief })
+returns-in_default-clause-none c =
+    let none = rw c.in_default.is at c.in_ok-settings.ensures.none in
+    no_play_found _ (λ all finds. none all (rw c.in_ok-command.ensures finds))
 
-pub returns-then-settings-clause-none : goal.returns-then-settings-clause-none
-returns-then-settings-clause-none c = none_play _ c.in-Some.settings c.in-Some.ensures.some (elim c.then-settings.branch [
-  | then-settings-via-then-settings w ↦ inl w.if-settings.true
-  | then-settings-via-else-settings+then-is_some w ↦ inr (sym w.is_some.ensures ∙ w.if-is_some.true)
-])
+pub returns-clause-some : goal.returns-clause-some
+returns-clause-some c =
+    let some = rw c.in-Some.is at c.in_ok-settings.ensures.some in
+    (refl, play_completes _ c.in-Some.settings (subst (λ (app : App). FindsSettings app (map (λ (w : Bor (List ℕ)). w.now) c.args.words.now) c.in-Some.settings) c.in_ok-command.ensures some))

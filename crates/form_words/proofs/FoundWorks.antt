@@ -1,0 +1,86 @@
+-- What the command of a form finds in words is the work that they ask for.
+use Rattle.std.proofs.Common.{◌≡◌, ℕ, Bool, true, false, List, [], ◌∷◌, Option, Some, None, decimal, unwrap_or, refl, sym, ap, ap₂, ◌∙◌, subst, arith, codes}
+use Rattle.std.specs.Prelude.{IfSome, IfNone}
+use Rattle.clap.specs.Walk.{Row, Text, first_of}
+use Rattle.clap.specs.Simple.{matches_of}
+use Rattle.clap.specs.Faults.{fault_of}
+use Rattle.form_words.specs.Commands.{check_app, make_app, play_app, run_app}
+use Rattle.form_words.specs.Joined.{are_apart}
+use Rattle.form_words.specs.Matched.{FindsMaking, FindsSettings, Takes}
+use Rattle.form_words.specs.declared.pace.PaceName.{PaceName}
+use Rattle.form_words.specs.declared.pace.PaceName.TheVariants.{Steady}
+use Rattle.form_words.specs.declared.setting.Settings.{Settings}
+use Rattle.form_words.specs.declared.work.Work.{Work}
+use Rattle.form_words.specs.declared.work.Work.TheVariants.{Play, Run, Check, Make}
+use Rattle.form_words.specs.Settings.{GiveSettings, no_settings}
+use Rattle.form_words.specs.Works.{Completes, MayBeMade, form_word, usual_patience}
+use Rattle.form_words.proofs.GivenSettings.{patience_within}
+use Rattle.form_words.proofs.MakingWords.{make_found, make_taken}
+use Rattle.form_words.proofs.OptionForms.{check_found, check_taken}
+use Rattle.form_words.proofs.SettingForms.{play_finds, play_given, run_finds, run_given}
+use Rattle.form_words.proofs.SettingRows.{number_loose}
+
+pub play_completes : (words : List Text) (all : Settings) → FindsSettings play_app words all → Completes words (Play all.pace all.brief)
+play_completes words all finds =
+    let play = play_given words all finds in
+    let same : all ≡ record no_settings { pace = all.pace; brief = all.brief } = λ i. record { pace = all.pace; brief = all.brief; locked = play.unlocked i; patience = play.impatient i } in
+    subst (GiveSettings no_settings words) same play.gives_all
+
+pub no_play_found : (words : List Text) → ((all : Settings) → ¬ FindsSettings play_app words all) → (pace : Option PaceName) (brief : Bool) → ¬ Completes words (Play pace brief)
+no_play_found words none pace brief gives = none _ (play_finds words (record no_settings { pace = pace; brief = brief }) refl refl tt gives)
+
+pub run_completes : (words : List Text) (all : Settings) → FindsSettings run_app words all → Completes words (Run (unwrap_or all.pace Steady) all.locked (unwrap_or all.patience usual_patience))
+run_completes words all finds =
+    let run = run_given words all finds in
+    (all, run.gives_all, record { pace_is = refl; locked_is = refl; patience_is = refl; not_brief = run.whole })
+
+pub no_run_found : (words : List Text) → ((all : Settings) → ¬ FindsSettings run_app words all) → (pace : PaceName) (locked : Bool) (patience : ℕ) → ¬ Completes words (Run pace locked patience)
+no_run_found words none pace locked patience (settings, gives, is) = none settings (run_finds words settings is.not_brief (patience_within words settings gives) gives)
+
+pub check_completes : (words : List Text) → Takes check_app words → words ≡ []
+check_completes words takes = check_found words takes.apart takes.faultless
+
+pub no_check_found : (words : List Text) → ¬ Takes check_app words → ¬ (words ≡ [])
+no_check_found words none is = none (subst (Takes check_app) (sym is) (record { apart = refl; faultless = check_taken }))
+
+same_text : (a : Text) (n : ℕ) → Some a ≡ Some (decimal n) → a ≡ decimal n
+same_text a n e = cc
+
+pub make_completes : (words : List Text) (work : Work) → Takes make_app words → FindsMaking (matches_of make_app words) work → Completes words work
+make_completes words (Make start seats lines) takes finds =
+    let three = make_found words takes.apart takes.faultless in
+    let found = subst (λ rows. FindsMaking rows (Make start seats lines)) three.is finds in
+    (found.0, three.are ∙ (λ i. same_text three.start start found.1 i ∷ same_text three.seats seats found.2 i ∷ same_text three.lines lines found.3 i ∷ []))
+make_completes words (Play pace brief) takes finds = absurd finds
+make_completes words (Run pace locked patience) takes finds = absurd finds
+make_completes words Check takes finds = absurd finds
+
+-- a making that words complete is found
+pub record IsMakingFound (words : List Text) (work : Work) : Type 0 where
+  pub takes : Takes make_app words
+  pub finds : FindsMaking (matches_of make_app words) work
+
+pub making_found : (words : List Text) (start seats lines : ℕ) → Completes words (Make start seats lines) → IsMakingFound words (Make start seats lines)
+making_found words start seats lines made =
+    let one = number_loose start (omega (arith, made.0.0)) in
+    let two = number_loose seats (omega (arith, made.0.1.1)) in
+    let three = number_loose lines (omega (arith, made.0.2)) in
+    let taken = make_taken (decimal start) (decimal seats) (decimal lines) one.0 two.0 three.0 in
+    let apart : are_apart (decimal start ∷ decimal seats ∷ decimal lines ∷ []) ≡ true = rw (one.1, two.1, three.1) refl in
+    subst (λ ws. IsMakingFound ws (Make start seats lines)) (sym made.1) (record {
+      takes = record { apart = apart; faultless = taken.0 };
+      finds = subst (λ rows. FindsMaking rows (Make start seats lines)) (sym taken.1) (made.0, refl, refl, refl);
+    })
+
+pub make_some : (words : List Text) (rows : List Row) (found : Option Work) → Takes make_app words → rows ≡ matches_of make_app words → IfSome found (λ work. (form_word work ≡ codes "make") × FindsMaking rows work)
+    → IfSome found (λ work. (form_word work ≡ codes "make") × Completes words work)
+make_some words rows None takes is some = tt
+make_some words rows (Some work) takes is some = (some.0, make_completes words work takes (subst (λ rs. FindsMaking rs work) is some.1))
+
+pub make_none : (words : List Text) (rows : List Row) (found : Option Work) → rows ≡ matches_of make_app words → IfNone found ((start seats lines : ℕ) → ¬ FindsMaking rows (Make start seats lines))
+    → IfNone found ((start seats lines : ℕ) → ¬ Completes words (Make start seats lines))
+make_none words rows None is none = λ start seats lines made. none start seats lines (subst (λ rs. FindsMaking rs (Make start seats lines)) (sym is) (making_found words start seats lines made).finds)
+make_none words rows (Some work) is none = tt
+
+pub no_make_found : (words : List Text) → ¬ Takes make_app words → (start seats lines : ℕ) → ¬ Completes words (Make start seats lines)
+no_make_found words none start seats lines made = none (making_found words start seats lines made).takes

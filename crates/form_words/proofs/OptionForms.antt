@@ -1,0 +1,158 @@
+-- What the commands of a play and of a run have of words.
+use Rattle.std.proofs.Common.{◌≡◌, ◌||◌, ℕ, Bool, true, false, List, [], ◌∷◌, Option, Some, None, refl, sym, ap, ap₂, ◌∙◌, subst, codes, cond}
+use Rattle.std.specs.List.{fold, flat_map}
+use Rattle.std.specs.Str.{bytes_eq}
+use Rattle.std.proofs.lemmas.Slice.Eq.{bytes_eq-Decides}
+use Rattle.clap.specs.Walk.{Held, Row, Rule, Text, arg_by_index, arg_by_short, default_rows, finished, has_row, nothing_held, reading_by, settled, walk, walk_from, with_default}
+use Rattle.clap.specs.Simple.{App, Shape, built, entered, matches_of, names_of}
+use Rattle.clap.specs.Kinds.{Kinds, or_else}
+use Rattle.clap.specs.Faults.{check_fault, default_fault, defaults_fault, entered_fault, fault_of, given_default_fault, settle_fault, walk_fault}
+use Rattle.form_words.specs.Commands.{check_app, play_app, run_app}
+use Rattle.form_words.specs.Joined.{are_apart}
+use Rattle.form_words.proofs.OptionSteps.{NameCase, held, or_else_parts, plain, plain_built, shape_with, unknown, valued, valued_built}
+use Rattle.form_words.proofs.OptionWalk.{AllSpelled, Ends, Given, Grows, Reads, end_of, given_words, goes, reads}
+
+-- the options of a play and of a run
+abbrev pub play_rules : List Rule
+play_rules = valued_built (codes "pace") ∷ plain_built (codes "brief") ∷ []
+
+abbrev pub run_rules : List Rule
+run_rules = valued_built (codes "pace") ∷ plain_built (codes "locked") ∷ valued_built (codes "patience") ∷ []
+
+pub play_cases : (name : Text) → NameCase play_rules name
+play_cases name = by (bytes_eq (codes "pace") name) refl (bytes_eq (codes "brief") name) refl where
+  by : (x : Bool) → bytes_eq (codes "pace") name ≡ x → (y : Bool) → bytes_eq (codes "brief") name ≡ y → NameCase play_rules name
+  by true is y is' = subst (NameCase play_rules) ((bytes_eq-Decides (codes "pace") name).0 is) (valued refl refl)
+  by false is true is' = subst (NameCase play_rules) ((bytes_eq-Decides (codes "brief") name).0 is') (plain refl)
+  by false is false is' = unknown (rw (is, is') refl)
+
+pub run_cases : (name : Text) → NameCase run_rules name
+run_cases name = by (bytes_eq (codes "pace") name) refl (bytes_eq (codes "locked") name) refl (bytes_eq (codes "patience") name) refl where
+  by : (x : Bool) → bytes_eq (codes "pace") name ≡ x → (y : Bool) → bytes_eq (codes "locked") name ≡ y → (z : Bool) → bytes_eq (codes "patience") name ≡ z → NameCase run_rules name
+  by true is y is' z is'' = subst (NameCase run_rules) ((bytes_eq-Decides (codes "pace") name).0 is) (valued refl refl)
+  by false is true is' z is'' = subst (NameCase run_rules) ((bytes_eq-Decides (codes "locked") name).0 is') (plain refl)
+  by false is false is' true is'' = subst (NameCase run_rules) ((bytes_eq-Decides (codes "patience") name).0 is'') (valued refl refl)
+  by false is false is' false is'' = unknown (rw (is, is', is'') refl)
+
+-- the defaults of options are no fault, and those of options with values are none
+valued_default : (name : Text) (rows : List Row) → (default_fault rows (valued_built name) ≡ []) × (with_default rows (valued_built name) ≡ rows)
+valued_default name rows = by (has_row name rows) where
+  by : (has : Bool) → (cond (has || true) [] (given_default_fault (valued_built name) []) ≡ []) × (cond has rows (default_rows name (reading_by (valued_built name)) [] rows) ≡ rows)
+  by true = (refl, refl)
+  by false = (refl, refl)
+
+plain_default : (name : Text) (rows : List Row) → default_fault rows (plain_built name) ≡ []
+plain_default name rows = by (has_row name rows) where
+  by : (has : Bool) → cond (has || false) [] (given_default_fault (plain_built name) (codes "false" ∷ [])) ≡ []
+  by true = refl
+  by false = refl
+
+-- a command with no subcommand enters none
+none_entered : (app : App) (stop : Option (Text × List Text)) → app.subs ≡ [] → (entered_fault app stop ≡ []) × (entered app stop ≡ None)
+none_entered app None none = (refl, refl)
+none_entered app (Some p) none = rw none (refl, refl)
+
+-- what the command finds: the rows of the options that words give, and the default of its one flag
+pub record IsFound (c : List Rule) (flag : Text) (words : List Text) (rows : List Row) : Type 0 where
+  pub after : List Row
+  pub reads : Reads c words [] after
+  pub is : rows ≡ with_default after (plain_built flag)
+
+-- what the command takes
+pub record IsTaken (app : App) (flag : Text) (words : List Text) (after : List Row) : Type 0 where
+  pub apart : are_apart words ≡ true
+  pub faultless : fault_of app words ≡ []
+  pub is : matches_of app words ≡ with_default after (plain_built flag)
+
+-- a built command of options alone, one of which is a flag
+pub record IsOptional (app : App) (form flag : Text) (c : List Rule) : Type 0 where
+  pub built_is : built app ≡ record { top = shape_with form c; subs = [] }
+  pub nameless : app.top.no_binary_name ≡ true
+  pub cases : (name : Text) → NameCase c name
+  pub no_short : (x : ℕ) → arg_by_short c x ≡ None
+  pub no_place : (i : ℕ) → arg_by_index c i ≡ None
+  pub defaults : (rows : List Row) → defaults_fault rows c ≡ []
+  pub checks : (rows : List Row) → check_fault (shape_with form c) rows false ≡ []
+  pub ends : (h : Held) → finished c h ≡ with_default (settled c h).rows (plain_built flag)
+
+-- the faults of a command with no subcommand, a part after another, and its matches
+module _ (app : App) (form : Text) (c : List Rule) (built_is : built app ≡ record { top = shape_with form c; subs = [] }) (nameless : app.top.no_binary_name ≡ true) where
+  pub fault_parts : (words : List Text) → let end : Held = (walk c [] nothing_held words).held in
+      fault_of app words ≡ or_else (walk_fault (shape_with form c) [] (walk_from nothing_held) words) (or_else (settle_fault c false end)
+          (or_else (defaults_fault (settled c end).rows c) (check_fault (shape_with form c) (finished c end) false)))
+  fault_parts words =
+      let entered_none = none_entered (record { top = shape_with form c; subs = [] }) (walk c [] nothing_held words).stopped refl in
+      rw (built_is, nameless, entered_none.0, entered_none.1) refl
+
+  pub rows_are : (words : List Text) → matches_of app words ≡ finished c (walk c [] nothing_held words).held
+  rows_are words = rw (built_is, nameless) refl
+
+module _ (app : App) (form flag : Text) (c : List Rule) (is : IsOptional app form flag c) where
+
+  pub found : (words : List Text) → are_apart words ≡ true → fault_of app words ≡ [] → IsFound c flag words (matches_of app words)
+  found words apart none =
+      let end = (walk c [] nothing_held words).held in
+      let first = or_else_parts (walk_fault (shape_with form c) [] (walk_from nothing_held) words) _ (sym (fault_parts app form c is.built_is is.nameless words) ∙ none) in
+      let second = or_else_parts (settle_fault c false end) _ first.1 in
+      let read = reads form c is.cases is.no_short is.no_place words [] None (record { apart = apart; faultless = first.0; settles_last = second.0 }) in
+      record { after = (settled c end).rows; reads = read.1; is = rows_are app form c is.built_is is.nameless words ∙ is.ends end }
+
+  pub taken : (given : List Given) (after : List Row) → AllSpelled given → Grows c [] given after → IsTaken app flag (flat_map given_words given) after
+  taken given after spelled grows =
+      let words = flat_map given_words given in
+      let end = (walk c [] nothing_held words).held in
+      let gone = goes form c is.cases is.no_short is.no_place given [] None after refl spelled grows in
+      record {
+        apart = gone.0.apart;
+        faultless = fault_parts app form c is.built_is is.nameless words ∙ ap₂ or_else gone.0.faultless (ap₂ or_else gone.0.settles_last (ap₂ or_else (is.defaults (settled c end).rows) (is.checks (finished c end))));
+        is = rows_are app form c is.built_is is.nameless words ∙ is.ends end ∙ ap (λ rows. with_default rows (plain_built flag)) gone.1;
+      }
+
+pub play_optional : IsOptional play_app (codes "play") (codes "brief") play_rules
+unfolding defaults_fault
+play_optional = record {
+  built_is = refl;
+  nameless = refl;
+  cases = play_cases;
+  no_short = λ x. refl;
+  no_place = λ i. refl;
+  defaults = λ rows. ap₂ or_else (valued_default (codes "pace") rows).0 (ap₂ or_else (plain_default (codes "brief") (with_default rows (valued_built (codes "pace")))) refl);
+  checks = λ rows. refl;
+  ends = λ h. ap (λ rows. with_default rows (plain_built (codes "brief"))) (valued_default (codes "pace") (settled play_rules h).rows).1;
+}
+
+pub run_optional : IsOptional run_app (codes "run") (codes "locked") run_rules
+unfolding defaults_fault
+run_optional = record {
+  built_is = refl;
+  nameless = refl;
+  cases = run_cases;
+  no_short = λ x. refl;
+  no_place = λ i. refl;
+  defaults = λ rows.
+      let first = with_default rows (valued_built (codes "pace")) in
+      let second = with_default first (plain_built (codes "locked")) in
+      ap₂ or_else (valued_default (codes "pace") rows).0 (ap₂ or_else (plain_default (codes "locked") first) (ap₂ or_else (valued_default (codes "patience") second).0 refl));
+  checks = λ rows. refl;
+  ends = λ h.
+      let rows = (settled run_rules h).rows in
+      (valued_default (codes "patience") (with_default (with_default rows (valued_built (codes "pace"))) (plain_built (codes "locked")))).1
+      ∙ ap (λ rs. with_default rs (plain_built (codes "locked"))) (valued_default (codes "pace") rows).1;
+}
+
+-- a check's command takes no word
+pub check_found : (words : List Text) → are_apart words ≡ true → fault_of check_app words ≡ [] → words ≡ []
+check_found words apart none =
+    let end = (walk [] [] nothing_held words).held in
+    let first = or_else_parts (walk_fault (shape_with (codes "check") []) [] (walk_from nothing_held) words) _ (sym (fault_parts check_app (codes "check") [] refl refl words) ∙ none) in
+    let second = or_else_parts (settle_fault [] false end) _ first.1 in
+    let read = reads (codes "check") [] (λ name. unknown refl) (λ x. refl) (λ i. refl) words [] None (record { apart = apart; faultless = first.0; settles_last = second.0 }) in
+    by words read.1.given (settled [] end).rows read.1.spelled read.1.grows where
+  by : (words : List Text) (given : List Given) (after : List Row) → words ≡ flat_map given_words given → Grows [] [] given after → words ≡ []
+  by words [] after spelled grows = spelled
+  by words ((name, None) ∷ more) after spelled grows = let bad = grows.0 in cc
+  by words ((name, Some value) ∷ more) after spelled grows = let bad = grows.0.0 in cc
+
+pub check_taken : fault_of check_app [] ≡ []
+unfolding walk_fault defaults_fault
+check_taken = refl
