@@ -1,10 +1,21 @@
-//! The first script, cut at every length: it is played where the cut is at the end of a line, and refused elsewhere.
+//! The first script and the history of its play, cut at every length: each is done where its lines are whole, and else refused by its first fault.
 
-use super::comparing::holds;
-use super::{FIRST, FIRST_PLAYED, ended};
+use super::comparing::{holds, tells};
+use super::{FIRST, FIRST_PLAYED, ended, refused};
 use crate::status::Status;
+use script_text::Cause;
+use std::alloc::Global;
 use std::process::Abort;
+use std::sync::Wait;
 use std::test::Fail;
+use std::thread::Threads;
+
+/// What comes of a text that is cut: this line is refused, or so much of the first play is written, and then this.
+#[derive(Clone, Copy)]
+enum Cut {
+    Refused(u32, Cause),
+    Done(usize, &'static str),
+}
 
 // The end of each play in which the first group was claimed for one fragment: a last cycle frees that and the board's eleven.
 const ONE_MADE: &str =
@@ -14,64 +25,105 @@ const ONE_MADE: &str =
 const NONE_MADE: &str =
     "space used 11 of 16 spine 0 of 0\n0 leave = ok\nc phase 1\nc phase 2\nc phase 3\nc phase 4\nc phase 5\nc frees 11\nc phase 6\nc ends 0 kept 0\nend used 0\n";
 
-// Where the first script is whole, cut to this length: how much of its play comes before the space line, and what follows.
-fn front_played(cut: usize) -> Option<(usize, &'static str)> {
+/// What a play of the first script comes to that is cut below this length, and not below the one before. A seat's line needs its command first, and
+/// then its numbers; without its last line feed it is whole.
+const SCRIPT_CUTS: [(usize, Cut); 15] = [
+    (8, Cut::Refused(1, Cause::NoHeader)),
+    (19, Cut::Refused(2, Cause::BadHeap)),
+    (21, Cut::Done(26, NONE_MADE)),
+    (25, Cut::Refused(3, Cause::NoCommand)),
+    (29, Cut::Refused(3, Cause::BadNumber)),
+    (31, Cut::Done(52, ONE_MADE)),
+    (35, Cut::Refused(4, Cause::NoCommand)),
+    (39, Cut::Refused(4, Cause::BadNumber)),
+    (41, Cut::Done(67, ONE_MADE)),
+    (45, Cut::Refused(5, Cause::NoCommand)),
+    (51, Cut::Refused(5, Cause::BadNumber)),
+    (53, Cut::Done(87, ONE_MADE)),
+    (57, Cut::Refused(6, Cause::NoCommand)),
+    (63, Cut::Refused(6, Cause::BadNumber)),
+    (65, Cut::Done(117, ONE_MADE)),
+];
+
+/// The same of a check of the first play. A line that is whole isn't followed by the end line, but for the last; `c frees 1` is whole too.
+const HISTORY_CUTS: [(usize, Cut); 37] = [
+    (14, Cut::Refused(1, Cause::NoHeader)),
+    (25, Cut::Refused(2, Cause::BadHeap)),
+    (27, Cut::Refused(3, Cause::NoEnd)),
+    (35, Cut::Refused(3, Cause::BadEntry)),
+    (37, Cut::Refused(4, Cause::NoEnd)),
+    (51, Cut::Refused(4, Cause::BadEntry)),
+    (53, Cut::Refused(5, Cause::NoEnd)),
+    (66, Cut::Refused(5, Cause::BadEntry)),
+    (68, Cut::Refused(6, Cause::NoEnd)),
+    (86, Cut::Refused(6, Cause::BadEntry)),
+    (88, Cut::Refused(7, Cause::NoEnd)),
+    (116, Cut::Refused(7, Cause::BadEntry)),
+    (118, Cut::Refused(8, Cause::NoEnd)),
+    (149, Cut::Refused(8, Cause::BadEntry)),
+    (151, Cut::Refused(9, Cause::NoEnd)),
+    (164, Cut::Refused(9, Cause::BadEntry)),
+    (166, Cut::Refused(10, Cause::NoEnd)),
+    (177, Cut::Refused(10, Cause::BadEntry)),
+    (179, Cut::Refused(11, Cause::NoEnd)),
+    (187, Cut::Refused(11, Cause::BadEntry)),
+    (189, Cut::Refused(12, Cause::NoEnd)),
+    (197, Cut::Refused(12, Cause::BadEntry)),
+    (199, Cut::Refused(13, Cause::NoEnd)),
+    (207, Cut::Refused(13, Cause::BadEntry)),
+    (209, Cut::Refused(14, Cause::NoEnd)),
+    (217, Cut::Refused(14, Cause::BadEntry)),
+    (219, Cut::Refused(15, Cause::NoEnd)),
+    (227, Cut::Refused(15, Cause::BadEntry)),
+    (229, Cut::Refused(16, Cause::NoEnd)),
+    (237, Cut::Refused(16, Cause::BadEntry)),
+    (240, Cut::Refused(17, Cause::NoEnd)),
+    (248, Cut::Refused(17, Cause::BadEntry)),
+    (250, Cut::Refused(18, Cause::NoEnd)),
+    (264, Cut::Refused(18, Cause::BadEntry)),
+    (266, Cut::Refused(19, Cause::NoEnd)),
+    (275, Cut::Refused(19, Cause::BadEntry)),
+    (277, Cut::Done(0, "legal 15\n")),
+];
+
+/// The status of a cut, and what is written.
+fn told_of(alloc: Global, cut: Cut) -> Result<(Status, Vec<u8>), Fail> {
     match cut {
-        19 | 20 => Some((26, NONE_MADE)),
-        29 | 30 => Some((52, ONE_MADE)),
-        39 | 40 => Some((67, ONE_MADE)),
-        51 | 52 => Some((87, ONE_MADE)),
-        63 | 64 => Some((117, ONE_MADE)),
-        _ => None,
+        Cut::Refused(line, cause) => Ok((refused(line, cause), Vec::new(alloc))),
+        Cut::Done(front, last) => {
+            let before = FIRST_PLAYED.as_bytes().get(..front).ok_or("a front")?;
+            let mut written = Vec::from_slice(alloc, before)?;
+            written.extend_from_slice(last.as_bytes())?;
+            Ok((Status::Done, written))
+        }
     }
 }
 
-// The line that is faulty in the first script, cut to this length.
-fn faulty_line(cut: usize) -> Option<u32> {
-    match cut {
-        0..8 => Some(1),
-        8..19 => Some(2),
-        21..29 => Some(3),
-        31..39 => Some(4),
-        41..51 => Some(5),
-        53..63 => Some(6),
-        _ => None,
+/// Compares what the word makes of the text with the table, at every length up to the whole.
+fn ends_at_each_cut(
+    rt: &(impl Abort + Threads + Wait + Sync),
+    alloc: Global,
+    word: &str,
+    text: &str,
+    cuts: &[(usize, Cut)],
+) -> Result<(), Fail> {
+    let mut next = 0;
+    for &(below, cut) in cuts {
+        let (status, written) = told_of(alloc, cut)?;
+        for length in next..below {
+            let front = text.as_bytes().get(..length).ok_or("a front")?;
+            let told = ended(rt, alloc, &[word], front, &[], &[])?;
+            tells(rt, &told, status, &written, &length);
+        }
+        next = below;
     }
-}
-
-// The line that a status refuses.
-fn refused_line(status: Status) -> Option<u32> {
-    match status {
-        Status::Refused { line, .. } => Some(line),
-        _ => None,
-    }
-}
-
-// What is written of a script that is cut there: a front of the whole play, and its own end.
-fn is_front_played(rt: &impl Abort, taken: &[u8], front: usize, last: &str, cut: usize) {
-    holds(rt, front <= taken.len(), &cut);
-    let (before, behind) = taken.split_at(front);
-    holds(rt, FIRST_PLAYED.as_bytes().starts_with(before), &cut);
-    holds(rt, behind == last.as_bytes(), &cut);
+    holds(rt, next > text.len(), &word);
+    Ok(())
 }
 
 #[test]
-fn plays_the_first_script_cut_at_the_end_of_a_line(rt: HostRuntime) -> Result<(), Fail> {
-    holds(&rt, FIRST.len() == 64, &"the first script");
-    for cut in 0..65 {
-        let text = FIRST.as_bytes().get(..cut).expect(&rt, "a front of it");
-        let (end, taken) = ended(&rt, rt.alloc(), &["play"], text, &[], &[])?;
-        holds(&rt, refused_line(end) == faulty_line(cut), &cut);
-        match front_played(cut) {
-            Some((front, last)) => {
-                holds(&rt, end == Status::Done, &cut);
-                is_front_played(&rt, &taken, front, last, cut);
-            }
-            None => {
-                holds(&rt, refused_line(end).is_some(), &cut);
-                holds(&rt, taken.is_empty(), &cut);
-            }
-        }
-    }
-    Ok(())
+fn ends_by_the_first_fault_of_a_cut(rt: HostRuntime) -> Result<(), Fail> {
+    let alloc = rt.alloc();
+    ends_at_each_cut(&rt, alloc, "play", FIRST, &SCRIPT_CUTS)?;
+    ends_at_each_cut(&rt, alloc, "check", FIRST_PLAYED, &HISTORY_CUTS)
 }
