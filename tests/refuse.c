@@ -11,6 +11,8 @@
 #include <stdint.h>
 #include <stdio.h>
 #include <stdlib.h>
+#include <sys/syscall.h>
+#include <unistd.h>
 
 extern void *__libc_malloc(size_t);
 extern void *__libc_calloc(size_t, size_t);
@@ -43,6 +45,14 @@ __attribute__((constructor)) static void begin(void) {
 
 __attribute__((destructor)) static void tell(void) {
     dprintf(3, "%ld %ld\n", atomic_load(&asked), atomic_load(&held));
+}
+
+/* A program that ends by this call runs no destructor. */
+void _exit(int status) {
+    tell();
+    for (;;) {
+        syscall(SYS_exit_group, status);
+    }
 }
 
 static int refuses(void) {
