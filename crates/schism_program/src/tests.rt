@@ -44,20 +44,7 @@ fn illegal(line: u32) -> Status {
     Status::NotLegal { line }
 }
 
-// What comes of the words. The contract of the call is large, so that each place which makes it is dear to prove: this is the only one.
-fn status_at<S: Source, K: Sink, G: Gate>(
-    rt: &(impl Threads + Wait + Sync),
-    alloc: Global,
-    words: &[&str],
-    source: &mut S,
-    sink: &mut K,
-    gate: &G,
-    paces: Paces,
-) -> Status {
-    ended_with(rt, alloc, words, source, sink, gate, paces, &mut None)
-}
-
-// The same, with the table that is left.
+// What comes of the words, and the table that is left. The contract of the call is large, so that each place which makes it is dear to prove: this is the only one.
 fn ended_with<S: Source, K: Sink, G: Gate>(
     rt: &(impl Threads + Wait + Sync),
     alloc: Global,
@@ -88,7 +75,7 @@ fn status_of<S: Source, K: Sink, G: Gate>(
     gate: &G,
 ) -> Result<Status, AllocError> {
     let paces = steady(alloc)?;
-    Ok(status_at(rt, alloc, words, source, sink, gate, paces))
+    Ok(ended_with(rt, alloc, words, source, sink, gate, paces, &mut None))
 }
 
 // What comes of it, and what was written; reads give 5 bytes a call and writes take 8.
@@ -120,7 +107,16 @@ fn told_at<G: Gate>(
     let words: Vec<&str> = line.split(' ').collect(alloc)?;
     let mut source = NeverSource::new(Vec::from_slice(alloc, text)?);
     let mut sink = NeverSink::new(Vec::with_capacity(alloc, 262_144)?);
-    let status = status_at(rt, alloc, &words, &mut source, &mut sink, gate, paces);
+    let status = ended_with(
+        rt,
+        alloc,
+        &words,
+        &mut source,
+        &mut sink,
+        gate,
+        paces,
+        &mut None,
+    );
     Ok((status, Vec::from_slice(alloc, sink.bytes().unwrap_or(&[]))?))
 }
 

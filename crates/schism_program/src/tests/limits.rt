@@ -1,7 +1,8 @@
-//! How much is read of a script and of a history.
+//! How much is read of a script and of a history, and the largest heap.
 
 use super::comparing::{holds, tells};
-use super::{ended, refused, status_of};
+use super::several_seats::plays;
+use super::{ended, refused, status_of, told};
 use crate::status::Status;
 use heap_model::OpenGate;
 use io_edge::{MemSink, MemSource};
@@ -36,4 +37,27 @@ fn reads_no_more_of_a_history_than_the_limit(rt: HostRuntime) -> Result<(), Fail
         holds(&rt, end == status, &count);
     }
     Ok(())
+}
+
+// Two lines and 65,535 are one too many.
+#[test]
+fn reads_no_more_lines_of_a_script_than_the_limit(rt: HostRuntime) -> Result<(), Fail> {
+    let mut text = Vec::from_slice(rt.alloc(), b"schism 1\nheap 1 0 1\n")?;
+    for _ in 0..65_535 {
+        text.extend_from_slice(b"0 poll\n")?;
+    }
+    for line in ["play", "run"] {
+        let told = told(&rt, rt.alloc(), line, &text, &OpenGate)?;
+        tells(&rt, &told, refused(65_537, Cause::TooManyLines), b"", &line);
+    }
+    Ok(())
+}
+
+// 4,096 groups of sixteen fragments, of which the board has eleven, 16,384 spine words and sixteen seats. There are 16 leaves, 6 phases, a free and an end.
+#[test]
+fn plays_on_the_largest_heap(rt: HostRuntime) -> Result<(), Fail> {
+    let history =
+        "history 1 play; heap 4096 16384 16; space used 11 of 65536 spine 0 of 16384; 0 leave = ok; 1 leave = ok; 2 leave = ok; 3 leave = ok; 4 leave = ok; 5 leave = ok; 6 leave = ok; 7 leave = ok; 8 leave = ok; 9 leave = ok; 10 leave = ok; 11 leave = ok; 12 leave = ok; 13 leave = ok; 14 leave = ok; 15 leave = ok; c phase 1; c phase 2; c phase 3; c phase 4; c phase 5; c frees 11; c phase 6; c ends 0 kept 0; end used 0";
+    let script = "schism 1; heap 4096 16384 16";
+    plays(&rt, rt.alloc(), &[(script, history, "legal 24")])
 }

@@ -24,7 +24,7 @@ use std::thread::Threads;
 /// The words of a run: on a table that the seats share, and behind one lock.
 const RUNS: [&str; 2] = ["run", "run --locked"];
 
-/// What a run of the script tells, which is legal. Lines stand with "; " between them.
+/// What a run of the script tells, which is done and legal. Lines stand with "; " between them.
 fn ran<G: Gate>(
     rt: &(impl Abort + Threads + Wait + Sync),
     alloc: Global,
@@ -117,10 +117,11 @@ fn collects_alone(rt: HostRuntime) -> Result<(), Fail> {
 // Seat 1 begins nothing before the collect of seat 0 is answered, so it is found behind the first phase however often the patience asks.
 #[test]
 fn waits_for_a_seat_that_never_polls(rt: HostRuntime) -> Result<(), Fail> {
-    let script = "schism 1; heap 1 0 2; 0 collect; 0 poll; 1 nil 1";
+    let script = "schism 1; heap 1 0 2; 0 collect; 0 poll; 1 poll";
     for line in [
         "run --patience 3",
-        "run --patience 7 --locked",
+        "run --patience 3 --locked",
+        "run",
         "run --locked",
     ] {
         let gate = OneAfterTheOther::new();

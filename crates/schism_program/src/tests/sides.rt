@@ -1,51 +1,62 @@
 //! Which side failed, where a read or a write does, and what comes where none fails.
 
 use super::comparing::{holds, tells};
-use super::{FIRST, FIRST_PLAYED, ended, refused, status_of};
+use super::{FIRST, FIRST_PLAYED, refused, status_of};
 use crate::status::Status;
 use heap_model::OpenGate;
-use io_edge::{NeverSink, NeverSource};
+use io_edge::{MemSink, MemSource, NeverSink, NeverSource};
 use script_text::Cause;
+use std::alloc::{AllocError, Global};
+use std::process::Abort;
+use std::sync::Wait;
 use std::test::Fail;
+use std::thread::Threads;
+
+/// What comes of the word and the text where each call of a side moves one byte, and the calls of these numbers fail, one of each side; and what was written.
+fn ended_by_bytes(
+    rt: &(impl Threads + Wait + Sync),
+    alloc: Global,
+    word: &str,
+    text: &str,
+    read: usize,
+    write: usize,
+) -> Result<(Status, Vec<u8>), AllocError> {
+    let text = Vec::from_slice(alloc, text.as_bytes())?;
+    let mut source = MemSource::new(text, 1, vec![in alloc; read as u64; 1]?);
+    let room = Vec::with_capacity(alloc, 512)?;
+    let mut sink = MemSink::new(room, 1, vec![in alloc; write as u64; 1]?);
+    let status = status_of(rt, alloc, &[word], &mut source, &mut sink, &OpenGate)?;
+    Ok((status, Vec::from_slice(alloc, sink.bytes())?))
+}
+
+/// Lets each call of the word fail in turn, by which it reads the text or writes this; the read that finds the text's end is one of them.
+fn fails_at_each_call(
+    rt: &(impl Abort + Threads + Wait + Sync),
+    alloc: Global,
+    word: &str,
+    text: &str,
+    wanted: &str,
+) -> Result<(), Fail> {
+    let (reads, writes) = (text.len(), wanted.len());
+    for read in 0..=reads {
+        let told = ended_by_bytes(rt, alloc, word, text, read, usize::MAX)?;
+        tells(rt, &told, Status::ReadFault, b"", &read);
+    }
+    for write in 0..writes {
+        let told = ended_by_bytes(rt, alloc, word, text, usize::MAX, write)?;
+        let front = wanted.as_bytes().get(..write).ok_or("a front")?;
+        tells(rt, &told, Status::WriteFault, front, &write);
+    }
+    let told = ended_by_bytes(rt, alloc, word, text, reads + 1, writes)?;
+    tells(rt, &told, Status::Done, wanted.as_bytes(), &word);
+    Ok(())
+}
 
 #[test]
 fn says_which_side_failed(rt: HostRuntime) -> Result<(), Fail> {
     let alloc = rt.alloc();
-    for (read, write, status, front) in [
-        (0, 99, Status::ReadFault, 0),
-        (5, 99, Status::ReadFault, 0),
-        (13, 99, Status::ReadFault, 0),
-        (14, 0, Status::WriteFault, 0),
-        (14, 1, Status::WriteFault, 8),
-        (14, 34, Status::WriteFault, 272),
-        (14, 35, Status::Done, 276),
-    ] {
-        let text = FIRST.as_bytes();
-        let told = ended(&rt, alloc, &["play"], text, &[read], &[write])?;
-        let at = format!(in alloc; "read {read}, write {write}")?;
-        let written = FIRST_PLAYED.as_bytes().get(..front).ok_or("a front")?;
-        tells(&rt, &told, status, written, &at);
-    }
-    Ok(())
-}
-
-// The history of the first script's play is read in 57 calls, and what is found is written in two.
-#[test]
-fn says_which_side_failed_in_a_check(rt: HostRuntime) -> Result<(), Fail> {
-    let alloc = rt.alloc();
-    let text = FIRST_PLAYED.as_bytes();
-    for (read, write, status, front) in [
-        (0, 99, Status::ReadFault, ""),
-        (56, 99, Status::ReadFault, ""),
-        (57, 0, Status::WriteFault, ""),
-        (57, 1, Status::WriteFault, "legal 15"),
-        (57, 2, Status::Done, "legal 15\n"),
-    ] {
-        let told = ended(&rt, alloc, &["check"], text, &[read], &[write])?;
-        let at = format!(in alloc; "read {read}, write {write}")?;
-        tells(&rt, &told, status, front.as_bytes(), &at);
-    }
-    Ok(())
+    fails_at_each_call(&rt, alloc, "play", FIRST, FIRST_PLAYED)?;
+    fails_at_each_call(&rt, alloc, "check", FIRST_PLAYED, "legal 15\n")
 }
 
 // What is told of the text, where there is room for so many bytes of it.

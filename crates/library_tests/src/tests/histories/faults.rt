@@ -73,11 +73,12 @@ fn faults(rt: HostRuntime) {
 fn most_lines(rt: HostRuntime) -> Result<(), Fail> {
     let mut text = Vec::from_slice(rt.alloc(), b"history 1 run\nheap 1 0 1\n")?;
     for _ in 0..3_999_996 {
-        text.extend_from_slice(b"c frees 1\n")?;
+        text.extend_from_slice(b"c phase 1\n")?;
     }
     for (tail, cause) in [
-        ("c frees 1\nend used 0\n", Cause::HistoryLines),
-        ("c frees 1\nc frees 01\n", Cause::BadEntry),
+        ("c phase 1\nc phase 1\n", Cause::HistoryLines),
+        ("c phase 1\nend used 0\n", Cause::HistoryLines),
+        ("c phase 1\nc phase 01\n", Cause::BadEntry),
     ] {
         let len = text.len();
         text.extend_from_slice(tail.as_bytes())?;
