@@ -5,7 +5,7 @@ from typing import NamedTuple
 
 from .history import BOARD, Did
 from .script import COLLECTOR
-from .table import (BORN, FIRST_ANSWER, FIXED, GRANTED, LEFT, MARKED, PHASE, REFERENCE, SCANNED, SEAT_WORDS, SPOT,
+from .table import (BORN, FIRST_ANSWER, FIXED, GRANTED, LEFT, MARKED, PHASE, REFERENCE, SCANNED, SPOT,
                     TAKEN, Table, bits_of, cell, is_array_meta, is_meta, kind_of, spine_length, stamp_of, value_of)
 
 
@@ -50,7 +50,7 @@ class Collector:
         work = {3: self.marks, 4: self.copies, 5: self.sweeps}
         while True:
             phase = self.table.words[PHASE]
-            for seat in range(SEAT_WORDS):
+            for seat in range(self.table.heap.seats):
                 yield from self.looks(seat, phase)
             if phase % 7 == 6:
                 yield from self.clears(phase)
@@ -148,20 +148,21 @@ class Collector:
         spot = self.table.load(fragment, 2)
         yield None
         if value_of(spot) == left_half:
-            yield from self.copies_spine(fragment, spine_length(meta), id_of(name), stamp_of(spot))
+            copy = yield from self.copies_spine(spot, spine_length(meta))
+            self.table.words[self.table.place(fragment, 2)] = copy
+            self.did("swings", id_of(name))
+            yield None
 
-    def copies_spine(self, fragment: int, length: int, name: str, offset: int) -> Iterator[Turn]:
-        old_half = 1 - value_of(self.table.words[SPOT])
-        half, copy = self.table.take_spot(length)
+    def copies_spine(self, spot: int, length: int) -> Iterator[Turn]:
+        """Copies the spine at this spot to the other half, and tells the copy's spot."""
+        half, offset = self.table.take_spot(length)
         yield None
         for i in range(length):
-            loaded = self.table.load_spine(old_half, offset + i)
+            loaded = self.table.load_spine(value_of(spot), stamp_of(spot) + i)
             yield None
-            self.table.store_spine(half, copy + i, loaded)
+            self.table.store_spine(half, offset + i, loaded)
             yield None
-        self.table.words[self.table.place(fragment, 2)] = cell(FIXED, half, copy)
-        self.did("swings", name)
-        yield None
+        return cell(FIXED, half, offset)
 
     # Sweeping and clearing.
 
