@@ -1,7 +1,7 @@
 """The account: sums over the entries of a play, and the ten rules of space and phases."""
 
+from .entries import LEAVE, Did, Space, Told
 from .graph import Graph, fragments_of_array, fragments_of_record, words_of_spine
-from .history import LEAVE, Did, Space, Told
 from .script import COLLECTOR, Command, Heap
 
 BOARD_FRAGMENTS = 11

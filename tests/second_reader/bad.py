@@ -109,8 +109,8 @@ def long_numbers() -> list[tuple[list[str], bytes]]:
         cases.append((["play"], b"schism 1\nheap 1 0 1\n" + line % LONG + b"\n"))
     cases.append((["play"], b"schism 1\nheap " + LONG + b" 0 1\n"))
     cases.append((["check"], b"history 1 play\nheap 1 " + LONG + b" 1\n"))
-    for line in (b"0 num 1 %s = ok", b"%s poll = 0", b"0 poll = %s", b"0 new 1 2 = 0.%s", b"0 get 1 0 0 = number %s at -",
-                 b"0 get 1 0 0 = nil at 0:%s", b"0 takes %s", b"c phase %s", b"c frees %s", b"c ends %s kept 0",
+    for line in (b"0 num 1 %s = ok", b"%s poll = 0", b"0 poll = %s", b"0 new 1 2 = 0.%s", b"0 new 1 2 = %s.0",
+                 b"0 get 1 0 0 = number %s at -", b"0 get 1 0 0 = nil at 0:%s", b"0 takes %s", b"c phase %s", b"c frees %s", b"c ends %s kept 0",
                  b"space used %s of 16 spine 0 of 0", b"end used %s"):
         cases.append((["check"], b"history 1 play\nheap 1 0 1\n" + line % LONG + b"\n"))
     return cases

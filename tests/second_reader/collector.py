@@ -3,7 +3,7 @@
 from collections.abc import Callable, Iterator
 from typing import NamedTuple
 
-from .history import BOARD, Did
+from .entries import BOARD, Did
 from .script import COLLECTOR
 from .table import (BORN, FIRST_ANSWER, FIXED, GRANTED, LEFT, MARKED, PHASE, REFERENCE, SCANNED, SPOT,
                     TAKEN, Table, bits_of, cell, is_array_meta, is_meta, kind_of, spine_length, stamp_of, value_of)

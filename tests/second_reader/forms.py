@@ -9,7 +9,7 @@ from .texts import LONGEST_SCRIPT, Answer, Refused, done, number_of, refused, te
 MOST_PATIENCE = 1_000_000
 
 
-def number_within(word: str, least: int, largest: int) -> bool:
+def is_number_within(word: str, least: int, largest: int) -> bool:
     number = number_of(word.encode(), SCRIPT_DIGITS)
     return number is not None and least <= number <= largest
 
@@ -23,7 +23,7 @@ def options_of(words: list[str], allowed: tuple[str, ...]) -> set[str] | None:
             return None
         if word == "--pace" and next(left, None) != "steady":
             return None
-        if word == "--patience" and not number_within(next(left, ""), 1, MOST_PATIENCE):
+        if word == "--patience" and not is_number_within(next(left, ""), 1, MOST_PATIENCE):
             return None
         found.add(word)
     return found
@@ -31,7 +31,7 @@ def options_of(words: list[str], allowed: tuple[str, ...]) -> set[str] | None:
 
 def answer_make(words: list[str]) -> Answer:
     limits = ((0, MOST_START), (1, MOST_SEATS), (0, MOST_MADE))
-    if len(words) != 3 or not all(number_within(word, *limit) for word, limit in zip(words, limits)):
+    if len(words) != 3 or not all(is_number_within(word, *limit) for word, limit in zip(words, limits)):
         return usage()
     return done(text_of(make(*(int(word) for word in words)).lines()))
 

@@ -1,6 +1,6 @@
 """The growing graph: objects that are kept for ever, and what the registers hold."""
 
-from .history import BOARD, LEAVE, UNSET, Reply
+from .entries import BOARD, LEAVE, UNSET, Reply
 from .script import Command, Heap
 
 Value = tuple

@@ -4,7 +4,7 @@ from random import Random
 
 from .account import fragments_needed, spine_words_needed
 from .drawn import Drawer, draw_heap
-from .history import LEAVE, Did, End, Entry, History, Reply, Space, Told
+from .entries import LEAVE, Did, End, Entry, History, Reply, Space, Told
 from .judge import Judge
 from .script import COLLECTOR, Command, Heap
 

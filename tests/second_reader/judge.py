@@ -1,8 +1,9 @@
 """`check`: a history is legal, or this is its first line that isn't."""
 
 from .account import Account, Sums
+from .entries import Did, End, History, Space, Told
 from .graph import Graph
-from .history import Did, End, History, Space, Told, read_history
+from .history import read_history
 from .script import COLLECTOR
 from .texts import LONGEST_HISTORY, Answer, NotLegal, Refused, done, not_legal, refused, too_long
 

@@ -1,7 +1,7 @@
 """Plays: the history of a script whose lines are answered in their order, and its brief."""
 
 from .collector import Collector, Ended, Waits
-from .history import LEAVE, REFUSALS, Did, End, Entry, History, Reply, Space, Told
+from .entries import LEAVE, REFUSALS, Did, End, Entry, History, Reply, Space, Told
 from .script import COLLECTOR, Command, Heap, Script, read_script
 from .seat import Seat
 from .table import GRANTED, PHASE, Table

@@ -3,7 +3,7 @@
 from collections.abc import Callable
 
 from .collector import id_of
-from .history import LEAVE, Did, Reply
+from .entries import LEAVE, Did, Reply
 from .table import (BORN, FIRST_ANSWER, FIXED, GRANTED, LEFT, MARKED, NIL, NUMBER, PHASE, REFERENCE, SCANNED, TAKEN,
                     Table, array_meta, cell, is_array_meta, kind_of, length_of, masks_of, stamp_of,
                     unstamped, value_of)
