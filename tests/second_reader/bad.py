@@ -102,17 +102,17 @@ def long_texts() -> list[tuple[list[str], bytes]]:
     ]
 
 
+SCRIPT_LINES = (b"%s poll", b"0 num 1 %s", b"0 num %s 1", b"0 get 1 %s 1", b"0 poll %s", b"c turns %s")
+HISTORY_LINES = (b"0 num 1 %s = ok", b"%s poll = 0", b"0 poll = %s", b"0 new 1 2 = 0.%s", b"0 new 1 2 = %s.0",
+                 b"0 get 1 0 0 = number %s at -", b"0 get 1 0 0 = nil at 0:%s", b"0 takes %s", b"c phase %s",
+                 b"c frees %s", b"c ends %s kept 0", b"space used %s of 16 spine 0 of 0", b"end used %s")
+
+
 def long_numbers() -> list[tuple[list[str], bytes]]:
     """Numbers of 40 digits in each place of a line."""
-    cases = []
-    for line in (b"%s poll", b"0 num 1 %s", b"0 num %s 1", b"0 get 1 %s 1", b"0 poll %s", b"c turns %s"):
-        cases.append((["play"], b"schism 1\nheap 1 0 1\n" + line % LONG + b"\n"))
-    cases.append((["play"], b"schism 1\nheap " + LONG + b" 0 1\n"))
-    cases.append((["check"], b"history 1 play\nheap 1 " + LONG + b" 1\n"))
-    for line in (b"0 num 1 %s = ok", b"%s poll = 0", b"0 poll = %s", b"0 new 1 2 = 0.%s", b"0 new 1 2 = %s.0",
-                 b"0 get 1 0 0 = number %s at -", b"0 get 1 0 0 = nil at 0:%s", b"0 takes %s", b"c phase %s", b"c frees %s", b"c ends %s kept 0",
-                 b"space used %s of 16 spine 0 of 0", b"end used %s"):
-        cases.append((["check"], b"history 1 play\nheap 1 0 1\n" + line % LONG + b"\n"))
+    cases = [(["play"], b"schism 1\nheap %s 0 1\n" % LONG), (["check"], b"history 1 play\nheap 1 %s 1\n" % LONG)]
+    cases += [(["play"], b"schism 1\nheap 1 0 1\n" + line % LONG + b"\n") for line in SCRIPT_LINES]
+    cases += [(["check"], b"history 1 play\nheap 1 0 1\n" + line % LONG + b"\n") for line in HISTORY_LINES]
     return cases
 
 

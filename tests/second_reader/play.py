@@ -94,8 +94,8 @@ def play(script: Script, steady: bool) -> History:
 
 def brief(history: History) -> list[str]:
     """A play's counts, in six lines."""
-    replies = [entry.reply.kind for entry in history.entries()
-               if isinstance(entry, Told) and entry.command.name != LEAVE]
+    told = [entry for entry in history.entries() if isinstance(entry, Told)]
+    replies = [entry.reply.kind for entry in told if entry.command.party != COLLECTOR and entry.command.name != LEAVE]
     did = [entry for entry in history.entries() if isinstance(entry, Did)]
     kinds = [entry.kind for entry in did]
     freed = sum(entry.values[0] for entry in did if entry.kind == "frees")

@@ -22,7 +22,7 @@ class Seat:
         self.tell = tell
         self.registers = [cell(REFERENCE, 0)] + [cell(NIL, 0)] * 15
         self.reserve: list[int] = []
-        self.cursor = 0
+        self.cursor = number % table.heap.groups
         self.made = 0
         self.sets = 0
 
