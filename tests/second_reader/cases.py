@@ -9,10 +9,12 @@ from .changes import changed_history, changed_script
 from .drawn import draw_script
 from .grown import grow_history
 from .known import KNOWN
+from .limits import limit_cases
 from .made import MOST_START, make
 from .play import play
 from .script import Script
 from .texts import Answer, NotLegal, done, not_legal, text_of
+from .worked import worked_plays
 
 Runs = Callable[[list[str], bytes], Answer]
 
@@ -37,7 +39,10 @@ def known_cases() -> list[Case]:
 
 def fixed_cases(seed: str) -> list[Case]:
     """What is always tried."""
-    return [Case(*bad) for bad in bad_inputs(Random(f"{seed} bad"))] + known_cases()
+    cases = [Case(*bad) for bad in bad_inputs(Random(f"{seed} bad"))]
+    cases += [Case("limit", words, text) for words, text in limit_cases()]
+    cases += [Case("worked play", words, text) for words, text in worked_plays()]
+    return cases + known_cases()
 
 
 def draw_made(random: Random) -> Script:

@@ -17,7 +17,7 @@ def draw_heap(random: Random) -> Heap:
     if random.random() < BIG_HEAPS:
         return Heap(random.choice((64, 70, 300, 4_096)), random.choice((1_024, 2_000, 16_384)), random.randint(1, 3))
     groups = random.choice((1, 1, 2, 2, 3, 4))
-    spine = random.choice((0, 1, 2, 3, 4, 5, 6, 7, 8, 8, 20))
+    spine = random.choice((0, 1, 2, 3, 4, 5, 6, 7, 8, 8, 20, 100))
     seats = random.choice((1, 1, 1, 2, 2, 2, 3, 3, 4, 5, 8, 16))
     return Heap(groups, spine, seats)
 
