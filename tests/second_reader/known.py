@@ -84,6 +84,8 @@ RULE_4 = (
     play("1 0 1", "0 takes 5", "0 new 1 2 = 0.0", *CYCLE_TO_SIX, "c ends 0 kept 16", used=16),
     play("1 0 1", "0 takes 5", "0 new 1 2 = 0.0", *CYCLE_TO_SIX, "c ends 0 kept 12", used=16),
     play("1 0 1", "0 takes 5", "0 new 1 2 = 0.0", *CYCLE_TO_SIX, "c ends 0 kept 11", used=16, bad=15),
+    # Made since the begin: it needn't be kept either.
+    play("1 0 1", *CYCLE_TO_SIX, "0 takes 4", "0 new 1 2 = 0.0", "c ends 0 kept 11", used=15),
     # Dropped before the end: it needn't be kept, and may be.
     play("1 0 1", "0 takes 5", "0 new 1 2 = 0.0", *CYCLE_TO_SIX, "0 nil 1 = ok", "c ends 0 kept 11", used=16),
     # Dropped before the begin: what is in use is above the bound.

@@ -48,13 +48,18 @@ BAD_ENTRIES = ("0 get 1 0 0 = nil at 0:0", "0 new 1 2 = 0.", "0 new 1 2 = 0.00",
                "0 collect = done", "c cycle = done", "c turns 1 = cycle 0", "0 same 0 0 = ok", "0 leave", "0 poll 0",
                "0 gives 1", "c answers 1", "0 phase 1", "0 new 1 2 = spine need 1 used 0", "0 num 0 1 = ok", "= ok")
 
+# Lines with two faults each, of which the one named first in the table of causes is told.
+TWO_FAULTS = ("9 jump", "c jump x", "0 jump x", "0 new 16 x", "0 new x 48", "0 new 16", "0 new 16 48 1", "0 new 1 x 1",
+              "0 new x 1 1", "0 turns x", "c poll 1", "c turns 1000001 1", "c turns", "0", "")
+
 
 def limit_cases() -> list[tuple[list[str], bytes]]:
-    """Each largest number and the one above it, in two lines of one text; heap lines; and other bad entries."""
+    """Each largest number and the one above it, in two lines of one text; and other lines that are refused."""
     history, script = "history 1 play\nheap 4096 16384 3\n", "schism 1\nheap 4096 16384 3\n"
     cases = [(["check"], f"{history}{line % most}\n{line % (most + 1)}\n") for line, most in HISTORY_LIMITS]
     cases += [(["play"], f"{script}{line % most}\n{line % (most + 1)}\n") for line, most in SCRIPT_LIMITS]
     cases += [(["play"], f"schism 1\nheap {heap}\n") for heap in HEAP_LIMITS]
+    cases += [(["play"], f"schism 1\nheap 1 0 1\n{line}\n") for line in TWO_FAULTS]
     cases += [(["check"], f"history 1 play\nheap 1 0 1\n{line}\n") for line in BAD_ENTRIES]
     cases += [(["check"], f"history 1 run\nheap 1 0 1\n{line}\n") for line in ("c turns 1 = done", "c cycle = cycle 0")]
     return [(words, text.encode()) for words, text in cases]
