@@ -6,7 +6,7 @@ from pathlib import Path
 
 from .cases import Case, draw_case, fixed_cases
 from .forms import answer_words
-from .texts import DONE, Answer, LONGEST_HISTORY
+from .texts import DONE, LONGEST_HISTORY, Answer
 
 SECONDS = 120
 SHOWN = 60
