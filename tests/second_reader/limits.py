@@ -45,8 +45,9 @@ HEAP_LIMITS = ("0 0 1", "4097 0 1", "1 16385 1", "1 0 0", "1 0 17", "1 0 1 1", "
 
 # A stamp's count 0, an id without a count, a number with a leading zero, replies of other commands, other parties.
 BAD_ENTRIES = ("0 get 1 0 0 = nil at 0:0", "0 new 1 2 = 0.", "0 new 1 2 = 0.00", "0 len 0 = no field",
-               "0 set 0 0 0 = ok", "0 collect = done", "c cycle = done", "c turns 1 = cycle 0", "0 same 0 0 = ok", "0 leave", "0 poll 0",
-               "0 gives 1", "c answers 1", "0 phase 1", "0 new 1 2 = spine need 1 used 0", "0 num 0 1 = ok", "= ok")
+               "0 set 0 0 0 = ok", "0 collect = done", "c cycle = done", "c turns 1 = cycle 0", "0 same 0 0 = ok",
+               "0 leave", "0 poll 0", "0 gives 1", "c answers 1", "0 phase 1", "0 new 1 2 = spine need 1 used 0",
+               "0 num 0 1 = ok", "= ok")
 
 # Lines with two faults each, of which the one named first in the table of causes is told.
 TWO_FAULTS = ("9 jump", "c jump x", "0 jump x", "0 new 16 x", "0 new x 48", "0 new 16", "0 new 16 48 1", "0 new 1 x 1",
