@@ -1,0 +1,1 @@
+"""A second reader of scripts and histories, written from docs/FORMATS.md alone."""

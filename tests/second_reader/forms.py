@@ -1,0 +1,62 @@
+"""The words after the program's name, and what the program answers to them and its input."""
+
+from .judge import check
+from .made import MOST_MADE, MOST_START, make
+from .play import answer_play
+from .script import MOST_SEATS, SCRIPT_DIGITS, read_script
+from .texts import LONGEST_SCRIPT, Answer, Refused, done, number_of, refused, text_of, too_long, usage
+
+MOST_PATIENCE = 1_000_000
+
+
+def is_number_within(word: str, least: int, largest: int) -> bool:
+    number = number_of(word.encode(), SCRIPT_DIGITS)
+    return number is not None and least <= number <= largest
+
+
+def options_of(words: list[str], allowed: tuple[str, ...]) -> set[str] | None:
+    """The options that these words are, each once at most."""
+    found: set[str] = set()
+    left = iter(words)
+    for word in left:
+        if word not in allowed or word in found:
+            return None
+        if word == "--pace" and next(left, None) != "steady":
+            return None
+        if word == "--patience" and not is_number_within(next(left, ""), 1, MOST_PATIENCE):
+            return None
+        found.add(word)
+    return found
+
+
+def answer_make(words: list[str]) -> Answer:
+    limits = ((0, MOST_START), (1, MOST_SEATS), (0, MOST_MADE))
+    if len(words) != 3 or not all(is_number_within(word, *limit) for word, limit in zip(words, limits)):
+        return usage()
+    return done(text_of(make(*(int(word) for word in words)).lines()))
+
+
+def answer_run(text: bytes) -> Answer | None:
+    if len(text) > LONGEST_SCRIPT:
+        return too_long()
+    try:
+        read_script(text, False)
+    except Refused as fault:
+        return refused(fault)
+    return None
+
+
+def answer_words(words: list[str], text: bytes) -> Answer | None:
+    """What the program answers; None where it is a run on threads, whose history isn't determined."""
+    form, rest = (words[0], words[1:]) if words else ("", [])
+    if form == "check" and not rest:
+        return check(text)
+    if form == "make":
+        return answer_make(rest)
+    if form == "play":
+        options = options_of(rest, ("--pace", "--brief"))
+        return usage() if options is None else answer_play(text, "--pace" in options, "--brief" in options)
+    if form == "run":
+        options = options_of(rest, ("--locked", "--patience", "--pace"))
+        return usage() if options is None else answer_run(text)
+    return usage()

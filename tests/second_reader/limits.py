@@ -1,0 +1,66 @@
+"""Numbers at the limits of the grammar: the largest that is allowed, and behind it one above."""
+
+HISTORY_LIMITS = (
+    ("0 takes %d", 2**32 - 1),
+    ("0 gives back %d", 2**32 - 1),
+    ("c frees %d", 2**32 - 1),
+    ("c returns %d", 2**32 - 1),
+    ("0 new 1 2 = full need %d found 0", 2**32 - 1),
+    ("0 array 1 2 = full need 1 found %d", 2**32 - 1),
+    ("0 array 1 2 = spine need %d used 0", 2**32 - 1),
+    ("0 array 1 2 = spine need 1 used %d", 2**32 - 1),
+    ("0 answers %d", 2**64 - 1),
+    ("c phase %d", 2**64 - 1),
+    ("c ends %d kept 0", 2**64 - 1),
+    ("c ends 0 kept %d", 2**64 - 1),
+    ("0 poll = %d", 2**64 - 1),
+    ("0 collect = cycle %d", 2**64 - 1),
+    ("0 collect = waits %d answered 0 phase 1", 15),
+    ("0 collect = waits 0 answered %d phase 1", 2**64 - 1),
+    ("0 collect = waits 0 answered 0 phase %d", 2**64 - 1),
+    ("0 new 1 2 = %d.0", 15),
+    ("0 new 1 2 = 0.%d", 2**32 - 1),
+    ("0 get 1 0 0 = number %d at -", 1_073_741_823),
+    ("0 get 1 0 0 = nil at %d:1", 15),
+    ("0 get 1 0 0 = nil at 0:%d", 2**26 - 1),
+    ("0 len 0 = %d", 65_535),
+    ("c turns %d = done", 1_000_000),
+    ("0 num 1 %d = ok", 1_073_741_823),
+    ("%d poll = 0", 2),
+)
+
+SCRIPT_LIMITS = (
+    ("%d poll", 2),
+    ("0 new %d 47", 15),
+    ("0 new 15 %d", 47),
+    ("0 array 15 %d", 4_096),
+    ("0 get 15 %d 4096", 15),
+    ("0 get 15 15 %d", 4_096),
+    ("0 set 15 4096 %d", 15),
+    ("0 num 15 %d", 1_073_741_823),
+    ("c turns %d", 1_000_000),
+)
+
+HEAP_LIMITS = ("0 0 1", "4097 0 1", "1 16385 1", "1 0 0", "1 0 17", "1 0 1 1", "1 0", "01 0 1")
+
+# A stamp's count 0, an id without a count, a number with a leading zero, replies of other commands, other parties.
+BAD_ENTRIES = ("0 get 1 0 0 = nil at 0:0", "0 new 1 2 = 0.", "0 new 1 2 = 0.00", "0 len 0 = no field",
+               "0 set 0 0 0 = ok", "0 collect = done", "c cycle = done", "c turns 1 = cycle 0", "0 same 0 0 = ok",
+               "0 leave", "0 poll 0", "0 gives 1", "c answers 1", "0 phase 1", "0 new 1 2 = spine need 1 used 0",
+               "0 num 0 1 = ok", "= ok")
+
+# Lines with two faults each, of which the one named first in the table of causes is told.
+TWO_FAULTS = ("9 jump", "c jump x", "0 jump x", "0 new 16 x", "0 new x 48", "0 new 16", "0 new 16 48 1", "0 new 1 x 1",
+              "0 new x 1 1", "0 turns x", "c poll 1", "c turns 1000001 1", "c turns", "0", "")
+
+
+def limit_cases() -> list[tuple[list[str], bytes]]:
+    """Each largest number and the one above it, in two lines of one text; and other lines that are refused."""
+    history, script = "history 1 play\nheap 4096 16384 3\n", "schism 1\nheap 4096 16384 3\n"
+    cases = [(["check"], f"{history}{line % most}\n{line % (most + 1)}\n") for line, most in HISTORY_LIMITS]
+    cases += [(["play"], f"{script}{line % most}\n{line % (most + 1)}\n") for line, most in SCRIPT_LIMITS]
+    cases += [(["play"], f"schism 1\nheap {heap}\n") for heap in HEAP_LIMITS]
+    cases += [(["play"], f"schism 1\nheap 1 0 1\n{line}\n") for line in TWO_FAULTS]
+    cases += [(["check"], f"history 1 play\nheap 1 0 1\n{line}\n") for line in BAD_ENTRIES]
+    cases += [(["check"], f"history 1 run\nheap 1 0 1\n{line}\n") for line in ("c turns 1 = done", "c cycle = cycle 0")]
+    return [(words, text.encode()) for words, text in cases]

@@ -1,0 +1,122 @@
+"""Plays: the history of a script whose lines are answered in their order, and its brief."""
+
+from .collector import Collector, Ended, Waits
+from .entries import LEAVE, REFUSALS, Did, End, Entry, History, Reply, Space, Told
+from .script import COLLECTOR, Command, Heap, Script, read_script
+from .seat import Seat
+from .table import GRANTED, PHASE, Table
+from .texts import LONGEST_SCRIPT, Answer, Refused, done, refused, text_of, too_long
+
+STEADY_TURNS = 16
+TURNS_A_FRAGMENT = 8
+MOST_STEADY_TURNS = 4_096
+
+
+class Machine:
+    """A table with its seats and its collector, and the entries that they told."""
+
+    def __init__(self, heap: Heap):
+        self.table = Table(heap)
+        self.body: list[Entry | Space | End] = []
+        self.seats = [Seat(number, self.table, self.body.append) for number in range(heap.seats)]
+        self.collector = Collector(self.table, self.body.append)
+
+    def answer(self, command: Command) -> None:
+        """Makes the call of a command, whose reply stands behind the entries of the call."""
+        if command.party == COLLECTOR:
+            reply = self.turns(*command.operands) if command.name == "turns" else self.cycle()
+        elif command.name == "collect":
+            reply = self.collect(self.seats[command.party])
+        else:
+            reply = self.seats[command.party].call(command.name, command.operands)
+        self.body.append(Told(command, reply))
+
+    def turns(self, count: int) -> Reply:
+        """So many turns, or fewer, up to one that waits."""
+        for _ in range(count):
+            turn = self.collector.turn()
+            if isinstance(turn, Waits):
+                return Reply("waits", turn)
+        return Reply("done")
+
+    def cycle(self) -> Reply:
+        """Turns up to one that ends a cycle or waits."""
+        while True:
+            turn = self.collector.turn()
+            if isinstance(turn, Ended):
+                return Reply("cycle", turn)
+            if isinstance(turn, Waits):
+                return Reply("waits", turn)
+
+    def cycles_to_come(self) -> int:
+        """One cycle, and before it the rest of the one under way."""
+        return 1 if self.table.words[PHASE] % 7 == 0 else 2
+
+    def collect(self, seat: Seat) -> Reply:
+        left = self.cycles_to_come()
+        while True:
+            reply = self.cycle()
+            if reply.kind == "cycle":
+                left -= 1
+                if left == 0:
+                    return reply
+            elif reply.values[0] == seat.number:
+                seat.answer()
+            else:
+                return reply
+
+    def steady_turns(self, told: int) -> None:
+        """The turns behind a seat's line, whose entries stand from this place on."""
+        taken = sum(entry.values[0] for entry in self.body[told:] if isinstance(entry, Did) and entry.kind == "takes")
+        self.turns(min(STEADY_TURNS + TURNS_A_FRAGMENT * taken, MOST_STEADY_TURNS))
+
+    def space(self) -> Space:
+        heap = self.table.heap
+        return Space(self.table.taken(), heap.fragments, self.table.words[GRANTED], heap.spine)
+
+
+def play(script: Script, steady: bool) -> History:
+    """The history of a play."""
+    machine = Machine(script.heap)
+    for command in script.commands:
+        told = len(machine.body)
+        machine.answer(command)
+        if steady and command.party != COLLECTOR:
+            machine.steady_turns(told)
+    machine.body.append(machine.space())
+    for seat in machine.seats:
+        machine.answer(Command(seat.number, LEAVE, ()))
+    for _ in range(machine.cycles_to_come()):
+        machine.cycle()
+    machine.body.append(End(machine.table.taken()))
+    return History(True, script.heap, machine.body)
+
+
+def brief(history: History) -> list[str]:
+    """A play's counts, in six lines."""
+    told = [entry for entry in history.entries() if isinstance(entry, Told)]
+    replies = [entry.reply.kind for entry in told if entry.command.party != COLLECTOR and entry.command.name != LEAVE]
+    did = [entry for entry in history.entries() if isinstance(entry, Did)]
+    kinds = [entry.kind for entry in did]
+    freed = sum(entry.values[0] for entry in did if entry.kind == "frees")
+    refusals = sum(kind in REFUSALS for kind in replies)
+    space = next(line for line in history.body if isinstance(line, Space))
+    return [
+        "brief 1",
+        history.heap.line(),
+        f"commands {len(replies)} refused {refusals}",
+        f"made {replies.count('made')} cycles {kinds.count('ends')} freed {freed} swung {kinds.count('swings')}",
+        space.line(),
+        history.body[-1].line(),
+    ]
+
+
+def answer_play(text: bytes, steady: bool, in_brief: bool) -> Answer:
+    """What `play` answers to this input."""
+    if len(text) > LONGEST_SCRIPT:
+        return too_long()
+    try:
+        history = play(read_script(text, True), steady)
+    except Refused as fault:
+        return refused(fault)
+    return done(text_of(brief(history) if in_brief else history.lines()))
