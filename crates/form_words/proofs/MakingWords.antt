@@ -164,7 +164,8 @@ make_taken a b c is_a is_b is_c =
     let walked_is : fold (walked make_rules []) first (a ∷ b ∷ c ∷ []) ≡ last a b c
     = ap (λ w. walked make_rules [] (walked make_rules [] w b) c) one.1 ∙ ap (λ w. walked make_rules [] w c) two.1 ∙ three.1 in
     let end : (walk make_rules [] nothing_held (a ∷ b ∷ c ∷ [])).held ≡ (last a b c).held = ap (λ (w : Walk). w.held) walked_is in
-    let faultless : walk_fault make_shape [] first (a ∷ b ∷ c ∷ []) ≡ [] = rw (one.0, one.1, two.0, two.1, three.0) refl in
-    (fault_parts make_app (codes "make") make_rules refl refl (a ∷ b ∷ c ∷ [])
-        ∙ ap₂ (λ (kinds : Kinds) (h : Held). or_else kinds (or_else (settle_fault make_rules false h) (or_else (defaults_fault (settled make_rules h).rows make_rules) (check_fault make_shape (finished make_rules h) false)))) faultless end,
-      rows_are make_app (codes "make") make_rules refl refl (a ∷ b ∷ c ∷ []) ∙ ap (finished make_rules) end)
+    let faultless : walk_fault make_shape [] first (a ∷ b ∷ c ∷ []) ≡ [] = rw (one.0, one.1, two.0, two.1, three.0) refl in (
+      fault_parts make_app (codes "make") make_rules refl refl (a ∷ b ∷ c ∷ [])
+          ∙ ap₂ (λ (kinds : Kinds) (h : Held). or_else kinds (or_else (settle_fault make_rules false h) (or_else (defaults_fault (settled make_rules h).rows make_rules) (check_fault make_shape (finished make_rules h) false)))) faultless end,
+      rows_are make_app (codes "make") make_rules refl refl (a ∷ b ∷ c ∷ []) ∙ ap (finished make_rules) end,
+    )

@@ -59,7 +59,7 @@ module _ (form : Text) (c : List Rule) (no_short : (x : ℕ) → arg_by_short c 
   -- a word without a dash is loose
   pub is_loose : (word : Text) → bytes_eq word (45 ∷ 45 ∷ []) ≡ false → long_of word ≡ None → short_of word ≡ None → (waiting : Waiting) (position : ℕ) (rows : List Row) (pending : Option (Text × List Text))
       → let h : Held = record { rows = rows; pending = pending; skip = 0 } in
-        (word_fault (shape_with form c) [] false waiting word h ≡ []) × (word_met c [] false waiting position word h ≡ plain_word c waiting word h)
+      (word_fault (shape_with form c) [] false waiting word h ≡ []) × (word_met c [] false waiting position word h ≡ plain_word c waiting word h)
   is_loose word other long short waiting position rows pending = rw (no_subcommand waiting word, other, long, short) (refl, refl)
 
   no_dash : (word : Text) → bytes_eq word (45 ∷ 45 ∷ []) ≡ false → long_of word ≡ None → short_of word ≡ None → WordCase word
@@ -121,8 +121,8 @@ module _ (form : Text) (c : List Rule) (no_place : (i : ℕ) → arg_by_index c 
   pub at_plain : (word name : Text) (rows : List Row) (pending : Option (Text × List Text)) → long_of word ≡ Some (name, None) → bytes_eq word (45 ∷ 45 ∷ []) ≡ false
       → arg_by_long c name ≡ Some (plain_built name)
       → let h : Held = held rows pending in
-        (turn_fault (shape_with form c) [] (walk_from h) word ≡ or_else (settle_fault c false h) (repeat_fault false name (settled c h).rows))
-        × (walked c [] (walk_from h) word ≡ walk_from (held (used (plain_built name) [] (settled c h).rows) None))
+      (turn_fault (shape_with form c) [] (walk_from h) word ≡ or_else (settle_fault c false h) (repeat_fault false name (settled c h).rows))
+      × (walked c [] (walk_from h) word ≡ walk_from (held (used (plain_built name) [] (settled c h).rows) None))
   unfolding walked
   at_plain word name rows pending long other is = rw (other, long, is) (or_else_nil _ ∙ ap (or_else (settle_fault c false (held rows pending))) (or_else_nil _), refl)
 
@@ -130,7 +130,7 @@ module _ (form : Text) (c : List Rule) (no_place : (i : ℕ) → arg_by_index c 
   pub at_valued : (word name : Text) (rows : List Row) (pending : Option (Text × List Text)) → long_of word ≡ Some (name, None) → bytes_eq word (45 ∷ 45 ∷ []) ≡ false
       → arg_by_long c name ≡ Some (valued_built name)
       → let h : Held = held rows pending in
-        (turn_fault (shape_with form c) [] (walk_from h) word ≡ settle_fault c false h) × (walked c [] (walk_from h) word ≡ waits name (settled c h).rows)
+      (turn_fault (shape_with form c) [] (walk_from h) word ≡ settle_fault c false h) × (walked c [] (walk_from h) word ≡ waits name (settled c h).rows)
   unfolding walked
   at_valued word name rows pending long other is = rw (other, long, is) (or_else_nil _, refl)
 
@@ -154,14 +154,14 @@ module _ (form : Text) (c : List Rule) (no_place : (i : ℕ) → arg_by_index c 
 
   pub at_loose : (word : Text) (rows : List Row) (pending : Option (Text × List Text))
       → let h : Held = held rows pending in
-        (word_fault (shape_with form c) [] false idle word h ≡ []) × (word_met c [] false idle 1 word h ≡ plain_word c idle word h)
+      (word_fault (shape_with form c) [] false idle word h ≡ []) × (word_met c [] false idle 1 word h ≡ plain_word c idle word h)
       → turn_fault (shape_with form c) [] (walk_from h) word ≡ refusal
   at_loose word rows pending is = rw (is.0, is.1, no_place 1) refl
 
   -- a word that is no name is the value of the option that waits for one
   pub at_value : (word due : Text) (rows : List Row) → arg_by_id c due ≡ Some (valued_built due)
       → let h : Held = held rows (Some (due, [])) in
-        (word_fault (shape_with form c) [] false (option due) word h ≡ []) × (word_met c [] false (option due) 1 word h ≡ plain_word c (option due) word h)
+      (word_fault (shape_with form c) [] false (option due) word h ≡ []) × (word_met c [] false (option due) 1 word h ≡ plain_word c (option due) word h)
       → (turn_fault (shape_with form c) [] (waits due rows) word ≡ []) × (walked c [] (waits due rows) word ≡ walk_from (held rows (Some (due, word ∷ []))))
   unfolding walked
   at_value word due rows id is =

@@ -282,9 +282,9 @@ IsKnown settings = IfSome settings.patience (IsWithin 1 most_patience)
 same_settings : (all before : Settings) (after rows : List Row) → after ≡ rows → IsTold all after → Shows before rows → IsKnown before → all ≡ before
 same_settings all before after rows e told shows known =
     let pace : all.pace ≡ before.pace = same_pace all.pace before.pace
-        (sym told.pace ∙ ap (first_of (codes "pace")) e ∙ ap (option_and_then (λ (r : Row). slice_get r.values 0)) shows.pace ∙ value_of_pace before.pace) in
+    (sym told.pace ∙ ap (first_of (codes "pace")) e ∙ ap (option_and_then (λ (r : Row). slice_get r.values 0)) shows.pace ∙ value_of_pace before.pace) in
     let patience : all.patience ≡ before.patience = same_patience all.patience before.patience told.within known
-        (sym told.patience ∙ ap (first_of (codes "patience")) e ∙ ap (option_and_then (λ (r : Row). slice_get r.values 0)) shows.patience ∙ value_of_patience before.patience) in
+    (sym told.patience ∙ ap (first_of (codes "patience")) e ∙ ap (option_and_then (λ (r : Row). slice_get r.values 0)) shows.patience ∙ value_of_patience before.patience) in
     let brief : all.brief ≡ before.brief = sym told.brief ∙ ap (has_row (codes "brief")) e ∙ has_row_at (codes "brief") rows ∙ ap is_some shows.brief ∙ flag_shown before.brief (codes "brief") in
     let locked : all.locked ≡ before.locked = sym told.locked ∙ ap (has_row (codes "locked")) e ∙ has_row_at (codes "locked") rows ∙ ap is_some shows.locked ∙ flag_shown before.locked (codes "locked") in
     λ i. record { pace = pace i; brief = brief i; locked = locked i; patience = patience i }

@@ -1,4 +1,4 @@
-ghost use Rattle.std.specs.Prelude.{◌≡◌, ◌≢◌, ℕ, ◌↔◌, ◌⊎◌, None, map};
+ghost use Rattle.std.specs.Prelude.{◌≡◌, ◌≢◌, ℕ, ◌⊎◌, None, map};
 ghost use Rattle.script_text.specs.declared.cause.Cause.{Cause};
 ghost use Rattle.form_words.specs.Works.{AskFor, IsForm, HasInput};
 ghost use Rattle.form_words.specs.declared.work.Work.{Work as AWork};
@@ -42,8 +42,9 @@ pub fn schism<S: Source, K: Sink, G: Gate, R: Threads + Wait + Sync>(
     gate: &G,
     closed: &mut Option<Closed>,
 ) -> Status
-    ensures usage { (result ≡ Status.Usage) ↔ (¬ IsForm (map (λ w. w.now) words.now)) }
-    ensures unread { result ≡ Status.Usage → source.new ≡ source.old }
+    ensures usage { result ≡ Status.Usage → ¬ IsForm (map (λ w. w.now) words.now) }
+    ensures formless { ¬ IsForm (map (λ w. w.now) words.now) → (result ≡ Status.Usage) ⊎ (result ≡ Status.Memory) }
+    ensures unread { ¬ IsForm (map (λ w. w.now) words.now) → source.new ≡ source.old }
     ensures untouched { (work : AWork) → AskFor (map (λ w. w.now) words.now) work → ¬ HasInput work →
         source.new ≡ source.old }
     ensures done { result ≡ Status.Done → WritesAll (map (λ w. w.now) words.now)
@@ -74,7 +75,7 @@ pub fn schism<S: Source, K: Sink, G: Gate, R: Threads + Wait + Sync>(
         (result ≡ status) ⊎ (result ≡ Status.Memory) }
 
     // One byte more than the limit is read only where the input is too long.
-    ensures most { result ≢ Status.Usage → result ≢ Status.TooLong →
+    ensures most { IsForm (map (λ w. w.now) words.now) → result ≢ Status.TooLong →
         ReadsNoMore (map (λ w. w.now) words.now) (S.left source.old) (S.left source.new) }
     ensures unwritten { ¬ IsWriting result → sink.new ≡ sink.old }
     ensures read_count { result ≢ Status.ReadFault → S.faults source.new ≡ S.faults source.old }

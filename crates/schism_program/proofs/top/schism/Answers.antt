@@ -1,5 +1,5 @@
-use Rattle.std.proofs.Common.{◌≤◌, length, inl, rules}
-use Rattle.form_words.specs.Works.{most_bytes}
+use Rattle.std.proofs.Common.{◌≤◌, length, map, inl, rules}
+use Rattle.form_words.specs.Works.{most_bytes, AskFor}
 use Rattle.schism_program.specs.declared.status.Status.TheVariants as statuses
 use Rattle.schism_program.specs.Due.{IsDueTo}
 use Rattle.schism_program.specs.Works.{FailsAt, MakesText}
@@ -8,24 +8,27 @@ use Rattle.schism_program.proofs.top.schism.Goals as goal
 
 pub returns-in-Err-Refused-clause-complete : goal.returns-in-Err-Refused-clause-complete
 returns-in-Err-Refused-clause-complete g c = λ status due calm_source calm_sink.
-    let work = c.in-Some.work in
+    let work = c.in-Ok-Some.work in
+    let asked : AskFor (map (λ w. w.now) c.args.words.now) work = search rules in
     let input = c.in-Ok.input.items in
     let fault = c.in-Err-Refused.field-0-0 in
     let short : length input ≤ most_bytes work = search rules in
     let fails : FailsAt work input fault.line fault.cause = search rules in
-    inl (only_due _ _ _ work input (statuses.Refused fault.line fault.cause) status c.in-Some.ensures.some c.in-Ok.ensures.read (short, fails) due)
+    inl (only_due _ _ _ work input (statuses.Refused fault.line fault.cause) status asked c.in-Ok.ensures.read (short, fails) due)
 
 pub returns-in-Err-NotLegal-clause-complete : goal.returns-in-Err-NotLegal-clause-complete
 returns-in-Err-NotLegal-clause-complete g c = λ status due calm_source calm_sink.
-    let work = c.in-Some.work in
+    let work = c.in-Ok-Some.work in
+    let asked : AskFor (map (λ w. w.now) c.args.words.now) work = search rules in
     let input = c.in-Ok.input.items in
     let found : IsDueTo work input (statuses.NotLegal c.in-Err-NotLegal.line) = search rules in
-    inl (only_due _ _ _ work input _ status c.in-Some.ensures.some c.in-Ok.ensures.read found due)
+    inl (only_due _ _ _ work input _ status asked c.in-Ok.ensures.read found due)
 
 pub returns-in-Ok-write_all-clause-complete : goal.returns-in-Ok-write_all-clause-complete
 returns-in-Ok-write_all-clause-complete g c = λ status due calm_source calm_sink.
-    let work = c.in-Some.work in
+    let work = c.in-Ok-Some.work in
+    let asked : AskFor (map (λ w. w.now) c.args.words.now) work = search rules in
     let input = c.in-Ok.input.items in
     let short : length input ≤ most_bytes work = search rules in
     let makes : MakesText work input c.in-Ok-made_work.made.text.items = search rules in
-    inl (only_due _ _ _ work input statuses.Done status c.in-Some.ensures.some c.in-Ok.ensures.read (short, made_suits work input _ makes) due)
+    inl (only_due _ _ _ work input statuses.Done status asked c.in-Ok.ensures.read (short, made_suits work input _ makes) due)
