@@ -1,12 +1,10 @@
 -- A making's command takes three words that are no options.
 use Rattle.std.proofs.Common.{◌≡◌, ◌&&◌, ℕ, Bool, true, false, not, List, [], ◌∷◌, Option, Some, None, refl, sym, ap, ap₂, ◌∙◌, subst, codes}
-use Rattle.std.specs.List.{fold, list_all}
-use Rattle.std.specs.Str.{bytes_eq}
-use Rattle.clap.specs.Walk.{Held, Row, Rule, Text, Waiting, Walk, idle, arg_by_index, arg_by_long, finished, nothing_held, plain_word, settled, walk, walk_from, walked, word_met}
+use Rattle.std.specs.List.{fold}
+use Rattle.clap.specs.Walk.{Held, Row, Rule, Text, Walk, idle, arg_by_long, finished, nothing_held, plain_word, settled, walk, walk_from, walked, word_met}
 use Rattle.clap.specs.Simple.{App, built, filled, matches_of, with_index}
 use Rattle.clap.specs.Kinds.{Kinds, or_else}
 use Rattle.clap.specs.Faults.{check_fault, defaults_fault, fault_of, settle_fault, turn_fault, walk_fault, word_fault}
-use Rattle.clap.specs.Lexer.{long_of}
 use Rattle.form_words.specs.Commands.{make_app, number_rule}
 use Rattle.form_words.specs.Joined.{are_apart, is_joined}
 use Rattle.form_words.proofs.OptionSteps.{WordCase, held, is_loose, loose, named, or_else_parts, refusal, refused, row_of_words, shape_with, word_case}
@@ -164,7 +162,8 @@ make_taken a b c is_a is_b is_c =
     let walked_is : fold (walked make_rules []) first (a ∷ b ∷ c ∷ []) ≡ last a b c
     = ap (λ w. walked make_rules [] (walked make_rules [] w b) c) one.1 ∙ ap (λ w. walked make_rules [] w c) two.1 ∙ three.1 in
     let end : (walk make_rules [] nothing_held (a ∷ b ∷ c ∷ [])).held ≡ (last a b c).held = ap (λ (w : Walk). w.held) walked_is in
-    let faultless : walk_fault make_shape [] first (a ∷ b ∷ c ∷ []) ≡ [] = rw (one.0, one.1, two.0, two.1, three.0) refl in
-    (fault_parts make_app (codes "make") make_rules refl refl (a ∷ b ∷ c ∷ [])
-        ∙ ap₂ (λ (kinds : Kinds) (h : Held). or_else kinds (or_else (settle_fault make_rules false h) (or_else (defaults_fault (settled make_rules h).rows make_rules) (check_fault make_shape (finished make_rules h) false)))) faultless end,
-      rows_are make_app (codes "make") make_rules refl refl (a ∷ b ∷ c ∷ []) ∙ ap (finished make_rules) end)
+    let faultless : walk_fault make_shape [] first (a ∷ b ∷ c ∷ []) ≡ [] = rw (one.0, one.1, two.0, two.1, three.0) refl in (
+      fault_parts make_app (codes "make") make_rules refl refl (a ∷ b ∷ c ∷ [])
+          ∙ ap₂ (λ (kinds : Kinds) (h : Held). or_else kinds (or_else (settle_fault make_rules false h) (or_else (defaults_fault (settled make_rules h).rows make_rules) (check_fault make_shape (finished make_rules h) false)))) faultless end,
+      rows_are make_app (codes "make") make_rules refl refl (a ∷ b ∷ c ∷ []) ∙ ap (finished make_rules) end,
+    )

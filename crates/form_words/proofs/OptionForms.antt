@@ -1,16 +1,16 @@
 -- What the commands of a play and of a run have of words.
 use Rattle.std.proofs.Common.{◌≡◌, ◌||◌, ℕ, Bool, true, false, List, [], ◌∷◌, Option, Some, None, refl, sym, ap, ap₂, ◌∙◌, subst, codes, cond}
-use Rattle.std.specs.List.{fold, flat_map}
+use Rattle.std.specs.List.{flat_map}
 use Rattle.std.specs.Str.{bytes_eq}
 use Rattle.std.proofs.lemmas.Slice.Eq.{bytes_eq-Decides}
 use Rattle.clap.specs.Walk.{Held, Row, Rule, Text, arg_by_index, arg_by_short, default_rows, finished, has_row, nothing_held, reading_by, settled, walk, walk_from, with_default}
-use Rattle.clap.specs.Simple.{App, Shape, built, entered, matches_of, names_of}
-use Rattle.clap.specs.Kinds.{Kinds, or_else}
+use Rattle.clap.specs.Simple.{App, built, entered, matches_of}
+use Rattle.clap.specs.Kinds.{or_else}
 use Rattle.clap.specs.Faults.{check_fault, default_fault, defaults_fault, entered_fault, fault_of, given_default_fault, settle_fault, walk_fault}
 use Rattle.form_words.specs.Commands.{check_app, play_app, run_app}
 use Rattle.form_words.specs.Joined.{are_apart}
-use Rattle.form_words.proofs.OptionSteps.{NameCase, held, or_else_parts, plain, plain_built, shape_with, unknown, valued, valued_built}
-use Rattle.form_words.proofs.OptionWalk.{AllSpelled, Ends, Given, Grows, Reads, end_of, given_words, goes, reads}
+use Rattle.form_words.proofs.OptionSteps.{NameCase, or_else_parts, plain, plain_built, shape_with, unknown, valued, valued_built}
+use Rattle.form_words.proofs.OptionWalk.{AllSpelled, Given, Grows, Reads, given_words, goes, reads}
 
 -- the options of a play and of a run
 abbrev pub play_rules : List Rule
@@ -79,7 +79,7 @@ pub record IsOptional (app : App) (form flag : Text) (c : List Rule) : Type 0 wh
 module _ (app : App) (form : Text) (c : List Rule) (built_is : built app ≡ record { top = shape_with form c; subs = [] }) (nameless : app.top.no_binary_name ≡ true) where
   pub fault_parts : (words : List Text) → let end : Held = (walk c [] nothing_held words).held in
       fault_of app words ≡ or_else (walk_fault (shape_with form c) [] (walk_from nothing_held) words) (or_else (settle_fault c false end)
-          (or_else (defaults_fault (settled c end).rows c) (check_fault (shape_with form c) (finished c end) false)))
+      (or_else (defaults_fault (settled c end).rows c) (check_fault (shape_with form c) (finished c end) false)))
   fault_parts words =
       let entered_none = none_entered (record { top = shape_with form c; subs = [] }) (walk c [] nothing_held words).stopped refl in
       rw (built_is, nameless, entered_none.0, entered_none.1) refl
@@ -88,7 +88,6 @@ module _ (app : App) (form : Text) (c : List Rule) (built_is : built app ≡ rec
   rows_are words = rw (built_is, nameless) refl
 
 module _ (app : App) (form flag : Text) (c : List Rule) (is : IsOptional app form flag c) where
-
   pub found : (words : List Text) → are_apart words ≡ true → fault_of app words ≡ [] → IsFound c flag words (matches_of app words)
   found words apart none =
       let end = (walk c [] nothing_held words).held in
@@ -148,10 +147,10 @@ check_found words apart none =
     let second = or_else_parts (settle_fault [] false end) _ first.1 in
     let read = reads (codes "check") [] (λ name. unknown refl) (λ x. refl) (λ i. refl) words [] None (record { apart = apart; faultless = first.0; settles_last = second.0 }) in
     by words read.1.given (settled [] end).rows read.1.spelled read.1.grows where
-  by : (words : List Text) (given : List Given) (after : List Row) → words ≡ flat_map given_words given → Grows [] [] given after → words ≡ []
-  by words [] after spelled grows = spelled
-  by words ((name, None) ∷ more) after spelled grows = let bad = grows.0 in cc
-  by words ((name, Some value) ∷ more) after spelled grows = let bad = grows.0.0 in cc
+      by : (words : List Text) (given : List Given) (after : List Row) → words ≡ flat_map given_words given → Grows [] [] given after → words ≡ []
+      by words [] after spelled grows = spelled
+      by words ((name, None) ∷ more) after spelled grows = let bad = grows.0 in cc
+      by words ((name, Some value) ∷ more) after spelled grows = let bad = grows.0.0 in cc
 
 pub check_taken : fault_of check_app [] ≡ []
 unfolding walk_fault defaults_fault

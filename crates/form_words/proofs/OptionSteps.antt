@@ -1,19 +1,17 @@
 -- What a word is to a command of options alone: one of its names, a value or a word at a place, or refused.
-use Rattle.std.proofs.Common.{◌≡◌, ◌≢◌, ◌==◌, ◌&&◌, ◌||◌, ◌+◌, suc, ℕ, Bool, true, false, not, List, [], ◌∷◌, ◌++◌, map, length, Option, Some, None, refl, sym, ap, ap₂, ◌∙◌, subst, arith, append-nil, codes, cond, true≢false}
-use Rattle.std.specs.Prelude.{option_and_then, slice_get, is_some}
-use Rattle.std.specs.List.{list_any, before_first, after_first, prefix_len}
-use Rattle.std.specs.Option.{option_map_or}
+use Rattle.std.proofs.Common.{◌≡◌, ◌==◌, ◌||◌, ◌+◌, suc, ℕ, Bool, true, false, not, List, [], ◌∷◌, ◌++◌, length, Option, Some, None, refl, sym, ap, ap₂, ◌∙◌, subst, arith, append-nil, codes, cond, true≢false}
+use Rattle.std.specs.Prelude.{slice_get}
+use Rattle.std.specs.List.{before_first, after_first, prefix_len}
 use Rattle.std.specs.Str.{bytes_eq, chars}
 use Rattle.std.proofs.lemmas.Bool.{eqb-true}
 use Rattle.std.proofs.lemmas.Slice.Eq.{bytes_eq-Decides}
 use Rattle.form_words.specs.Commands.{bare_app, plain_rule, valued_rule}
 use Rattle.form_words.specs.Joined.{is_joined, is_joined_name}
-use Rattle.clap.specs.Lexer.{has_byte, long_of, name_and_value, short_of, strip_byte}
-use Rattle.clap.specs.Walk.{Held, Names, Row, Rule, Step, Text, Waiting, Walk, idle, option, positional, arg_by_id, arg_by_index, arg_by_long, arg_by_short, at_row, bundle_met, has_row, more_values, plain_word, values_or_missing, settled, subcommand_met, used, walk_from, walked, with_values, without, word_met}
-use Rattle.clap.specs.Simple.{App, Shape, built, filled, new_app, new_rule}
+use Rattle.clap.specs.Lexer.{has_byte, long_of, short_of}
+use Rattle.clap.specs.Walk.{Held, Row, Rule, Text, Waiting, Walk, idle, option, positional, arg_by_id, arg_by_index, arg_by_long, arg_by_short, at_row, bundle_met, has_row, more_values, plain_word, values_or_missing, settled, subcommand_met, used, walk_from, walked, without, word_met}
+use Rattle.clap.specs.Simple.{Shape, built, filled}
 use Rattle.clap.specs.Kinds.{Kinds, or_else}
-use Rattle.clap.specs.Faults.{flags_fault, repeat_fault, settle_fault, turn_fault, walk_fault, word_fault}
-use Rattle.clap.specs.declared.builder.action.ArgAction.TheVariants.{SetTrue}
+use Rattle.clap.specs.Faults.{flags_fault, repeat_fault, settle_fault, turn_fault, word_fault}
 use Rattle.clap.specs.declared.builder.value_parser.Reading.TheVariants.{AsWritten}
 use Rattle.clap.specs.declared.error.kind.ErrorKind.TheVariants as kind
 use Rattle.clap.specs.declared.parser.matches.ValueSource.TheVariants.{CommandLine}
@@ -59,7 +57,7 @@ module _ (form : Text) (c : List Rule) (no_short : (x : ℕ) → arg_by_short c 
   -- a word without a dash is loose
   pub is_loose : (word : Text) → bytes_eq word (45 ∷ 45 ∷ []) ≡ false → long_of word ≡ None → short_of word ≡ None → (waiting : Waiting) (position : ℕ) (rows : List Row) (pending : Option (Text × List Text))
       → let h : Held = record { rows = rows; pending = pending; skip = 0 } in
-        (word_fault (shape_with form c) [] false waiting word h ≡ []) × (word_met c [] false waiting position word h ≡ plain_word c waiting word h)
+      (word_fault (shape_with form c) [] false waiting word h ≡ []) × (word_met c [] false waiting position word h ≡ plain_word c waiting word h)
   is_loose word other long short waiting position rows pending = rw (no_subcommand waiting word, other, long, short) (refl, refl)
 
   no_dash : (word : Text) → bytes_eq word (45 ∷ 45 ∷ []) ≡ false → long_of word ≡ None → short_of word ≡ None → WordCase word
@@ -121,8 +119,8 @@ module _ (form : Text) (c : List Rule) (no_place : (i : ℕ) → arg_by_index c 
   pub at_plain : (word name : Text) (rows : List Row) (pending : Option (Text × List Text)) → long_of word ≡ Some (name, None) → bytes_eq word (45 ∷ 45 ∷ []) ≡ false
       → arg_by_long c name ≡ Some (plain_built name)
       → let h : Held = held rows pending in
-        (turn_fault (shape_with form c) [] (walk_from h) word ≡ or_else (settle_fault c false h) (repeat_fault false name (settled c h).rows))
-        × (walked c [] (walk_from h) word ≡ walk_from (held (used (plain_built name) [] (settled c h).rows) None))
+      (turn_fault (shape_with form c) [] (walk_from h) word ≡ or_else (settle_fault c false h) (repeat_fault false name (settled c h).rows))
+      × (walked c [] (walk_from h) word ≡ walk_from (held (used (plain_built name) [] (settled c h).rows) None))
   unfolding walked
   at_plain word name rows pending long other is = rw (other, long, is) (or_else_nil _ ∙ ap (or_else (settle_fault c false (held rows pending))) (or_else_nil _), refl)
 
@@ -130,7 +128,7 @@ module _ (form : Text) (c : List Rule) (no_place : (i : ℕ) → arg_by_index c 
   pub at_valued : (word name : Text) (rows : List Row) (pending : Option (Text × List Text)) → long_of word ≡ Some (name, None) → bytes_eq word (45 ∷ 45 ∷ []) ≡ false
       → arg_by_long c name ≡ Some (valued_built name)
       → let h : Held = held rows pending in
-        (turn_fault (shape_with form c) [] (walk_from h) word ≡ settle_fault c false h) × (walked c [] (walk_from h) word ≡ waits name (settled c h).rows)
+      (turn_fault (shape_with form c) [] (walk_from h) word ≡ settle_fault c false h) × (walked c [] (walk_from h) word ≡ waits name (settled c h).rows)
   unfolding walked
   at_valued word name rows pending long other is = rw (other, long, is) (or_else_nil _, refl)
 
@@ -154,14 +152,14 @@ module _ (form : Text) (c : List Rule) (no_place : (i : ℕ) → arg_by_index c 
 
   pub at_loose : (word : Text) (rows : List Row) (pending : Option (Text × List Text))
       → let h : Held = held rows pending in
-        (word_fault (shape_with form c) [] false idle word h ≡ []) × (word_met c [] false idle 1 word h ≡ plain_word c idle word h)
+      (word_fault (shape_with form c) [] false idle word h ≡ []) × (word_met c [] false idle 1 word h ≡ plain_word c idle word h)
       → turn_fault (shape_with form c) [] (walk_from h) word ≡ refusal
   at_loose word rows pending is = rw (is.0, is.1, no_place 1) refl
 
   -- a word that is no name is the value of the option that waits for one
   pub at_value : (word due : Text) (rows : List Row) → arg_by_id c due ≡ Some (valued_built due)
       → let h : Held = held rows (Some (due, [])) in
-        (word_fault (shape_with form c) [] false (option due) word h ≡ []) × (word_met c [] false (option due) 1 word h ≡ plain_word c (option due) word h)
+      (word_fault (shape_with form c) [] false (option due) word h ≡ []) × (word_met c [] false (option due) 1 word h ≡ plain_word c (option due) word h)
       → (turn_fault (shape_with form c) [] (waits due rows) word ≡ []) × (walked c [] (waits due rows) word ≡ walk_from (held rows (Some (due, word ∷ []))))
   unfolding walked
   at_value word due rows id is =

@@ -1,10 +1,10 @@
 -- A command of options alone takes just the words that give options of its own, each once at most.
-use Rattle.std.proofs.Common.{◌≡◌, ◌&&◌, ℕ, Bool, true, false, not, List, [], ◌∷◌, ◌++◌, Option, Some, None, refl, sym, ap, ap₂, ◌∙◌, subst, codes}
-use Rattle.std.specs.List.{fold, flat_map, list_all}
+use Rattle.std.proofs.Common.{◌≡◌, ◌&&◌, ℕ, Bool, true, false, not, List, [], ◌∷◌, ◌++◌, Option, Some, None, refl, sym, ap, ap₂, ◌∙◌, subst}
+use Rattle.std.specs.List.{fold, flat_map}
 use Rattle.std.specs.Str.{bytes_eq}
 use Rattle.clap.specs.Lexer.{long_of, short_of}
 use Rattle.clap.specs.Walk.{Held, Row, Rule, Text, Walk, idle, option, arg_by_id, arg_by_index, arg_by_long, arg_by_short, has_row, settled, used, walk_from, walked}
-use Rattle.clap.specs.Kinds.{Kinds, or_else}
+use Rattle.clap.specs.Kinds.{or_else}
 use Rattle.clap.specs.Faults.{repeat_fault, settle_fault, turn_fault, walk_fault}
 use Rattle.form_words.specs.Joined.{are_apart, is_joined}
 use Rattle.form_words.proofs.OptionSteps.{NameCase, WordCase, at_loose, at_plain, at_refused, at_unknown, at_value, at_valued, held, is_loose, name_for_value, named, loose, refused, no_repeat, no_value, or_else_parts, plain, plain_built, plain_row, refusal, repeats_not, row_of_words, settles, shape_with, unknown, valued, valued_built, valued_row, waits, word_case}
@@ -200,9 +200,10 @@ module _ (form : Text) (c : List Rule) (cases : (name : Text) → NameCase c nam
       let at = at_plain form c no_place (45 ∷ 45 ∷ name) name rows pending spelled.0.named spelled.0.no_end grows.0 in
       let next = goes more (used (plain_built name) [] now) None after refl spelled.1 (subst (λ rs. Grows c rs more after) (sym (plain_row name now grows.1)) grows.2) in
       let ends = subst (λ w. Ends w (flat_map given_words more)) (sym at.1) next.0 in
-      let faultless = at.0 ∙ ap₂ or_else settle (repeats_not name now grows.1) in
-      (ends_more (walk_from (held rows pending)) (45 ∷ 45 ∷ name) (flat_map given_words more) (record { apart = spelled.0.apart; faultless = faultless; more = ends }),
-        subst (λ w. (settled c (end_of w (flat_map given_words more))).rows ≡ after) (sym at.1) next.1)
+      let faultless = at.0 ∙ ap₂ or_else settle (repeats_not name now grows.1) in (
+        ends_more (walk_from (held rows pending)) (45 ∷ 45 ∷ name) (flat_map given_words more) (record { apart = spelled.0.apart; faultless = faultless; more = ends }),
+        subst (λ w. (settled c (end_of w (flat_map given_words more))).rows ≡ after) (sym at.1) next.1,
+      )
   goes ((name, Some value) ∷ more) rows pending after settle spelled grows =
       let now = (settled c (held rows pending)).rows in
       let words = flat_map given_words more in
@@ -215,6 +216,7 @@ module _ (form : Text) (c : List Rule) (cases : (name : Text) → NameCase c nam
       let ends = subst (λ w. Ends w words) (sym taken.1) next.0 in
       let valued = ends_more (waits name now) value words (record { apart = spelled.0.2; faultless = taken.0; more = ends }) in
       let ends' = subst (λ w. Ends w (value ∷ words)) (sym at.1) valued in
-      let rows_are = subst (λ w. (settled c (end_of w words)).rows ≡ after) (sym taken.1) next.1 in
-      (ends_more (walk_from (held rows pending)) (45 ∷ 45 ∷ name) (value ∷ words) (record { apart = spelled.0.0.apart; faultless = at.0 ∙ settle; more = ends' }),
-        subst (λ w. (settled c (end_of w (value ∷ words))).rows ≡ after) (sym at.1) rows_are)
+      let rows_are = subst (λ w. (settled c (end_of w words)).rows ≡ after) (sym taken.1) next.1 in (
+        ends_more (walk_from (held rows pending)) (45 ∷ 45 ∷ name) (value ∷ words) (record { apart = spelled.0.0.apart; faultless = at.0 ∙ settle; more = ends' }),
+        subst (λ w. (settled c (end_of w (value ∷ words))).rows ≡ after) (sym at.1) rows_are,
+      )

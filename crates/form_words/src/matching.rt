@@ -25,7 +25,10 @@ fn are_apart(words: &[&str]) -> bool
 }
 
 /// What the command finds in the words, where it takes them.
-pub fn matches_in<'a>(command: Command<'a>, words: &'a [&'a str]) -> Result<Option<ArgMatches<'a>>, Memory>
+pub fn matches_in<'a>(
+    command: Command<'a>,
+    words: &'a [&'a str],
+) -> Result<Option<ArgMatches<'a>>, Memory>
     requires { is_simple_and_free (app_of command) ≡ true }
     ensures some { IfOk result (λ found. IfSome found (λ matches.
         Takes (app_of command.entry) (map (λ w. w.now) words.entry.now)
