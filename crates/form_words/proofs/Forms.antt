@@ -1,14 +1,11 @@
 -- Words that begin with the word of a form and don't go on as it does are no form.
-use Rattle.std.proofs.Common.{◌≡◌, ℕ, Bool, true, false, List, ◌∷◌, Option, Some, None, inl, inr, refl, sym, ap, ◌∙◌, subst}
-use Rattle.std.specs.Prelude.{codes, is_some, IfNone, IfSome, ◌⊎◌}
+use Rattle.std.proofs.Common.{◌≡◌, ℕ, Bool, List, ◌∷◌, Option, Some, None, refl, subst}
+use Rattle.std.specs.Prelude.{codes, IfNone, IfSome}
 use Rattle.form_words.specs.declared.pace.PaceName.{PaceName}
-use Rattle.form_words.specs.declared.setting.Settings.{Settings}
 use Rattle.form_words.specs.declared.work.Work.{Work}
 use Rattle.form_words.specs.declared.work.Work.TheVariants.{Play, Run, Check, Make}
-use Rattle.form_words.specs.Settings.{no_settings, GiveSettings}
 use Rattle.form_words.specs.Works.{form_word, AskFor, Completes, IsForm, IsWork}
 use Rattle.form_words.proofs.AskedWork.{completed_within, work_of, work_of-asked}
-use Rattle.form_words.proofs.GivenSettings.{settings_of-given}
 
 -- words that are a form go on as the form of their first word does
 goes_on : (form : List ℕ) (rest : List (List ℕ)) (work other : Work) → AskFor (form ∷ rest) work → work_of (form ∷ rest) ≡ Some other → Completes rest other

@@ -1,11 +1,10 @@
 -- What the getters of matches read, by the rows.
-use Rattle.std.proofs.Common.{◌≡◌, ◌≢◌, ◌≤◌, ℕ, Bool, true, false, List, Option, Some, None, decimal, refl, sym, ap, ◌∙◌, codes}
-use Rattle.std.specs.Prelude.{option_map, IfNone, IfSome}
+use Rattle.std.proofs.Common.{◌≡◌, ◌≢◌, ◌≤◌, ℕ, Bool, true, false, List, Option, Some, None, decimal, sym, ap, ◌∙◌, codes}
+use Rattle.std.specs.Prelude.{IfNone, IfSome}
 use Rattle.clap.specs.Matches.{first_value, one_text}
 use Rattle.clap.specs.Walk.{Row, Text, first_of, one_of, rows_of}
 use Rattle.clap.specs.declared.parser.matches.Found.{Found}
 use Rattle.clap.proofs.WalkLemmas.{first_value-rows, one_text-rows}
-use Rattle.heap_model.specs.Command.{IsWithin}
 use Rattle.form_words.specs.declared.pace.PaceName.{PaceName}
 use Rattle.form_words.specs.Matched.{HasPace, HasPatience, IsFlag}
 use Rattle.form_words.specs.Settings.{most_patience, pace_word}

@@ -1,9 +1,8 @@
 -- What the command of a form finds in words is the work that they ask for.
-use Rattle.std.proofs.Common.{◌≡◌, ℕ, Bool, true, false, List, [], ◌∷◌, Option, Some, None, decimal, unwrap_or, refl, sym, ap, ap₂, ◌∙◌, subst, arith, codes}
+use Rattle.std.proofs.Common.{◌≡◌, ℕ, Bool, true, List, [], ◌∷◌, Option, Some, None, decimal, unwrap_or, refl, sym, ◌∙◌, subst, arith, codes}
 use Rattle.std.specs.Prelude.{IfSome, IfNone}
-use Rattle.clap.specs.Walk.{Row, Text, first_of}
+use Rattle.clap.specs.Walk.{Row, Text}
 use Rattle.clap.specs.Simple.{matches_of}
-use Rattle.clap.specs.Faults.{fault_of}
 use Rattle.form_words.specs.Commands.{check_app, make_app, play_app, run_app}
 use Rattle.form_words.specs.Joined.{are_apart}
 use Rattle.form_words.specs.Matched.{FindsMaking, FindsSettings, Takes}
@@ -13,7 +12,7 @@ use Rattle.form_words.specs.declared.setting.Settings.{Settings}
 use Rattle.form_words.specs.declared.work.Work.{Work}
 use Rattle.form_words.specs.declared.work.Work.TheVariants.{Play, Run, Check, Make}
 use Rattle.form_words.specs.Settings.{GiveSettings, no_settings}
-use Rattle.form_words.specs.Works.{Completes, MayBeMade, form_word, usual_patience}
+use Rattle.form_words.specs.Works.{Completes, form_word, usual_patience}
 use Rattle.form_words.proofs.GivenSettings.{patience_within}
 use Rattle.form_words.proofs.MakingWords.{make_found, make_taken}
 use Rattle.form_words.proofs.OptionForms.{check_found, check_taken}

@@ -1,16 +1,15 @@
 -- Settings are told by their words, one after another.
-use Rattle.std.proofs.Common.{Bor, map, length, fold, ◌==◌, ◌^◌, ◌<◌, ◌≡◌, ◌≢◌, ◌∷◌, [], ◌++◌, ℕ, List, false, bytes_eq, decimal, unwrap_or, refl, sym, ap, ◌∙◌, subst, arith}
-use Rattle.std.specs.Prelude.{codes, IfSome, IfNone, Option, Some, None}
+use Rattle.std.proofs.Common.{fold, ◌^◌, ◌<◌, ◌≡◌, ◌∷◌, [], ◌++◌, ℕ, List, bytes_eq, decimal, unwrap_or, refl, sym, ap, ◌∙◌, subst, arith}
+use Rattle.std.specs.Prelude.{codes, IfSome, Option, Some, None}
 use Rattle.std.specs.List.{flat_map}
 use Rattle.std.specs.Map.{lookup}
 use Rattle.std.specs.Option.{option_map_or}
 use Rattle.std.specs.Str.Parse.{digits_value}
 use Rattle.std.proofs.lemmas.Fmt.{decimal_is_IsNumeral}
-use Rattle.std.proofs.lemmas.List.{append_cancel_left}
 use Rattle.heap_model.specs.Command.{IsWithin}
 use Rattle.form_words.specs.declared.pace.PaceName.TheVariants.{Steady}
 use Rattle.form_words.specs.declared.setting.Settings.{Settings}
-use Rattle.form_words.specs.Settings.{Brief, Locked, Pace, Patience, Setting, has, most_patience, no_settings, with_setting, setting_words, IsKnownSetting, AddSettings, GiveSettings}
+use Rattle.form_words.specs.Settings.{Brief, Locked, Pace, Patience, Setting, most_patience, no_settings, with_setting, setting_words, IsKnownSetting, AddSettings, GiveSettings}
 
 -- the value of a number's digits
 pub digits_value-decimal : (n : ℕ) → n < 2 ^ 64 → digits_value 10 (decimal n) ≡ n

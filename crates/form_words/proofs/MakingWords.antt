@@ -1,12 +1,10 @@
 -- A making's command takes three words that are no options.
 use Rattle.std.proofs.Common.{◌≡◌, ◌&&◌, ℕ, Bool, true, false, not, List, [], ◌∷◌, Option, Some, None, refl, sym, ap, ap₂, ◌∙◌, subst, codes}
-use Rattle.std.specs.List.{fold, list_all}
-use Rattle.std.specs.Str.{bytes_eq}
-use Rattle.clap.specs.Walk.{Held, Row, Rule, Text, Waiting, Walk, idle, arg_by_index, arg_by_long, finished, nothing_held, plain_word, settled, walk, walk_from, walked, word_met}
+use Rattle.std.specs.List.{fold}
+use Rattle.clap.specs.Walk.{Held, Row, Rule, Text, Walk, idle, arg_by_long, finished, nothing_held, plain_word, settled, walk, walk_from, walked, word_met}
 use Rattle.clap.specs.Simple.{App, built, filled, matches_of, with_index}
 use Rattle.clap.specs.Kinds.{Kinds, or_else}
 use Rattle.clap.specs.Faults.{check_fault, defaults_fault, fault_of, settle_fault, turn_fault, walk_fault, word_fault}
-use Rattle.clap.specs.Lexer.{long_of}
 use Rattle.form_words.specs.Commands.{make_app, number_rule}
 use Rattle.form_words.specs.Joined.{are_apart, is_joined}
 use Rattle.form_words.proofs.OptionSteps.{WordCase, held, is_loose, loose, named, or_else_parts, refusal, refused, row_of_words, shape_with, word_case}

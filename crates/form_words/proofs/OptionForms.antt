@@ -1,16 +1,16 @@
 -- What the commands of a play and of a run have of words.
 use Rattle.std.proofs.Common.{◌≡◌, ◌||◌, ℕ, Bool, true, false, List, [], ◌∷◌, Option, Some, None, refl, sym, ap, ap₂, ◌∙◌, subst, codes, cond}
-use Rattle.std.specs.List.{fold, flat_map}
+use Rattle.std.specs.List.{flat_map}
 use Rattle.std.specs.Str.{bytes_eq}
 use Rattle.std.proofs.lemmas.Slice.Eq.{bytes_eq-Decides}
 use Rattle.clap.specs.Walk.{Held, Row, Rule, Text, arg_by_index, arg_by_short, default_rows, finished, has_row, nothing_held, reading_by, settled, walk, walk_from, with_default}
-use Rattle.clap.specs.Simple.{App, Shape, built, entered, matches_of, names_of}
-use Rattle.clap.specs.Kinds.{Kinds, or_else}
+use Rattle.clap.specs.Simple.{App, built, entered, matches_of}
+use Rattle.clap.specs.Kinds.{or_else}
 use Rattle.clap.specs.Faults.{check_fault, default_fault, defaults_fault, entered_fault, fault_of, given_default_fault, settle_fault, walk_fault}
 use Rattle.form_words.specs.Commands.{check_app, play_app, run_app}
 use Rattle.form_words.specs.Joined.{are_apart}
-use Rattle.form_words.proofs.OptionSteps.{NameCase, held, or_else_parts, plain, plain_built, shape_with, unknown, valued, valued_built}
-use Rattle.form_words.proofs.OptionWalk.{AllSpelled, Ends, Given, Grows, Reads, end_of, given_words, goes, reads}
+use Rattle.form_words.proofs.OptionSteps.{NameCase, or_else_parts, plain, plain_built, shape_with, unknown, valued, valued_built}
+use Rattle.form_words.proofs.OptionWalk.{AllSpelled, Given, Grows, Reads, given_words, goes, reads}
 
 -- the options of a play and of a run
 abbrev pub play_rules : List Rule

@@ -1,19 +1,17 @@
 -- What a word is to a command of options alone: one of its names, a value or a word at a place, or refused.
-use Rattle.std.proofs.Common.{◌≡◌, ◌≢◌, ◌==◌, ◌&&◌, ◌||◌, ◌+◌, suc, ℕ, Bool, true, false, not, List, [], ◌∷◌, ◌++◌, map, length, Option, Some, None, refl, sym, ap, ap₂, ◌∙◌, subst, arith, append-nil, codes, cond, true≢false}
-use Rattle.std.specs.Prelude.{option_and_then, slice_get, is_some}
-use Rattle.std.specs.List.{list_any, before_first, after_first, prefix_len}
-use Rattle.std.specs.Option.{option_map_or}
+use Rattle.std.proofs.Common.{◌≡◌, ◌==◌, ◌||◌, ◌+◌, suc, ℕ, Bool, true, false, not, List, [], ◌∷◌, ◌++◌, length, Option, Some, None, refl, sym, ap, ap₂, ◌∙◌, subst, arith, append-nil, codes, cond, true≢false}
+use Rattle.std.specs.Prelude.{slice_get}
+use Rattle.std.specs.List.{before_first, after_first, prefix_len}
 use Rattle.std.specs.Str.{bytes_eq, chars}
 use Rattle.std.proofs.lemmas.Bool.{eqb-true}
 use Rattle.std.proofs.lemmas.Slice.Eq.{bytes_eq-Decides}
 use Rattle.form_words.specs.Commands.{bare_app, plain_rule, valued_rule}
 use Rattle.form_words.specs.Joined.{is_joined, is_joined_name}
-use Rattle.clap.specs.Lexer.{has_byte, long_of, name_and_value, short_of, strip_byte}
-use Rattle.clap.specs.Walk.{Held, Names, Row, Rule, Step, Text, Waiting, Walk, idle, option, positional, arg_by_id, arg_by_index, arg_by_long, arg_by_short, at_row, bundle_met, has_row, more_values, plain_word, values_or_missing, settled, subcommand_met, used, walk_from, walked, with_values, without, word_met}
-use Rattle.clap.specs.Simple.{App, Shape, built, filled, new_app, new_rule}
+use Rattle.clap.specs.Lexer.{has_byte, long_of, short_of}
+use Rattle.clap.specs.Walk.{Held, Row, Rule, Text, Waiting, Walk, idle, option, positional, arg_by_id, arg_by_index, arg_by_long, arg_by_short, at_row, bundle_met, has_row, more_values, plain_word, values_or_missing, settled, subcommand_met, used, walk_from, walked, without, word_met}
+use Rattle.clap.specs.Simple.{Shape, built, filled}
 use Rattle.clap.specs.Kinds.{Kinds, or_else}
-use Rattle.clap.specs.Faults.{flags_fault, repeat_fault, settle_fault, turn_fault, walk_fault, word_fault}
-use Rattle.clap.specs.declared.builder.action.ArgAction.TheVariants.{SetTrue}
+use Rattle.clap.specs.Faults.{flags_fault, repeat_fault, settle_fault, turn_fault, word_fault}
 use Rattle.clap.specs.declared.builder.value_parser.Reading.TheVariants.{AsWritten}
 use Rattle.clap.specs.declared.error.kind.ErrorKind.TheVariants as kind
 use Rattle.clap.specs.declared.parser.matches.ValueSource.TheVariants.{CommandLine}

@@ -1,10 +1,10 @@
 -- A command of options alone takes just the words that give options of its own, each once at most.
-use Rattle.std.proofs.Common.{◌≡◌, ◌&&◌, ℕ, Bool, true, false, not, List, [], ◌∷◌, ◌++◌, Option, Some, None, refl, sym, ap, ap₂, ◌∙◌, subst, codes}
-use Rattle.std.specs.List.{fold, flat_map, list_all}
+use Rattle.std.proofs.Common.{◌≡◌, ◌&&◌, ℕ, Bool, true, false, not, List, [], ◌∷◌, ◌++◌, Option, Some, None, refl, sym, ap, ap₂, ◌∙◌, subst}
+use Rattle.std.specs.List.{fold, flat_map}
 use Rattle.std.specs.Str.{bytes_eq}
 use Rattle.clap.specs.Lexer.{long_of, short_of}
 use Rattle.clap.specs.Walk.{Held, Row, Rule, Text, Walk, idle, option, arg_by_id, arg_by_index, arg_by_long, arg_by_short, has_row, settled, used, walk_from, walked}
-use Rattle.clap.specs.Kinds.{Kinds, or_else}
+use Rattle.clap.specs.Kinds.{or_else}
 use Rattle.clap.specs.Faults.{repeat_fault, settle_fault, turn_fault, walk_fault}
 use Rattle.form_words.specs.Joined.{are_apart, is_joined}
 use Rattle.form_words.proofs.OptionSteps.{NameCase, WordCase, at_loose, at_plain, at_refused, at_unknown, at_value, at_valued, held, is_loose, name_for_value, named, loose, refused, no_repeat, no_value, or_else_parts, plain, plain_built, plain_row, refusal, repeats_not, row_of_words, settles, shape_with, unknown, valued, valued_built, valued_row, waits, word_case}

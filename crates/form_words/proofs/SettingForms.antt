@@ -2,13 +2,12 @@
 use Rattle.std.proofs.Common.{◌≡◌, ◌≢◌, ◌<◌, ◌^◌, ℕ, Bool, true, false, List, [], ◌∷◌, ◌++◌, Option, Some, None, map, decimal, refl, sym, ap, ap₂, ◌∙◌, subst, arith, codes, cond, true≢false}
 use Rattle.std.specs.Prelude.{is_some, option_map, option_and_then, slice_get, IfSome}
 use Rattle.std.specs.List.{flat_map}
-use Rattle.std.specs.Option.{option_map_or}
 use Rattle.std.specs.Str.{bytes_eq}
 use Rattle.std.specs.Str.Parse.{digits_value}
 use Rattle.std.proofs.lemmas.Fmt.{decimal_is_IsNumeral}
 use Rattle.std.proofs.lemmas.Slice.Eq.{bytes_eq-Decides}
-use Rattle.clap.specs.Walk.{Row, Rule, Text, arg_by_long, default_rows, first_of, has_row, more_values, one_of, row_text, with_default}
-use Rattle.clap.specs.Simple.{App, matches_of}
+use Rattle.clap.specs.Walk.{Row, Rule, Text, arg_by_long, first_of, has_row, more_values, one_of, row_text, with_default}
+use Rattle.clap.specs.Simple.{matches_of}
 use Rattle.clap.specs.Faults.{fault_of}
 use Rattle.clap.specs.declared.builder.value_parser.Reading.TheVariants.{AsWritten}
 use Rattle.clap.specs.declared.parser.matches.ValueSource.TheVariants.{DefaultValue}
@@ -22,8 +21,8 @@ use Rattle.form_words.specs.declared.setting.Settings.{Settings}
 use Rattle.form_words.specs.Settings.{AddSettings, Brief, GiveSettings, IsKnownSetting, Locked, Pace, Patience, Setting, has, most_patience, no_settings, pace_word, setting_words, with_setting}
 use Rattle.form_words.proofs.OptionSteps.{new_row, plain_built, row_of_words, valued_built}
 use Rattle.form_words.proofs.OptionWalk.{Given, Grows, IsOption, given_words}
-use Rattle.form_words.proofs.OptionForms.{IsFound, IsTaken, found, play_optional, play_rules, run_optional, run_rules, taken}
-use Rattle.form_words.proofs.SettingRows.{IsGrown, Shows, flag_row, given_of, grown, has_row_at, none_there, row_at, row_kept, row_new, row_stays, shows_more, shows_none}
+use Rattle.form_words.proofs.OptionForms.{found, play_optional, play_rules, run_optional, run_rules, taken}
+use Rattle.form_words.proofs.SettingRows.{Shows, flag_row, given_of, grown, has_row_at, none_there, row_at, row_kept, row_new, row_stays, shows_more, shows_none}
 
 -- ---- the default of the one flag
 

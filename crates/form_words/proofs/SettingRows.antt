@@ -1,22 +1,19 @@
 -- The rows of a command's matches tell the settings that words give.
-use Rattle.std.proofs.Common.{◌≡◌, ◌≢◌, ◌||◌, ◌<◌, ◌^◌, ◌==◌, ℕ, Bool, true, false, List, [], ◌∷◌, ◌++◌, Option, Some, None, length, map, decimal, inl, inr, refl, sym, ap, ap₂, ◌∙◌, subst, arith, codes, cond, ltb-true}
-use Rattle.std.specs.Prelude.{find, is_some, option_map, option_and_then, slice_get, ◌⊎◌, IfSome}
+use Rattle.std.proofs.Common.{◌≡◌, ◌||◌, ◌<◌, ◌^◌, ◌==◌, ℕ, Bool, true, false, List, [], ◌∷◌, ◌++◌, Option, Some, None, map, decimal, refl, sym, ap, ◌∙◌, subst, arith, codes, cond}
+use Rattle.std.specs.Prelude.{find, is_some, option_map}
 use Rattle.std.specs.List.{flat_map}
 use Rattle.std.specs.Str.{bytes_eq}
-use Rattle.std.specs.Str.Parse.{IsNumeral, digits_value}
+use Rattle.std.specs.Str.Parse.{IsNumeral}
 use Rattle.std.specs.Char.{digit_value}
 use Rattle.std.proofs.lemmas.Bool.{eqb-true}
 use Rattle.std.proofs.lemmas.Fmt.{decimal_is_IsNumeral}
-use Rattle.std.proofs.lemmas.Slice.Eq.{bytes_eq-Decides}
-use Rattle.clap.specs.Walk.{Row, Rule, Text, arg_by_id, arg_by_long, first_of, has_row, one_of, with_default}
-use Rattle.heap_model.specs.Command.{IsWithin}
-use Rattle.form_words.specs.Joined.{are_apart, is_joined}
-use Rattle.form_words.specs.declared.pace.PaceName.{PaceName}
+use Rattle.clap.specs.Walk.{Row, Rule, Text, has_row}
+use Rattle.form_words.specs.Joined.{is_joined}
 use Rattle.form_words.specs.declared.pace.PaceName.TheVariants.{Steady}
 use Rattle.form_words.specs.declared.setting.Settings.{Settings}
-use Rattle.form_words.specs.Settings.{AddSettings, Brief, GiveSettings, IsKnownSetting, Locked, Pace, Patience, Setting, has, most_patience, no_settings, pace_word, setting_words, with_setting}
-use Rattle.form_words.proofs.OptionSteps.{new_row, plain_built, row_of_words, valued_built}
-use Rattle.form_words.proofs.OptionWalk.{AllSpelled, AreSpelled, Given, Grows, IsLoose, IsOption, Reads, given_words}
+use Rattle.form_words.specs.Settings.{AddSettings, Brief, IsKnownSetting, Locked, Pace, Patience, Setting, has, no_settings, pace_word, setting_words, with_setting}
+use Rattle.form_words.proofs.OptionSteps.{row_of_words}
+use Rattle.form_words.proofs.OptionWalk.{AllSpelled, AreSpelled, Given, Grows, IsLoose, IsOption, given_words}
 
 -- the row of a name
 abbrev pub row_at : Text → List Row → Option Row

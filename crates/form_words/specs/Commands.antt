@@ -1,5 +1,5 @@
 -- The command of each form: what may stand behind the form's word.
-use Rattle.std.specs.Prelude.{ℕ, true, List, codes, Some}
+use Rattle.std.specs.Prelude.{true, codes, Some}
 use Rattle.clap.specs.Words.{App, Rule, Text, new_app, new_rule, with_rule}
 use Rattle.clap.specs.declared.builder.action.ArgAction.TheVariants.{SetTrue}
 

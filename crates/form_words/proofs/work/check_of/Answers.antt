@@ -1,4 +1,4 @@
-use Rattle.std.proofs.Common.{◌≡◌, ℕ, Bor, List, map, refl}
+use Rattle.std.proofs.Common.{ℕ, Bor, List, map, refl}
 use Rattle.form_words.proofs.FoundWorks.{check_completes, no_check_found}
 use Rattle.form_words.proofs.work.check_of.Goals as goal
 

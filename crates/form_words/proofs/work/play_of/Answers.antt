@@ -1,4 +1,4 @@
-use Rattle.std.proofs.Common.{◌≡◌, ℕ, Bor, List, map, refl, subst}
+use Rattle.std.proofs.Common.{ℕ, Bor, List, map, refl, subst}
 use Rattle.clap.specs.Simple.{App}
 use Rattle.form_words.specs.Matched.{FindsSettings}
 use Rattle.form_words.proofs.FoundWorks.{no_play_found, play_completes}

@@ -1,6 +1,6 @@
 use Rattle.std.proofs.Common.{rules}
 use Rattle.std.proofs.lemmas.Result.{IfOk-weaker}
-use Rattle.form_words.proofs.Forms.{found_within, no_check, no_make, no_play, no_run}
+use Rattle.form_words.proofs.Forms.{found_within, no_play, no_run}
 use Rattle.form_words.proofs.work.Work.of.Goals as goal
 
 pub returns-in-play-clause-none : goal.returns-in-play-clause-none
