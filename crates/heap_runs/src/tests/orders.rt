@@ -80,6 +80,7 @@ fn a_hundred_runs_have_orders(rt: HostRuntime) -> Result<(), Fail> {
         let (groups, spine) = SIZES[start as usize % SIZES.len()];
         let heap = Heap::make(groups, spine, 2).ok_or("the limits")?;
         let run = run_from(&rt, alloc, heap, start)?;
+        assert!(rt; run.tells_all(), "{start}");
         let logs = run.closed.logs();
         let (end, order) = order_of(alloc, heap, logs, &run.begun, MOST_STEPS)?;
         assert_eq!(rt; end, End::Found, "{start}");

@@ -8,7 +8,7 @@ use super::together::Together;
 use crate::{Ran, run_seats};
 use collector_turns::Collector;
 use core_machine::Log;
-use heap_model::{Heap, Memory};
+use heap_model::{Command, Entry, Heap, Memory};
 use heap_table::{Closed, HeapTable, Holder};
 use mutator_seat::Seat;
 use slack_pace::Steady;
@@ -22,6 +22,38 @@ pub(super) struct Run {
     pub closed: Closed,
     /// The seats whose commands were begun, in the order in which they were.
     pub begun: Vec<u8>,
+    scripts: Vec<Vec<Command>>,
+}
+
+impl Run {
+    /// Whether each seat has told all commands of its script, in their order.
+    pub fn tells_all(&self) -> bool {
+        for (number, script) in self.scripts.iter().enumerate() {
+            let Some(log) = self.closed.logs().get(number) else {
+                return false;
+            };
+            if !answers(log.as_slice(), script.as_slice()) {
+                return false;
+            }
+        }
+        true
+    }
+}
+
+/// Whether the replies of the log are to these commands, and then to a leave.
+fn answers(log: &[Entry], script: &[Command]) -> bool {
+    let mut rest = script.iter();
+    for entry in log {
+        match *entry {
+            Entry::Said {
+                command: Command::Leave,
+                ..
+            } => return rest.next().is_none(),
+            Entry::Said { command, .. } if rest.next() != Some(&command) => return false,
+            _ => {}
+        }
+    }
+    false
 }
 
 /// The seats of these holders, in their order.
@@ -64,5 +96,9 @@ pub(super) fn run_from<R: Threads + Wait + Sync>(
         &gate,
     )?;
     let begun = gate.order(alloc)?;
-    Ok(Run { closed, begun })
+    Ok(Run {
+        closed,
+        begun,
+        scripts,
+    })
 }
