@@ -112,7 +112,8 @@ pub(super) fn scripts_from(
     let made = make_script(alloc, start, seats, LINES)?;
     let mut scripts = Vec::new(alloc);
     for number in 0..seats {
-        scripts.push(script_of_seat(alloc, made.lines.as_slice(), number)?)?;
+        let script = script_of_seat(alloc, made.lines.as_slice(), number)?;
+        scripts.push(script)?;
     }
     Ok(scripts)
 }
