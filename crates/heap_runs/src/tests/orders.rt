@@ -89,7 +89,6 @@ fn a_hundred_runs_have_orders(rt: HostRuntime) -> Result<(), Fail> {
             seen.note_all(log);
         }
     }
-    println!(rt; "{seen:?}")?;
     assert!(rt; seen.is_ample());
     Ok(())
 }

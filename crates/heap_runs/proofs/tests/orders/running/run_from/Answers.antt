@@ -15,4 +15,4 @@ run_seats-requires-clause-may g c κs within =
     let scripts = c.in_ok-scripts in
     subst (λ (l : List (Vec Command Global)). MayRun c.in_ok-seats.seats.items c.make-collector.result (map items l)) (sym c.as_slice.ensures.value)
     (may_run c.args.heap scripts.scripts.items made.collector made.holders.items made.ensures.heap made.ensures.numbers made.ensures.each c.in_ok-seats.seats.items c.make-collector.result
-        c.in_ok-seats.ensures c.make-collector.ensures scripts.ensures.seated scripts.ensures.short scripts.ensures.each)
+    c.in_ok-seats.ensures c.make-collector.ensures scripts.ensures.seated scripts.ensures.short scripts.ensures.each)
