@@ -20,6 +20,7 @@ pub mod RoleOn
 pub mod RunsEnd
 pub mod SeatTells
 pub mod Noting
+pub mod OpenedSeats
 pub mod Serving
 pub mod Slacking
 pub mod Standing

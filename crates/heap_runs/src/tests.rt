@@ -13,6 +13,7 @@ use std::test::Fail;
 
 mod growing;
 mod one_table;
+mod orders;
 mod pacing;
 mod seat_runs;
 

@@ -1,0 +1,91 @@
+-- The seats of a table that opens may run short scripts.
+use Rattle.std.proofs.Common.{◌≡◌, ℕ, ◌<◌, ◌≤◌, List, [], length, map, Vec, Global, None, sym, ap, subst, ◌∙◌, arith}
+use Rattle.std.specs.Prelude.{All, slice_index_or}
+use Rattle.std.specs.List.{range_with_len}
+use Rattle.std.proofs.lemmas.List.{length-map, get_or-replicate}
+use Rattle.std.proofs.lemmas.List.Elements.{All-nil, All-map}
+use Rattle.std.proofs.lemmas.List.FromFn.{length-range_with_len, get_or-range_with_len}
+use Rattle.std.proofs.Math.ListN.{get_or-map}
+use Rattle.atomic_table.specs.Seated.{TableId}
+use Rattle.heap_model.specs.calls.SeatLaws.{IsOwn}
+use Rattle.heap_model.specs.calls.SeatState.{own_graph_seat}
+use Rattle.heap_model.specs.declared.command.Command.{Command}
+use Rattle.heap_model.specs.declared.heap.Heap.{Heap}
+use Rattle.heap_model.specs.graph.Graph.{GraphSeat, opening_graph_seat}
+use Rattle.heap_model.specs.graph.Objects.{absent_graph_seat}
+use Rattle.core_machine.specs.seat.Seat.{Seat}
+use Rattle.heap_table.specs.CollectorHeld.{CollectorHeld}
+use Rattle.heap_table.specs.Opened.{IsOpened}
+use Rattle.heap_table.specs.SeatHeld.{SeatHeld}
+use Rattle.mutator_seat.specs.Resting.{IsBetweenCalls, seat_state}
+use Rattle.collector_turns.specs.Collector.{CollectorValue}
+use Rattle.heap_runs.specs.RunningSeats.{MayRun}
+use Rattle.heap_runs.specs.SeatWork.{IsOfScript, IsReadyToWork, script_at}
+
+-- such a seat is between two calls
+pub between_opened : (table : TableId) (heap : Heap) (held : SeatHeld) → IsOpened table heap held → IsBetweenCalls held
+between_opened table heap held opened = record {
+  idle = ap (λ (s : Seat). s.place) opened.seat_is;
+  own = subst (λ (s : Seat). All (IsOwn held.number) s.mine) (sym opened.seat_is) (All-nil (IsOwn held.number));
+  stamps = omega (arith, ap (λ (s : Seat). s.sets) opened.seat_is);
+}
+
+-- by its own entries, of which there are none, it is as at the opening
+own_opened : (table : TableId) (heap : Heap) (held : SeatHeld) → IsOpened table heap held → held.number < heap.seats → own_graph_seat (seat_state held) ≡ opening_graph_seat
+own_opened table heap held opened within =
+    subst (λ (s : Seat). own_graph_seat (seat_state (record held { seat = s })) ≡ opening_graph_seat) (sym opened.seat_is)
+    (subst (λ (h : Heap). own_graph_seat (record { heap = h; number = held.number; mine = []; spare = held.spare }) ≡ opening_graph_seat) (sym opened.heap_is)
+    (get_or-replicate heap.seats held.number opening_graph_seat absent_graph_seat within))
+
+-- and may work on its script
+ready_opened : (table : TableId) (heap : Heap) (scripts : List (List Command)) (held : SeatHeld) → IsOpened table heap held → held.number < heap.seats → length scripts ≡ heap.seats
+    → length (script_at scripts held.number) ≤ 20 → All IsOfScript (script_at scripts held.number) → IsReadyToWork table heap scripts held
+ready_opened table heap scripts held opened within seated short each =
+    let own = own_opened table heap held opened within in
+    record {
+      of_table = record { table_is = opened.table_is; heap_is = opened.heap_is };
+      scripted = omega (arith, within, seated);
+      may = record {
+        present = ap (λ (g : GraphSeat). g.left) own;
+        each = each;
+        names = omega (arith, short, ap (λ (g : GraphSeat). length g.objects) own);
+        stamps = omega (arith, short, ap (λ (g : GraphSeat). g.sets) own);
+      };
+    }
+
+-- the commands in a list of them
+abbrev pub items : Vec Command Global → List Command
+items script = script.items
+
+module _ (heap : Heap) (scripts : List (Vec Command Global)) (made : CollectorHeld) (holders : List SeatHeld) (heap_is : made.heap ≡ heap)
+    (numbers : map (λ held. held.number) holders ≡ range_with_len 0 heap.seats) (opened : All (IsOpened made.table heap) holders) where
+  many_seats : length holders ≡ heap.seats
+  many_seats = sym (length-map holders (λ (held : SeatHeld). held.number)) ∙ ap length numbers ∙ length-range_with_len 0 heap.seats
+
+  number_there : (k : ℕ) (d : SeatHeld) → k < length holders → (slice_index_or holders k d).number ≡ k
+  number_there k d below =
+      sym (get_or-map (λ (held : SeatHeld). held.number) holders k d) ∙ ap (λ l. slice_index_or l k d.number) numbers
+      ∙ get_or-range_with_len 0 heap.seats k d.number (omega (arith, below, many_seats)) ∙ omega arith
+
+  -- each is between two calls
+  pub all_between : All IsBetweenCalls holders
+  all_between k d below = between_opened made.table heap (slice_index_or holders k d) (opened k d below)
+
+  -- and they may run the scripts
+  pub may_run : (seats : List SeatHeld) (collector : CollectorValue) → seats ≡ holders → collector ≡ record { holder = made; last_turn = None } → length scripts ≡ heap.seats
+      → All (λ (script : Vec Command Global). length script.items ≤ 20) scripts → All (λ (script : Vec Command Global). All IsOfScript script.items) scripts
+      → MayRun seats collector (map items scripts)
+  may_run seats collector same collector_is seated short each =
+      let lists = map items scripts in
+      let many : length lists ≡ heap.seats = length-map scripts items ∙ seated in
+      let shorts = All-map (λ (l : List Command). length l ≤ 20) items scripts short in
+      let eaches = All-map (λ (l : List Command). All IsOfScript l) items scripts each in
+      subst (λ l. MayRun l collector lists) (sym same) (subst (λ v. MayRun holders v lists) (sym collector_is) (record {
+        numbers = numbers ∙ ap (λ (h : Heap). range_with_len 0 h.seats) (sym heap_is);
+        ready = λ k d below.
+            let held = slice_index_or holders k d in
+            let within : held.number < heap.seats = omega (arith, number_there k d below, below, many_seats) in
+            let scripted : held.number < length lists = omega (arith, within, many) in
+            subst (λ h. IsReadyToWork made.table h lists held) (sym heap_is)
+            (ready_opened made.table heap lists held (opened k d below) within many (shorts held.number [] scripted) (eaches held.number [] scripted));
+      }))
