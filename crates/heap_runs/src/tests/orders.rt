@@ -22,7 +22,7 @@ const SIZES: [(u16, u16); 6] = [(1, 0), (2, 4), (3, 8), (4, 0), (1, 4), (2, 8)];
 const MOST_STEPS: u32 = 20_000;
 
 /// How often things have come that these runs are to bring.
-#[derive(Clone, Copy, Debug)]
+#[derive(Clone, Copy)]
 struct Seen {
     full: u32,
     spine_full: u32,
