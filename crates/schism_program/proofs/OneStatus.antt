@@ -1,5 +1,5 @@
 -- Words and input call for one status alone.
-use Rattle.std.proofs.Common.{◌≡◌, ℕ, List, [], Option, Some, refl, sym, ap, subst, ◌∙◌, arith}
+use Rattle.std.proofs.Common.{◌≡◌, ℕ, List, Option, Some, refl, sym, ap, subst, ◌∙◌, arith}
 use Rattle.form_words.specs.declared.work.Work.{Work}
 use Rattle.form_words.specs.declared.work.Work.TheVariants.{Play, Run, Check, Make}
 use Rattle.form_words.specs.Works.{AskFor}

@@ -1,5 +1,5 @@
 -- The scripts of the seats are those of a run.
-use Rattle.std.proofs.Common.{◌≡◌, ◌≢◌, ℕ, ◌+◌, ◌<◌, ◌≤◌, ◌==◌, Bool, true, false, if◌then◌else◌, List, [], ◌∷◌, ◌++◌, length, map, Vec, Global, sym, ap, ◌∙◌, subst, arith}
+use Rattle.std.proofs.Common.{◌≡◌, ℕ, ◌+◌, ◌<◌, ◌≤◌, ◌==◌, Bool, true, false, if◌then◌else◌, List, [], ◌∷◌, ◌++◌, length, map, Vec, Global, sym, ap, ◌∙◌, subst, arith}
 use Rattle.std.specs.Prelude.{All, slice_index_or}
 use Rattle.std.specs.List.{AllByRecursion, range_with_len}
 use Rattle.std.proofs.lemmas.List.{length-map}
@@ -8,7 +8,6 @@ use Rattle.std.proofs.lemmas.List.FromFn.{length-map-range_with_len, get_or-map-
 use Rattle.std.proofs.Math.ListN.{get_or-map}
 use Rattle.heap_model.specs.declared.command.Command.{Command}
 use Rattle.heap_model.specs.declared.command.Command.TheVariants as commands
-use Rattle.heap_model.specs.Limits.{stamp_limit}
 use Rattle.locked_heap.specs.Given.{IsOfScript, IsSeatScript}
 use Rattle.script_text.specs.declared.script.Form.TheVariants.{Run}
 use Rattle.script_text.specs.declared.script.Line.{Line}
@@ -16,7 +15,7 @@ use Rattle.script_text.specs.declared.script.Line.TheVariants as lines
 use Rattle.script_text.specs.declared.script.Script.{Script}
 use Rattle.script_text.specs.Grammar.{IsLine, IsScripted}
 use Rattle.script_text.specs.Writing.{IsOfForm}
-use Rattle.schism_program.specs.Running.{seat_commands, line_commands}
+use Rattle.schism_program.specs.Running.{seat_commands}
 
 -- the script of each seat, in the order of their numbers
 abbrev pub scripts_by_seat : Script → List (List Command)

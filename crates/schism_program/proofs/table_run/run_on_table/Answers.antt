@@ -1,9 +1,6 @@
-use Rattle.std.proofs.Common.{◌≡◌, ℕ, List, Vec, Global, [], false, map, sym, ap, subst, ◌∙◌}
-use Rattle.std.specs.Prelude.{All}
-use Rattle.std.specs.List.{range_with_len}
+use Rattle.std.proofs.Common.{List, false, map, sym, ap, subst, ◌∙◌}
 use Rattle.std.proofs.lemmas.List.{length-map}
 use Rattle.heap_model.specs.Logs.{logs_of}
-use Rattle.heap_model.specs.declared.command.Command.{Command}
 use Rattle.heap_model.specs.declared.entry.Entry.{Entry}
 use Rattle.heap_model.specs.declared.heap.Heap.{Heap}
 use Rattle.heap_model.specs.graph.Legal.{IsObjectLegal}
@@ -13,9 +10,9 @@ use Rattle.heap_table.specs.SeatHeld.{SeatHeld}
 use Rattle.locked_heap.specs.Given.{IsSeatScript}
 use Rattle.collector_turns.specs.Collector.{CollectorValue}
 use Rattle.heap_runs.specs.Finishing.{HasLogs}
-use Rattle.heap_runs.specs.SeatWork.{HaveWorked, script_at}
+use Rattle.heap_runs.specs.SeatWork.{HaveWorked}
 use Rattle.schism_program.specs.Running.{IsRunOf, IsOfTable}
-use Rattle.schism_program.proofs.OpenedSeats.{all_between, many_seats, may_run, told_none}
+use Rattle.schism_program.proofs.OpenedSeats.{many_seats, may_run, told_none}
 use Rattle.schism_program.proofs.SeatScripts.{items, handed_script, seat_script, seated}
 use Rattle.schism_program.proofs.TableRuns.{run_of_table, table_of_run}
 use Rattle.schism_program.proofs.table_run.run_on_table.Goals as goal
