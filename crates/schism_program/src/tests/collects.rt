@@ -15,7 +15,7 @@ const PLAYS: [(&str, &str, &str); 7] = [
 ];
 
 // A refused record leaves the four fragments of the reserve alone, and these are no garbage: the cycle frees the one of the dropped record.
-const RESERVE: (&str, &str, &str) = (
+pub(super) const RESERVE: (&str, &str, &str) = (
     "schism 1; heap 1 0 1; 0 new 1 2; 0 new 2 47; 0 nil 1; 0 collect",
     "history 1 play; heap 1 0 1; 0 takes 5; 0 new 1 2 = 0.0; 0 new 2 47 = full need 16 found 4; 0 nil 1 = ok; c phase 1; 0 answers 1; c phase 2; 0 answers 2; c phase 3; 0 answers 3; c phase 4; 0 answers 4; c phase 5; 0 answers 5; c frees 1; c phase 6; 0 answers 6; c ends 0 kept 15; 0 collect = cycle 0; space used 15 of 16 spine 0 of 0; 0 gives back 4; 0 leave = ok; c phase 8; c phase 9; c phase 10; c phase 11; c phase 12; c frees 11; c phase 13; c ends 1 kept 0; end used 0",
     "legal 29",

@@ -43,17 +43,20 @@ const PLAYS: [(&str, &str, &str); 9] = [
         "history 1 play; heap 1 0 1; 0 takes 5; 0 new 1 2 = 0.0; 0 new 2 47 = full need 16 found 4; 0 len 1 = 2; space used 16 of 16 spine 0 of 0; 0 gives back 4; 0 leave = ok; c phase 1; c phase 2; c phase 3; c phase 4; c phase 5; c frees 12; c phase 6; c ends 0 kept 0; end used 0",
         "legal 14",
     ),
-    (
-        "schism 1; heap 4 0 1; 0 new 1 47; 0 num 2 9; 0 set 1 46 2; 0 get 3 1 46; 0 set 1 47 2",
-        "history 1 play; heap 4 0 1; 0 takes 5; 0 takes 16; 0 new 1 47 = 0.0; 0 num 2 9 = ok; 0 set 1 46 2 = was -; 0 get 3 1 46 = number 9 at 0:1; 0 set 1 47 2 = no field; space used 32 of 64 spine 0 of 0; 0 gives back 5; 0 leave = ok; c phase 1; c phase 2; c phase 3; c phase 4; c phase 5; c frees 16; c frees 11; c phase 6; c ends 0 kept 0; end used 0",
-        "legal 18",
-    ),
+    CHAIN,
     (
         "schism 1; heap 4 0 2; 0 new 1 2; 1 new 1 2; 0 num 2 7; 0 set 0 3 2; 1 get 3 0 3; 1 set 0 3 1; 0 get 4 0 3",
         "history 1 play; heap 4 0 2; 0 takes 5; 0 new 1 2 = 0.0; 1 takes 16; 1 new 1 2 = 1.0; 0 num 2 7 = ok; 0 set 0 3 2 = was -; 1 get 3 0 3 = number 7 at 0:1; 1 set 0 3 1 = was 0:1; 0 get 4 0 3 = object 1.0 at 1:1; space used 32 of 64 spine 0 of 0; 0 gives back 4; 0 leave = ok; 1 gives back 15; 1 leave = ok; c phase 1; c phase 2; c phase 3; c phase 4; c phase 5; c frees 12; c frees 1; c phase 6; c ends 0 kept 0; end used 0",
         "legal 22",
     ),
 ];
+
+// A record with as many fields as there may be, of which the last stands in the last fragment of its chain.
+pub(super) const CHAIN: (&str, &str, &str) = (
+    "schism 1; heap 4 0 1; 0 new 1 47; 0 num 2 9; 0 set 1 46 2; 0 get 3 1 46; 0 set 1 47 2",
+    "history 1 play; heap 4 0 1; 0 takes 5; 0 takes 16; 0 new 1 47 = 0.0; 0 num 2 9 = ok; 0 set 1 46 2 = was -; 0 get 3 1 46 = number 9 at 0:1; 0 set 1 47 2 = no field; space used 32 of 64 spine 0 of 0; 0 gives back 5; 0 leave = ok; c phase 1; c phase 2; c phase 3; c phase 4; c phase 5; c frees 16; c frees 11; c phase 6; c ends 0 kept 0; end used 0",
+    "legal 18",
+);
 
 #[test]
 fn plays_scripts_and_checks_the_plays(rt: HostRuntime) -> Result<(), Fail> {

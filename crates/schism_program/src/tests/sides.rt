@@ -1,6 +1,9 @@
 //! Which side failed, where a read or a write does, and what comes where none fails.
 
+use super::collects::RESERVE;
 use super::comparing::{holds, tells};
+use super::scripts::CHAIN;
+use super::several_seats::text_of;
 use super::{FIRST, FIRST_PLAYED, refused, status_of};
 use crate::status::Status;
 use heap_model::OpenGate;
@@ -55,8 +58,12 @@ fn fails_at_each_call(
 #[test]
 fn says_which_side_failed(rt: HostRuntime) -> Result<(), Fail> {
     let alloc = rt.alloc();
-    fails_at_each_call(&rt, alloc, "play", FIRST, FIRST_PLAYED)?;
-    fails_at_each_call(&rt, alloc, "check", FIRST_PLAYED, "legal 15\n")
+    let (script, played, _) = CHAIN;
+    let (script, played) = (text_of(alloc, script)?, text_of(alloc, played)?);
+    fails_at_each_call(&rt, alloc, "play", &script, &played)?;
+    let (_, history, _) = RESERVE;
+    let history = text_of(alloc, history)?;
+    fails_at_each_call(&rt, alloc, "check", &history, "legal 29\n")
 }
 
 // What is told of the text, where there is room for so many bytes of it.
