@@ -18,7 +18,7 @@ use Rattle.core_machine.proofs.table_lemmas.Bits.{bool_tells}
 use Rattle.heap_table.specs.Made.{Made, MakesSteps, IsSound}
 use Rattle.heap_table.specs.SeatHeld.{SeatHeld, IsStepped}
 use Rattle.heap_table.specs.Told.{ToldAtStep}
-use Rattle.heap_table.proofs.MadeSteps.{makes_none, makes_append, makes_one, step_nears}
+use Rattle.heap_table.proofs.MadeSteps.{makes_none, step_falls, step_leaves_room, step_pays, step_makes}
 use Rattle.array_spine.specs.Bearing.{BeginsPlacing}
 
 -- the places from that of the spine's claim on, and that behind them
@@ -32,8 +32,7 @@ StandsPlacing _ = ⊥
 
 -- while the array is placed, stored and born: no more entries are added than were owed
 pub record WhilePlacing (first now : SeatHeld) : Type 0 where
-  pub made : List Made
-  pub makes : MakesSteps first now made
+  pub steps : (made : List Made) × MakesSteps first now made
   pub sound : IsSound now
   pub stands : StandsPlacing now.seat.place
   pub reserve_stays : now.seat.reserve ≡ first.seat.reserve
@@ -44,8 +43,7 @@ pub placing_begins : (held : SeatHeld) (fragments : List ℕ) (cells words d : �
 placing_begins held fragments cells words d begins sound room =
     let owed : owes held.seat ≡ 1 = ap (owes_at held.seat) begins.place_is in
     record {
-      made = [];
-      makes = makes_none held;
+      steps = ([], makes_none held);
       sound = sound;
       stands = subst StandsPlacing (sym begins.place_is) tt;
       reserve_stays = refl;
@@ -85,18 +83,16 @@ pub placing_on : (first now new : SeatHeld) (step : Step) (found : ℕ) → Whil
     → ToldAtStep now.heap now.number now.seat found → WhilePlacing first new × (steps_left new.heap new.seat < steps_left now.heap now.seat)
 placing_on first now new step found while due stepped told =
     let sound = while.sound in
-    let near = step_nears now.heap now.number now.seat sound.limits (omega (arith, sound.within, sound.limits.seats_fit)) sound.fits step found new.seat due stepped.seat_is in
     let on = subst (λ (s : Seat). StandsOn now.seat s) (sym stepped.seat_is) (stands_on now.heap now.number now.seat found now.seat.place refl while.stands) in (
       record {
-        made = while.made ++ record { step = step; found = found } ∷ [];
-        makes = makes_append first now new while.made (record { step = step; found = found } ∷ []) while.makes (makes_one now new step found due told stepped);
+        steps = step_makes first now new step found sound due stepped told while.steps;
         sound = sound_on now new found sound stepped told;
         stands = on.0;
         reserve_stays = on.1 ∙ while.reserve_stays;
-        paid = omega (arith, while.paid, near.1);
-        room = omega (arith, while.room, near.1, stepped.room_stays);
+        paid = step_pays first now new step found sound due stepped told (1 + length first.seat.mine) while.paid;
+        room = step_leaves_room first now new step found sound due stepped told while.room;
       },
-      subst (λ (h : Heap). steps_left h new.seat < steps_left now.heap now.seat) (sym stepped.heap_stays) near.0,
+      step_falls first now new step found sound due stepped told,
     )
 
 -- once no step is due the call is over

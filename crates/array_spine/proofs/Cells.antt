@@ -14,8 +14,8 @@ use Rattle.core_machine.specs.seat.Commands.{field_of}
 use Rattle.core_machine.specs.seat.Registers.{register_head}
 use Rattle.core_machine.specs.seat.Access.{after_address, after_index, at_payload}
 use Rattle.core_machine.specs.seat.Seat.{Seat, with_entries}
-use Rattle.core_rule.specs.Flight.{WhileAccess}
-use Rattle.core_rule.specs.Reached.{ReachesInBook}
+use Rattle.core_rule.specs.cycle.Flight.{WhileAccess}
+use Rattle.core_rule.specs.told.Reached.{ReachesInBook}
 use Rattle.heap_table.specs.Made.{Made, MakesSteps}
 use Rattle.core_machine.proofs.seat_lemmas.FieldPlaces.{field_cases}
 use Rattle.heap_table.specs.SeatHeld.{SeatHeld, IsStepped}

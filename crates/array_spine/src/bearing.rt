@@ -1,13 +1,10 @@
-ghost use Rattle.std.specs.Prelude.{◌≡◌, ◌+◌, ◌*◌, ◌≤◌, ◌++◌, List, [], ◌∷◌, length, slice_set, slice_index_or};
+ghost use Rattle.std.specs.Prelude.{◌≡◌, ◌≤◌, ◌++◌, List, [], ◌∷◌};
 ghost use Rattle.heap_model.specs.declared.command.Command.TheVariants.{Array};
 ghost use Rattle.heap_model.specs.declared.entry.Entry.TheVariants.{Said};
-ghost use Rattle.heap_model.specs.declared.id.Id.TheVariants.{Made as MadeBy};
 ghost use Rattle.heap_model.specs.declared.reply.Reply.TheVariants.{Made as TellsMade};
 ghost use Rattle.core_machine.specs.calls.Making.{name_after};
-ghost use Rattle.core_machine.specs.declared.place.Place.TheVariants.{Idle};
-ghost use Rattle.core_machine.specs.declared.seat.register.Register.TheVariants.{Object};
 ghost use Rattle.heap_table.specs.Made.{Made, MakesSteps, BySteps};
-ghost use Rattle.object_chain.specs.Bearing.{IsBorn};
+ghost use Rattle.object_chain.specs.Bearing.{IsBorn, HoldsNewborn};
 ghost use Rattle.array_spine.specs.Bearing.{BeginsPlacing, IsStored};
 
 use crate::budget::Budget;
@@ -28,11 +25,7 @@ pub fn bear_array<L: Entries>(
     ensures steps { (made : List Made) × MakesSteps holder.old holder.new made }
     ensures stored { BySteps holder.old holder.new (λ made. IsStored made (Array d cells) (name_after holder.old.number holder.old.seat.made) fragments.now budget.words) }
     ensures born { BySteps holder.old holder.new (λ made. IsBorn made fragments.now) }
-    ensures id { result ≡ MadeBy holder.old.number holder.old.seat.made }
-    ensures counted { holder.new.seat.made ≡ holder.old.seat.made + 1 }
-    ensures register { holder.new.seat.registers ≡ slice_set holder.old.seat.registers d (Object (slice_index_or fragments.now 0 0) result) }
-    ensures reserve { holder.new.seat.reserve ≡ holder.old.seat.reserve }
-    ensures over { holder.new.seat.place ≡ Idle }
+    ensures newborn { HoldsNewborn holder.old holder.new d fragments.now result }
     ensures told { holder.new.seat.mine ≡ holder.old.seat.mine ++ Said holder.old.number (Array d cells) (TellsMade result) ∷ [] }
 {
     let id = Id::Made {

@@ -2,7 +2,6 @@
 #![tactic(auto)]
 
 mod collector;
-mod rooming;
 mod turning;
 
 pub use collector::Collector;

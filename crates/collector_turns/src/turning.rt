@@ -12,19 +12,15 @@ impl<L: Entries, C: CountsEntries> CollectorCalls for Collector<L, C> {
 
     ghost turned = { TakesTurn };
 
+    ghost roomed = { MakesRoom };
+
     fn turn(&mut self) -> Turn {
         let (_, turn) = self.holder.turn();
         self.last_turn = Some(turn);
         turn
     }
 
-    fn room(&mut self, n: usize) -> Result<(), Memory>
-        ensures same { state_of self.new ≡ record (state_of self.old) { spare = (state_of self.new).spare } }
-        ensures more { (state_of self.old).spare ≤ (state_of self.new).spare }
-        ensures room { OnOk result (n ≤ (state_of self.new).spare) }
-        ensures memory { OnErr result (state_of self.new ≡ state_of self.old) }
-        ensures stays { MakesRoom self.old self.new }
-    {
+    fn room(&mut self, n: usize) -> Result<(), Memory> {
         self.holder.room(n)
     }
 

@@ -1,3 +1,4 @@
+pub mod Terms
 pub mod call_lemmas
 pub mod collector_lemmas
 pub mod machine_lemmas

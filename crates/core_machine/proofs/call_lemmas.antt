@@ -15,3 +15,4 @@ pub mod PlayingOn
 pub mod RepliesAlone
 pub mod Restoring
 pub mod Stages
+pub mod Underway

@@ -14,31 +14,20 @@ pub mod Local
 pub mod Walk
 use Rattle.std.proofs.Common.{◌≡◌, ℕ, ◌^◌, ◌<◌, Option, Some, None, length, refl, subst}
 use Rattle.std.specs.Prelude.{IfSome, option_map}
-use Rattle.heap_model.specs.declared.heap.Heap.{Heap}
-use Rattle.heap_model.specs.Heap.{IsHeap}
+use Rattle.core_machine.proofs.Terms.{Heap, IsHeap, Granting, Withdrawing, Gathering, Returning, Refusing, Placing, Listing, Storing, Bearing, Place, LoadingMeta, Walking}
+use Rattle.core_machine.proofs.Terms.{Locating, Indexing, Getting, Naming, LoadingOld, ShadingOld, ShadingNew, Swapping, Move, next_move, due_step, seat_after, Step, Nears, owes}
+use Rattle.core_machine.proofs.Terms.{steps_left, FoundPointsWithin, address_of, Fits, Seat, Command, MayBegin, after_begin}
 use Rattle.core_machine.specs.declared.place.Collecting.{Collecting}
 use Rattle.core_machine.specs.declared.place.Collecting.TheVariants.{Looking, Asking as AskingBehind, Comparing, Noting}
 use Rattle.core_machine.specs.declared.place.Leaving.{Leaving}
 use Rattle.core_machine.specs.declared.place.Leaving.TheVariants.{Emptying, Parting}
 use Rattle.core_machine.specs.declared.place.Making.{Making}
-use Rattle.core_machine.specs.declared.place.Making.TheVariants.{Granting, Withdrawing, Gathering, Returning, Refusing, Placing, Listing, Storing, Bearing}
-use Rattle.core_machine.specs.declared.place.Place.{Place}
 use Rattle.core_machine.specs.declared.place.Place.TheVariants as places
 use Rattle.core_machine.specs.declared.place.Polling.{Polling}
 use Rattle.core_machine.specs.declared.place.Polling.TheVariants.{Asking, Shading, Answering}
 use Rattle.core_machine.specs.declared.place.Access.{Access}
-use Rattle.core_machine.specs.declared.place.Access.TheVariants.{LoadingMeta, Walking, Locating, Indexing, Getting, Naming, LoadingOld, ShadingOld, ShadingNew, Swapping}
-use Rattle.core_machine.specs.Moves.{Move, next_move, due_step, seat_after}
-use Rattle.core_machine.specs.declared.step.Step.{Step}
-use Rattle.core_machine.specs.calls.Owes.{Nears, owes, steps_left}
-use Rattle.core_machine.specs.table.Decode.{FoundPointsWithin}
-use Rattle.core_machine.specs.table.Operation.{address_of}
 use Rattle.core_machine.proofs.seat_lemmas.FittingEntries.{fits_entries}
-use Rattle.core_machine.specs.seat.Fits.{Fits}
-use Rattle.core_machine.specs.seat.Seat.{Seat}
-use Rattle.heap_model.specs.declared.command.Command.{Command}
 use Rattle.heap_model.specs.declared.command.Command.TheVariants as commands
-use Rattle.core_machine.specs.machine.Machine.{MayBegin, after_begin}
 use Rattle.core_machine.proofs.moves.Standing.{MoveStands, PlaceStands, BeginStands, CommandStands}
 
 -- each move of the making of an object stands

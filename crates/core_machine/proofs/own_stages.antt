@@ -19,31 +19,17 @@ pub mod Way
 pub mod Weaker
 use Rattle.std.proofs.Common.{◌≡◌, ℕ, ◌^◌, ◌<◌, List, [], ◌∷◌, ◌++◌, length, Option, Some, None, refl, sym, ap, subst, ◌∙◌, append_assoc}
 use Rattle.std.specs.Prelude.{IfSome}
-use Rattle.heap_model.specs.Heap.{IsHeap}
-use Rattle.heap_model.specs.declared.command.Command.{Command}
-use Rattle.heap_model.specs.declared.entry.Entry.{Entry}
-use Rattle.heap_model.specs.declared.heap.Heap.{Heap}
-use Rattle.core_machine.specs.Moves.{Move, next_move, due_step, seat_after, seat_after_due}
-use Rattle.core_machine.specs.calls.Owes.{Nears, owes, steps_left}
-use Rattle.core_machine.specs.table.Decode.{FoundPointsWithin}
-use Rattle.core_machine.specs.table.Operation.{address_of}
+use Rattle.core_machine.proofs.Terms.{IsHeap, Command, Entry, Heap, Move, next_move, due_step, seat_after, seat_after_due, Nears, owes, steps_left, FoundPointsWithin, address_of}
+use Rattle.core_machine.proofs.Terms.{Kept, kept_of, StageAt, OwnStage, LoadingMeta, Walking, Locating, Indexing, Getting, Naming, LoadingOld, ShadingOld, ShadingNew, Swapping}
+use Rattle.core_machine.proofs.Terms.{Granting, Withdrawing, Gathering, Returning, Refusing, Placing, Listing, Storing, Bearing, Place, Step, MayBegin, after_begin, Fits, Seat}
 use Rattle.core_machine.proofs.moves.{due_move, due_fits, due_nears}
-use Rattle.core_machine.specs.calls.Kept.{Kept, kept_of}
-use Rattle.core_machine.specs.calls.OwnStage.{StageAt, OwnStage}
 use Rattle.core_machine.specs.declared.place.Access.{Access}
-use Rattle.core_machine.specs.declared.place.Access.TheVariants.{LoadingMeta, Walking, Locating, Indexing, Getting, Naming, LoadingOld, ShadingOld, ShadingNew, Swapping}
 use Rattle.core_machine.specs.declared.place.Leaving.{Leaving}
 use Rattle.core_machine.specs.declared.place.Leaving.TheVariants.{Emptying, Parting}
 use Rattle.core_machine.specs.declared.place.Making.{Making}
-use Rattle.core_machine.specs.declared.place.Making.TheVariants.{Granting, Withdrawing, Gathering, Returning, Refusing, Placing, Listing, Storing, Bearing}
-use Rattle.core_machine.specs.declared.place.Place.{Place}
 use Rattle.core_machine.specs.declared.place.Place.TheVariants as places
 use Rattle.core_machine.specs.declared.place.Polling.{Polling}
 use Rattle.core_machine.specs.declared.place.Polling.TheVariants.{Asking, Shading, Answering}
-use Rattle.core_machine.specs.declared.step.Step.{Step}
-use Rattle.core_machine.specs.machine.Machine.{MayBegin, after_begin}
-use Rattle.core_machine.specs.seat.Fits.{Fits}
-use Rattle.core_machine.specs.seat.Seat.{Seat}
 use Rattle.core_machine.proofs.own_stages.Leading.{Leads, LeadsOn, PlaceLeads}
 
 module _ (tells : Step → ℕ → Type 0) where

@@ -6,3 +6,9 @@ use Rattle.heap_model.specs.declared.entry.Entry.{Entry}
 pub record LogWithRoom : Type 0 where
   pub entries : List Entry
   pub spare : ℕ
+
+-- the entries, for how many more there is room, and how many of the first were forgotten
+pub record RecentEntries : Type 0 where
+  pub entries : List Entry
+  pub spare : ℕ
+  pub forgotten : ℕ

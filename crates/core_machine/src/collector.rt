@@ -1,4 +1,4 @@
-ghost use Rattle.std.specs.Prelude.{◌≡◌, min, ◌+◌, ◌-◌, ◌<◌, ◌≤◌, ◌^◌, ◌++◌, [], ◌∷◌, length, OnOk, OnErr};
+ghost use Rattle.std.specs.Prelude.{◌≡◌, min, ◌+◌, ◌-◌, ◌<◌, ◌≤◌, ◌^◌, ◌++◌, [], ◌∷◌, length, drop, OnOk, OnErr};
 ghost use Rattle.core_machine.specs.collector.Collector.{opening_collector, next_turn, collector_after, has_answered_of, first_work as first_work_of, after_advance, advance_turn, end_turn, flip_turn, free_turn, return_turn, copying_turn, look_answer, after_look, after_counted_look};
 ghost use Rattle.core_machine.specs.collector.FitsCopying.{FitsCopying};
 ghost use Rattle.core_machine.specs.seat.Fits.{CollectorFits};
@@ -11,6 +11,7 @@ use crate::collector::marking::pass_on;
 use crate::collector::stage::{Copying, Scan, Stage};
 use crate::collector::sweeping::{cleared, examine_from, freed, sweep_on, swept};
 use crate::log::kept::Log;
+use crate::log::recent::RecentLog;
 use crate::log::{CountsEntries, Entries};
 use crate::step::{CopyingStep, SpineStep, Step, TurningStep};
 use crate::table::decode::spine_words;
@@ -49,6 +50,7 @@ impl<L: CountsEntries> Model for CollectorParty<L> {
         log = L.listed party.log;
       };
       spare = L.left party.log;
+      forgotten = L.forgotten party.log;
       turns = party.turns;
     } };
 }
@@ -67,6 +69,24 @@ impl CollectorParty {
     {
         let CollectorParty { log, .. } = self;
         log.into_entries()
+    }
+}
+
+impl CollectorParty<RecentLog> {
+    /// The collector's entries behind those that were forgotten.
+    pub fn recent(&self) -> &[Entry]
+        ensures recent { result.now ≡ drop self.now.forgotten self.now.collector.log }
+        ensures within { self.now.forgotten ≤ length self.now.collector.log }
+    {
+        self.log.recent()
+    }
+
+    /// Forgets the entries so far.
+    pub fn forget(&mut self)
+        ensures forgotten { self.new ≡ record self.old { spare = self.new.spare; forgotten = length self.old.collector.log } }
+        ensures spare { self.old.spare ≤ self.new.spare }
+    {
+        self.log.forget();
     }
 }
 
@@ -89,6 +109,7 @@ impl<L: CountsEntries> CollectorParty<L> {
     pub fn room(&mut self, n: usize) -> Result<(), Memory>
         ensures same { self.new.collector ≡ self.old.collector }
         ensures more { self.old.spare ≤ self.new.spare }
+        ensures forgotten { self.new.forgotten ≡ self.old.forgotten }
         ensures room { OnOk result (n ≤ self.new.spare) }
         ensures memory { OnErr result (self.new ≡ self.old) }
         ensures turns { self.new.turns ≡ self.old.turns }
@@ -179,6 +200,7 @@ impl<L: CountsEntries> CollectorParty<L> {
         ensures collector { self.new.collector ≡ after_look heap.now self.old.collector found }
         ensures answer { result ≡ look_answer self.old.collector found }
         ensures spare { self.new.spare ≡ self.old.spare }
+        ensures forgotten { self.new.forgotten ≡ self.old.forgotten }
         ensures turns { self.new.turns ≡ self.old.turns }
     {
         if !self.has_answered(found) {
@@ -197,6 +219,7 @@ impl<L: CountsEntries> CollectorParty<L> {
         requires { self.old.collector.looked < heap.now.seats }
         ensures collector { self.new.collector ≡ after_counted_look heap.now self.old.collector }
         ensures spare { self.new.spare ≡ self.old.spare }
+        ensures forgotten { self.new.forgotten ≡ self.old.forgotten }
         ensures turns { self.new.turns ≡ self.old.turns }
     {
         let seats = heap.seats;
@@ -229,6 +252,7 @@ impl<L: CountsEntries> CollectorParty<L> {
         requires spare { 0 < self.old.spare }
         ensures collector { self.new.collector ≡ record (after_advance self.old.collector) { log = self.old.collector.log ++ entry ∷ [] } }
         ensures spare { self.old.spare ≤ self.new.spare + 1 }
+        ensures forgotten { self.new.forgotten ≡ self.old.forgotten }
         ensures turns { self.new.turns ≡ self.old.turns }
     {
         self.phase += 1;
@@ -243,6 +267,7 @@ impl<L: CountsEntries> CollectorParty<L> {
         requires spare { 0 < self.old.spare }
         ensures collector { self.new.collector ≡ collector_after (free_turn heap.now self.old.collector group dead words) 0 }
         ensures spare { self.old.spare ≤ self.new.spare + 1 }
+        ensures forgotten { self.new.forgotten ≡ self.old.forgotten }
         ensures turns { self.new.turns ≡ self.old.turns }
     {
         self.stage = freed(heap, group, words);
@@ -255,6 +280,7 @@ impl<L: CountsEntries> CollectorParty<L> {
         requires spare { 0 < self.old.spare }
         ensures collector { self.new.collector ≡ collector_after (return_turn heap.now self.old.collector group words) 0 }
         ensures spare { self.old.spare ≤ self.new.spare + 1 }
+        ensures forgotten { self.new.forgotten ≡ self.old.forgotten }
         ensures turns { self.new.turns ≡ self.old.turns }
     {
         self.stage = sweep_on(heap, group);
@@ -268,6 +294,7 @@ impl<L: CountsEntries> CollectorParty<L> {
         requires spare { 0 < self.old.spare }
         ensures collector { self.new.collector ≡ collector_after (copying_turn heap.now self.old.collector stage) found }
         ensures spare { self.old.spare + length self.old.collector.log ≤ self.new.spare + length self.new.collector.log }
+        ensures forgotten { self.new.forgotten ≡ self.old.forgotten }
         ensures turns { self.new.turns ≡ self.old.turns }
     {
         self.stage = stage.after(heap, self.phase, found);
@@ -283,6 +310,7 @@ impl<L: CountsEntries> CollectorParty<L> {
         ensures collector { self.new.collector ≡ collector_after (advance_turn self.old.collector) 0 }
         ensures answer { result ≡ (advance_turn self.old.collector).answer 0 }
         ensures spare { self.old.spare ≤ self.new.spare + 1 }
+        ensures forgotten { self.new.forgotten ≡ self.old.forgotten }
         ensures turns { self.new.turns ≡ self.old.turns }
     {
         self.enter_phase(Entry::Advance(self.phase + 1));
@@ -296,6 +324,7 @@ impl<L: CountsEntries> CollectorParty<L> {
         ensures collector { self.new.collector ≡ collector_after (end_turn self.old.collector kept) 0 }
         ensures answer { result ≡ (end_turn self.old.collector kept).answer 0 }
         ensures spare { self.old.spare ≤ self.new.spare + 1 }
+        ensures forgotten { self.new.forgotten ≡ self.old.forgotten }
         ensures turns { self.new.turns ≡ self.old.turns }
     {
         let cycle = self.phase / CYCLE_PHASES;
@@ -313,6 +342,7 @@ impl<L: CountsEntries> CollectorParty<L> {
         ensures collector { self.new.collector ≡ collector_after (next_turn heap.now self.old.collector) found }
         ensures answer { result ≡ (next_turn heap.now self.old.collector).answer found }
         ensures spare { self.old.spare + length self.old.collector.log ≤ self.new.spare + length self.new.collector.log }
+        ensures forgotten { self.new.forgotten ≡ self.old.forgotten }
         ensures turns { self.new.turns ≡ min (self.old.turns + 1) (2 ^ 64 - 1) }
     {
         let _all = self.log.count();

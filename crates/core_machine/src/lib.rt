@@ -14,12 +14,14 @@ pub use collector::stage::{ArrayAt, Copying, Scan, SpineCopy, SpineScan, Stage, 
 pub use log::counted::CountedLog;
 pub use log::kept::Log;
 pub use log::last::LastLog;
+pub use log::recent::RecentLog;
 pub use log::told::ToldLog;
 pub use log::{CountsEntries, Entries, ShowsLast};
 pub use machine::Machine;
 pub use machine::opening::opening_words;
 pub use place::{Access, Collecting, Leaving, Making, Place, Polling};
 pub use seat::SeatParty;
+pub use seat::collecting::noted;
 pub use seat::looks::{FoundBehind, Looks};
 pub use seat::register::Register;
 pub use step::operation::Operation;

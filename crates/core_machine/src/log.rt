@@ -6,6 +6,7 @@ use std::alloc::Global;
 pub(crate) mod counted;
 pub(crate) mod kept;
 pub(crate) mod last;
+pub(crate) mod recent;
 pub(crate) mod told;
 
 /// A log of a party's entries, to which the next is added. What it keeps of them in memory is its own.
@@ -18,6 +19,9 @@ pub trait Entries: Drop {
     /// For how many more entries there is room.
     ghost left: { Self → ℕ };
 
+    /// How many of the first entries it was asked to forget.
+    ghost forgotten: { Self → ℕ };
+
     /// A log without entries.
     fn empty(alloc: Global) -> Self
         ensures { listed result ≡ [] };
@@ -29,6 +33,7 @@ pub trait Entries: Drop {
     /// Makes room for at least `n` more entries.
     fn reserve(&mut self, n: usize) -> Result<(), Memory>
         ensures same { listed self.new ≡ listed self.old }
+        ensures forgotten { forgotten self.new ≡ forgotten self.old }
         ensures more { left self.old ≤ left self.new }
         ensures room { OnOk result (n ≤ left self.new) }
         ensures memory { OnErr result (self.new ≡ self.old) };
@@ -37,7 +42,8 @@ pub trait Entries: Drop {
     fn push(&mut self, entry: Entry)
         requires { 0 < left self.old }
         ensures entries { listed self.new ≡ listed self.old ++ entry ∷ [] }
-        ensures spare { left self.old ≤ left self.new + 1 };
+        ensures spare { left self.old ≤ left self.new + 1 }
+        ensures forgotten { forgotten self.new ≡ forgotten self.old };
 }
 
 /// A log whose entries are counted, together with those for which there is room, by a number of 64 bits.

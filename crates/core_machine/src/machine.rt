@@ -5,9 +5,10 @@ ghost use Rattle.core_machine.specs.declared.table.address.Address.TheVariants.{
 ghost use Rattle.core_machine.specs.table.Layout.{at, InTable};
 ghost use Rattle.core_machine.specs.collector.Collector.{next_turn};
 ghost use Rattle.core_machine.specs.Moves.{due_step};
-ghost use Rattle.core_machine.specs.machine.Value.{spare_of, log_of, due_of, event_of, IsParty, SpendsRoom, IsMachine};
+ghost use Rattle.core_machine.specs.machine.Value.{spare_of, forgotten_of, log_of, recent_of, due_of, event_of, IsParty, SpendsRoom, IsMachine};
 
 use crate::collector::CollectorParty;
+use crate::log::recent::RecentLog;
 use crate::seat::SeatParty;
 use crate::seat::looks::Looks;
 use crate::step::Step;
@@ -26,8 +27,8 @@ mod space;
 pub struct Machine {
     pub(crate) heap: Heap,
     pub(crate) words: Vec<u64>,
-    pub(crate) seats: Vec<SeatParty>,
-    pub(crate) collector: CollectorParty,
+    pub(crate) seats: Vec<SeatParty<RecentLog>>,
+    pub(crate) collector: CollectorParty<RecentLog>,
 }
 
 impl Model for Machine {
@@ -44,6 +45,7 @@ impl Model for Machine {
         collector = m.collector.collector;
       };
       spares = map (λ s. s.spare) m.seats.items ++ m.collector.spare ∷ [];
+      forgotten = map (λ s. s.forgotten) m.seats.items ++ m.collector.forgotten ∷ [];
     } };
 
     ghost invariant = { λ m. IsMachine m.heap (record {
@@ -223,14 +225,31 @@ impl Machine {
         (found, answer)
     }
 
-    /// The party's entries, in their order.
-    pub fn log(&self, party: u8) -> &[Entry]
+    /// The party's entries behind those that were forgotten, in their order.
+    pub fn recent(&self, party: u8) -> &[Entry]
         requires { IsParty self.now party }
-        ensures { result.now ≡ log_of self.now party }
+        ensures recent { result.now ≡ recent_of self.now party }
+        ensures within { forgotten_of self.now party ≤ length (log_of self.now party) }
     {
         match self.seats.get(party as usize) {
-            Some(seat) => seat.entries(),
-            None => self.collector.entries(),
+            Some(seat) => seat.recent(),
+            None => self.collector.recent(),
+        }
+    }
+
+    /// Forgets the party's entries so far.
+    pub fn forget(&mut self, party: u8)
+        requires { IsParty self.old party }
+        ensures same { self.new ≡ record self.old { spares = self.new.spares; forgotten = self.new.forgotten } }
+        ensures forgotten { forgotten_of self.new party ≡ length (log_of self.old party) }
+        ensures more { spare_of self.old party ≤ spare_of self.new party }
+        ensures others { (other : ℕ) → other ≢ party → (forgotten_of self.new other ≡ forgotten_of self.old other) × (spare_of self.new other ≡ spare_of self.old other) }
+    {
+        if (party as usize) < self.seats.len() {
+            let seat = &mut self.seats[party as usize];
+            seat.forget()
+        } else {
+            self.collector.forget()
         }
     }
 

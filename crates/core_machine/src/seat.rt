@@ -19,7 +19,7 @@ use std::marker::Model;
 mod access;
 mod begins;
 mod birth;
-mod collecting;
+pub(crate) mod collecting;
 pub(crate) mod commands;
 mod due;
 mod gather;
@@ -101,6 +101,7 @@ impl<L: Entries> Model for SeatParty<L> {
         mine = L.listed party.mine;
       };
       spare = L.left party.mine;
+      forgotten = L.forgotten party.mine;
     } };
 }
 
@@ -148,6 +149,7 @@ impl<L: Entries> SeatParty<L> {
     pub fn room(&mut self, n: usize) -> Result<(), Memory>
         ensures same { self.new.seat ≡ self.old.seat }
         ensures more { self.old.spare ≤ self.new.spare }
+        ensures forgotten { self.new.forgotten ≡ self.old.forgotten }
         ensures room { OnOk result (n ≤ self.new.spare) }
         ensures memory { OnErr result (self.new ≡ self.old) }
     {
@@ -159,6 +161,7 @@ impl<L: Entries> SeatParty<L> {
         requires { 0 < self.old.spare }
         ensures seat { self.new.seat ≡ with_entries self.old.seat (entry ∷ []) }
         ensures spare { self.old.spare ≤ self.new.spare + 1 }
+        ensures forgotten { self.new.forgotten ≡ self.old.forgotten }
     {
         self.mine.push(entry);
     }
@@ -167,6 +170,7 @@ impl<L: Entries> SeatParty<L> {
     pub(crate) fn finish(&mut self)
         ensures seat { self.new.seat ≡ call_over self.old.seat }
         ensures spare { self.new.spare ≡ self.old.spare }
+        ensures forgotten { self.new.forgotten ≡ self.old.forgotten }
     {
         self.hands.clear();
         self.stored = 0;
@@ -191,6 +195,7 @@ impl<L: Entries> SeatParty<L> {
         requires { 0 < self.old.spare }
         ensures seat { self.new.seat ≡ seat_after_reply number self.old.seat reply }
         ensures spare { self.old.spare ≤ self.new.spare + 1 }
+        ensures forgotten { self.new.forgotten ≡ self.old.forgotten }
     {
         self.finish();
         self.looks.forget();

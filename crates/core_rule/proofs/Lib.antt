@@ -1,3 +1,4 @@
+pub mod Terms
 pub mod colours
 pub mod copies
 pub mod counts
@@ -23,3 +24,11 @@ pub mod told
 pub mod turns
 pub mod ways
 pub mod words
+pub mod book
+pub mod reach
+pub mod kept
+pub mod sweep_exact
+pub mod budgets
+pub mod halves
+pub mod dying
+pub mod roots

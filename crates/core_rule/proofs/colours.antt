@@ -13,3 +13,4 @@ pub mod OneBit
 pub mod ShadeColours
 pub mod BlackenColours
 pub mod SpineStays
+pub mod BornBits

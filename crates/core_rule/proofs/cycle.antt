@@ -3,7 +3,6 @@ pub mod CycleFrames
 pub mod CycleHistory
 pub mod Unwatched
 pub mod Barriers
-pub mod Roots
 pub mod FreshCycle
 pub mod MakingCycle
 pub mod BirthCycle

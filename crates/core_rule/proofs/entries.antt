@@ -17,4 +17,6 @@ pub mod PhasesTold
 pub mod Noted
 pub mod ToldSpines
 pub mod ToldTurns
+pub mod TurnShapes
+pub mod StepTells
 pub mod Swung

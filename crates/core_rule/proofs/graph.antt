@@ -11,3 +11,4 @@ pub mod ObjectReplies
 pub mod LocalReplies
 pub mod CellSet
 pub mod LeftSeats
+pub mod ToldGraph

@@ -7,4 +7,5 @@ pub mod FreedFragments
 pub mod DueStores
 pub mod WordOwners
 pub mod HeldWordLaws
+pub mod SpineThere
 pub mod DueWords

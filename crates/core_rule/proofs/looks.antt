@@ -6,4 +6,5 @@ pub mod Ways
 pub mod Origins
 pub mod Moves
 pub mod Stays
+pub mod Follows
 pub mod Finds

@@ -1,6 +1,5 @@
--- Marking: paths, roots, the pass, the scan, and what is true after it.
+-- Marking: paths, the pass, the scan, and what is true after it.
 pub mod Paths
-pub mod CallRoots
 pub mod SwapMarks
 pub mod MarkingFrames
 pub mod MarkingStages
@@ -8,18 +7,16 @@ pub mod Marks
 pub mod ShadeMarks
 pub mod SeatShades
 pub mod MakingMarks
-pub mod RegisterRoots
 pub mod LastBirthMarks
-pub mod GoneRoots
 pub mod ObjectEdges
 pub mod KeptSources
 pub mod Settled
 pub mod Ended
 pub mod SettledObjects
 pub mod SettledSeats
-pub mod SeatRoots
 pub mod SettledBook
 pub mod GreyPlaces
 pub mod Scans
+pub mod ScannedWords
 pub mod SweepMarks
 pub mod DeadPlaces

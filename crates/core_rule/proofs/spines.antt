@@ -1,34 +1,10 @@
--- Spine words: whose they are, where spines stand, and the budget of those that are granted.
+-- Whose spine words are, and where the spines of arrays stand.
 pub mod OtherWords
-pub mod DeadWords
-pub mod NoneMade
 pub mod NoPlaces
 pub mod SpineFrames
-pub mod BudgetFrames
-pub mod SameBooks
-pub mod CopiesGo
-pub mod HalvesFrames
-pub mod StagesOn
-pub mod HalfSums
-pub mod Leaving
-pub mod Settling
 pub mod SpotWritten
-pub mod Flips
-pub mod LeftHalf
-pub mod PhaseSpaces
-pub mod HalvesMoves
-pub mod OffsetWithin
-pub mod SweepSums
-pub mod SweptSpace
-pub mod UsedWords
-pub mod DyingWords
-pub mod WeightSums
-pub mod BudgetSteps
 pub mod SpotClaims
 pub mod SpineStores
 pub mod SpineBirths
 pub mod ArrayBirths
-pub mod HalvesBirths
-pub mod UsedFound
 pub mod ListedSources
-pub mod IdleBudgets

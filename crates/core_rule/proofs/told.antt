@@ -4,5 +4,6 @@ pub mod AsTold
 pub mod NearPhases
 pub mod OwnMetas
 pub mod ReachedFields
+pub mod StepsFind
 pub mod FoundWords
 pub mod StoredWords

@@ -1,5 +1,7 @@
 -- Words of the table, and the bits of a control word.
 pub mod Addresses
+pub mod BesideSpines
+pub mod BitsLeft
 pub mod WordBits
 pub mod MaskLemmas
 pub mod ClearLemmas

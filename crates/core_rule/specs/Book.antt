@@ -5,7 +5,7 @@ use Rattle.heap_model.specs.declared.entry.Entry.{Entry}
 use Rattle.heap_model.specs.declared.id.Id.{Id}
 use Rattle.heap_model.specs.declared.id.Id.TheVariants.{Board}
 use Rattle.core_machine.specs.seat.Registers.{is_same_id}
-use Rattle.core_rule.specs.Owners.{Owner, SpineOwner}
+use Rattle.core_rule.specs.owners.Owners.{Owner, SpineOwner}
 
 -- a fragment is white where it isn't marked, grey where it is marked and not scanned, and black where it is both
 pub data Colour : Type 0 where

@@ -12,24 +12,24 @@ use Rattle.core_machine.specs.machine.Machine.{State, seat_at}
 use Rattle.core_machine.specs.seat.Seat.{Seat}
 use Rattle.core_machine.specs.machine.Value.{IsMachine}
 use Rattle.core_rule.specs.Book.{Book, Colour}
-use Rattle.core_rule.specs.ControlWords.{Bits}
-use Rattle.core_rule.specs.Objects.{AreMade, Objects, node_at}
-use Rattle.core_rule.specs.Owners.{Owner, OwnersStand, SpineOwner}
-use Rattle.core_rule.specs.Spines.{SpinesStand, SpineInHand}
-use Rattle.core_rule.specs.Replicas.{AddressStands}
-use Rattle.core_rule.specs.Halves.{HalvesStand}
-use Rattle.core_rule.specs.Budgets.{BudgetsStand, UsedStands}
-use Rattle.core_rule.specs.Registers.{Registers}
-use Rattle.core_rule.specs.Holding.{Holding, IsStored}
-use Rattle.core_rule.specs.Counts.{CountsAgree, OwnList, AreUsed}
+use Rattle.core_rule.specs.words.ControlWords.{Bits}
+use Rattle.core_rule.specs.objects.Objects.{AreMade, Objects, node_at}
+use Rattle.core_rule.specs.owners.Owners.{Owner, OwnersStand, SpineOwner}
+use Rattle.core_rule.specs.spines.Spines.{SpinesStand, SpineInHand}
+use Rattle.core_rule.specs.copies.Replicas.{AddressStands}
+use Rattle.core_rule.specs.halves.Halves.{HalvesStand}
+use Rattle.core_rule.specs.budgets.Budgets.{BudgetsStand, UsedStands}
+use Rattle.core_rule.specs.graph.Registers.{Registers}
+use Rattle.core_rule.specs.hand.Holding.{Holding, IsStored}
+use Rattle.core_rule.specs.counts.Counts.{CountsAgree, OwnList, AreUsed}
 use Rattle.heap_model.specs.account.PhaseCounts.{phase, last_answer, has_left}
-use Rattle.core_rule.specs.Phases.{CollectorAgrees}
-use Rattle.core_rule.specs.Cycle.{HeapInCycle, SeatInCycle}
-use Rattle.core_rule.specs.Together.{AreTogether}
-use Rattle.core_rule.specs.Ways.{WayStands}
-use Rattle.core_rule.specs.Gathers.{GathersRight, Began}
-use Rattle.core_rule.specs.Marking.{MarkingStands}
-use Rattle.core_rule.specs.Roots.{RootsAreReached}
+use Rattle.core_rule.specs.cycle.Phases.{CollectorAgrees}
+use Rattle.core_rule.specs.cycle.Cycle.{HeapInCycle, SeatInCycle}
+use Rattle.core_rule.specs.hand.Together.{AreTogether}
+use Rattle.core_rule.specs.ways.Ways.{WayStands}
+use Rattle.core_rule.specs.gather.Gathers.{GathersRight, Began}
+use Rattle.core_rule.specs.marking.Marking.{MarkingStands}
+use Rattle.core_rule.specs.roots.Roots.{RootsAreReached}
 
 -- what is true of the heap
 pub record HeapStands (heap : Heap) (words : List ℕ) (book : Book) : Type 0 where

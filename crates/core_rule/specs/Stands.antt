@@ -2,8 +2,8 @@
 use Rattle.heap_model.specs.declared.heap.Heap.{Heap}
 use Rattle.core_machine.specs.machine.Machine.{State}
 use Rattle.core_rule.specs.Book.{Book}
-use Rattle.core_rule.specs.Footprint.{CycleStands}
-use Rattle.core_rule.specs.Looks.{AllLooksStand}
+use Rattle.core_rule.specs.footprint.Footprint.{CycleStands}
+use Rattle.core_rule.specs.looks.Looks.{AllLooksStand}
 use Rattle.core_rule.specs.Rule.{Rule}
 
 -- the book meets the rule, has the footprint of the cycle that is under way, and has what the seats have found for their collects

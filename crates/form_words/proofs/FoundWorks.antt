@@ -16,7 +16,8 @@ use Rattle.form_words.specs.Works.{Completes, form_word, usual_patience}
 use Rattle.form_words.proofs.GivenSettings.{patience_within}
 use Rattle.form_words.proofs.MakingWords.{make_found, make_taken}
 use Rattle.form_words.proofs.OptionForms.{check_found, check_taken}
-use Rattle.form_words.proofs.SettingForms.{play_finds, play_given, run_finds, run_given}
+use Rattle.form_words.proofs.SettingForms.{play_finds, run_finds}
+use Rattle.form_words.proofs.FoundSettings.{play_given, run_given}
 use Rattle.form_words.proofs.SettingRows.{number_loose}
 
 pub play_completes : (words : List Text) (all : Settings) → FindsSettings play_app words all → Completes words (Play all.pace all.brief)

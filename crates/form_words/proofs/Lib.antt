@@ -3,10 +3,15 @@ pub mod GivenSettings
 pub mod AskedWork
 pub mod Forms
 pub mod OptionSteps
+pub mod FirstWord
 pub mod OptionWalk
 pub mod OptionForms
 pub mod SettingRows
+pub mod FlagTexts
 pub mod SettingForms
+pub mod OptionCases
+pub mod ToldSettings
+pub mod FoundSettings
 pub mod MakingWords
 pub mod FoundTexts
 pub mod FoundWorks

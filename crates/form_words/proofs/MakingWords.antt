@@ -1,5 +1,5 @@
 -- A making's command takes three words that are no options.
-use Rattle.std.proofs.Common.{◌≡◌, ◌&&◌, ℕ, Bool, true, false, not, List, [], ◌∷◌, Option, Some, None, refl, sym, ap, ap₂, ◌∙◌, subst, codes}
+use Rattle.std.proofs.Common.{◌≡◌, ℕ, true, false, List, [], ◌∷◌, Option, Some, None, refl, sym, ap, ap₂, ◌∙◌, subst, codes}
 use Rattle.std.specs.List.{fold}
 use Rattle.clap.specs.Walk.{Held, Row, Rule, Text, Walk, idle, arg_by_long, finished, nothing_held, plain_word, settled, walk, walk_from, walked, word_met}
 use Rattle.clap.specs.Simple.{App, built, filled, matches_of, with_index}
@@ -8,6 +8,7 @@ use Rattle.clap.specs.Faults.{check_fault, defaults_fault, fault_of, settle_faul
 use Rattle.form_words.specs.Commands.{make_app, number_rule}
 use Rattle.form_words.specs.Joined.{are_apart, is_joined}
 use Rattle.form_words.proofs.OptionSteps.{WordCase, held, is_loose, loose, named, or_else_parts, refusal, refused, row_of_words, shape_with, word_case}
+use Rattle.form_words.proofs.FirstWord.{takes_first}
 use Rattle.form_words.proofs.OptionWalk.{IsLoose}
 use Rattle.form_words.proofs.OptionForms.{fault_parts, rows_are}
 
@@ -92,22 +93,6 @@ pub record AreThree (words : List Text) (rows : List Row) : Type 0 where
 abbrev end_from : Walk → List Text → Held
 end_from w words = (fold (walked make_rules []) w words).held
 
-both : (a b : Bool) → (a && b) ≡ true → (a ≡ true) × (b ≡ true)
-both true b e = (refl, e)
-both false b e = cc
-
-not_true : (b : Bool) → not b ≡ true → b ≡ false
-not_true true e = sym e
-not_true false e = refl
-
-turn : (w : Walk) (word : Text) (words : List Text) → are_apart (word ∷ words) ≡ true → walk_fault make_shape [] w (word ∷ words) ≡ []
-    → (is_joined word ≡ false) × (are_apart words ≡ true) × (turn_fault make_shape [] w word ≡ []) × (walk_fault make_shape [] (walked make_rules [] w word) words ≡ [])
-unfolding walk_fault
-turn w word words apart faultless =
-    let aparts = both (not (is_joined word)) _ apart in
-    let faults = or_else_parts (turn_fault make_shape [] w word) _ faultless in
-    (not_true _ aparts.0, aparts.1, faults.0, faults.1)
-
 abbrev Checked : Held → Type 0
 Checked end = check_fault make_shape (finished make_rules end) false ≡ []
 
@@ -115,32 +100,32 @@ Checked end = check_fault make_shape (finished make_rules end) false ≡ []
 from_last : (a b c : Text) (words : List Text) → are_apart words ≡ true → walk_fault make_shape [] (last a b c) words ≡ [] → words ≡ []
 from_last a b c [] apart faultless = refl
 from_last a b c (word ∷ words) apart faultless =
-    let t = turn (last a b c) word words apart faultless in
-    let is = value_or_fault word 4 _ _ t.0 t.2 in
-    let bad : refusal ≡ [] = sym (goes_no_more a b c word is) ∙ t.2 in cc
+    let t = takes_first make_shape (last a b c) word words apart faultless in
+    let is = value_or_fault word 4 _ _ t.apart t.faultless in
+    let bad : refusal ≡ [] = sym (goes_no_more a b c word is) ∙ t.faultless in cc
 
 from_third : (a b : Text) (words : List Text) → are_apart words ≡ true → walk_fault make_shape [] (third a b) words ≡ [] → Checked (end_from (third a b) words) → AreThree (a ∷ b ∷ words) (finished make_rules (end_from (third a b) words))
 from_third a b [] apart faultless checked = cc
 from_third a b (word ∷ words) apart faultless checked =
-    let t = turn (third a b) word words apart faultless in
-    let goes = goes_third a b word (value_or_fault word 3 _ _ t.0 t.2) in
-    let none = from_last a b word words t.1 (subst (λ w. walk_fault make_shape [] w words ≡ []) goes.1 t.3) in
+    let t = takes_first make_shape (third a b) word words apart faultless in
+    let goes = goes_third a b word (value_or_fault word 3 _ _ t.apart t.faultless) in
+    let none = from_last a b word words t.others_apart (subst (λ w. walk_fault make_shape [] w words ≡ []) goes.1 t.goes_on) in
     record { start = a; seats = b; lines = word; are = ap (λ ws. a ∷ b ∷ word ∷ ws) none; is = ap₂ (λ w ws. finished make_rules (end_from w ws)) goes.1 none }
 
 from_second : (a : Text) (words : List Text) → are_apart words ≡ true → walk_fault make_shape [] (second a) words ≡ [] → Checked (end_from (second a) words) → AreThree (a ∷ words) (finished make_rules (end_from (second a) words))
 from_second a [] apart faultless checked = cc
 from_second a (word ∷ words) apart faultless checked =
-    let t = turn (second a) word words apart faultless in
-    let goes = goes_second a word (value_or_fault word 2 _ _ t.0 t.2) in
-    let three = from_third a word words t.1 (subst (λ w. walk_fault make_shape [] w words ≡ []) goes.1 t.3) (subst (λ w. Checked (end_from w words)) goes.1 checked) in
+    let t = takes_first make_shape (second a) word words apart faultless in
+    let goes = goes_second a word (value_or_fault word 2 _ _ t.apart t.faultless) in
+    let three = from_third a word words t.others_apart (subst (λ w. walk_fault make_shape [] w words ≡ []) goes.1 t.goes_on) (subst (λ w. Checked (end_from w words)) goes.1 checked) in
     subst (λ w. AreThree (a ∷ word ∷ words) (finished make_rules (end_from w words))) (sym goes.1) three
 
 from_first : (words : List Text) → are_apart words ≡ true → walk_fault make_shape [] first words ≡ [] → Checked (end_from first words) → AreThree words (finished make_rules (end_from first words))
 from_first [] apart faultless checked = cc
 from_first (word ∷ words) apart faultless checked =
-    let t = turn first word words apart faultless in
-    let goes = goes_first word (value_or_fault word 1 _ _ t.0 t.2) in
-    let three = from_second word words t.1 (subst (λ w. walk_fault make_shape [] w words ≡ []) goes.1 t.3) (subst (λ w. Checked (end_from w words)) goes.1 checked) in
+    let t = takes_first make_shape first word words apart faultless in
+    let goes = goes_first word (value_or_fault word 1 _ _ t.apart t.faultless) in
+    let three = from_second word words t.others_apart (subst (λ w. walk_fault make_shape [] w words ≡ []) goes.1 t.goes_on) (subst (λ w. Checked (end_from w words)) goes.1 checked) in
     subst (λ w. AreThree (word ∷ words) (finished make_rules (end_from w words))) (sym goes.1) three
 
 pub make_found : (words : List Text) → are_apart words ≡ true → fault_of make_app words ≡ [] → AreThree words (matches_of make_app words)

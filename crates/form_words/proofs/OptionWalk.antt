@@ -1,5 +1,5 @@
 -- A command of options alone takes just the words that give options of its own, each once at most.
-use Rattle.std.proofs.Common.{◌≡◌, ◌&&◌, ℕ, Bool, true, false, not, List, [], ◌∷◌, ◌++◌, Option, Some, None, refl, sym, ap, ap₂, ◌∙◌, subst}
+use Rattle.std.proofs.Common.{◌≡◌, ℕ, true, false, List, [], ◌∷◌, ◌++◌, Option, Some, None, refl, sym, ap, ap₂, ◌∙◌, subst}
 use Rattle.std.specs.List.{fold, flat_map}
 use Rattle.std.specs.Str.{bytes_eq}
 use Rattle.clap.specs.Lexer.{long_of, short_of}
@@ -8,6 +8,7 @@ use Rattle.clap.specs.Kinds.{or_else}
 use Rattle.clap.specs.Faults.{repeat_fault, settle_fault, turn_fault, walk_fault}
 use Rattle.form_words.specs.Joined.{are_apart, is_joined}
 use Rattle.form_words.proofs.OptionSteps.{NameCase, WordCase, at_loose, at_plain, at_refused, at_unknown, at_value, at_valued, held, is_loose, name_for_value, named, loose, refused, no_repeat, no_value, or_else_parts, plain, plain_built, plain_row, refusal, repeats_not, row_of_words, settles, shape_with, unknown, valued, valued_built, valued_row, waits, word_case}
+use Rattle.form_words.proofs.FirstWord.{takes_first}
 
 -- an option as it was given: its name, with its value where it has one
 abbrev pub Given : Type 0
@@ -78,14 +79,6 @@ reads_valued c name words rows after is read = record {
   grows = (is, read.new, read.more.grows);
 }
 
-both : (a b : Bool) → (a && b) ≡ true → (a ≡ true) × (b ≡ true)
-both true b e = (refl, e)
-both false b e = cc
-
-not_true : (b : Bool) → not b ≡ true → b ≡ false
-not_true true e = sym e
-not_true false e = refl
-
 module _ (form : Text) (c : List Rule) (cases : (name : Text) → NameCase c name) (no_short : (x : ℕ) → arg_by_short c x ≡ None) (no_place : (i : ℕ) → arg_by_index c i ≡ None) where
   abbrev pub end_of : Walk → List Text → Held
   end_of w words = (fold (walked c []) w words).held
@@ -102,11 +95,9 @@ module _ (form : Text) (c : List Rule) (cases : (name : Text) → NameCase c nam
     more : Ends (walked c [] w word) words
 
   turns : (w : Walk) (word : Text) (words : List Text) → Ends w (word ∷ words) → Turns w word words
-  unfolding walk_fault
   turns w word words ends =
-      let parts = both (not (is_joined word)) _ ends.apart in
-      let faults = or_else_parts (turn_fault (shape_with form c) [] w word) _ ends.faultless in
-      record { apart = not_true _ parts.0; faultless = faults.0; more = record { apart = parts.1; faultless = faults.1; settles_last = ends.settles_last } }
+      let first = takes_first (shape_with form c) w word words ends.apart ends.faultless in
+      record { apart = first.apart; faultless = first.faultless; more = record { apart = first.others_apart; faultless = first.goes_on; settles_last = ends.settles_last } }
 
   ends_more : (w : Walk) (word : Text) (words : List Text) → Turns w word words → Ends w (word ∷ words)
   unfolding walk_fault

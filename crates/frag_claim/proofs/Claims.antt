@@ -18,7 +18,7 @@ use Rattle.core_machine.proofs.seat_lemmas.Fitting.{goes_on_cases, returning_cas
 use Rattle.heap_table.specs.Made.{Made, MakesSteps, IsSound}
 use Rattle.heap_table.specs.SeatHeld.{SeatHeld, IsStepped}
 use Rattle.heap_table.specs.Told.{ToldAtStep}
-use Rattle.heap_table.proofs.MadeSteps.{makes_none, makes_append, makes_one, step_nears}
+use Rattle.heap_table.proofs.MadeSteps.{makes_none, step_falls, step_leaves_room, step_makes}
 use Rattle.frag_claim.specs.Begins.{BeginsGathering}
 use Rattle.frag_claim.specs.Due.{due_of_claims, due_of_returns, IsReturning, has_its_fragments}
 use Rattle.frag_claim.specs.Gathered.{EndsClaiming}
@@ -62,25 +62,9 @@ of_returns : (place : Place) (due : Option Step) (step : Step) → due_of_return
 of_returns (places.Making Returning) due step e = (refl, e)
 of_returns _ due step e = cc
 
--- a holder goes on by one step
-module _ (first now new : SeatHeld) (step : Step) (found : ℕ) (sound : IsSound now) (due : due_step now.heap now.number now.seat ≡ Some step)
-    (stepped : IsStepped now new found) (told : ToldAtStep now.heap now.number now.seat found) where
-  nears : (steps_left now.heap new.seat < steps_left now.heap now.seat) × (owes new.seat + length new.seat.mine ≤ owes now.seat + length now.seat.mine)
-  nears = step_nears now.heap now.number now.seat sound.limits (omega (arith, sound.within, sound.limits.seats_fit)) sound.fits step found new.seat due stepped.seat_is
-
-  pub step_falls : steps_left new.heap new.seat < steps_left now.heap now.seat
-  step_falls = subst (λ (h : Heap). steps_left h new.seat < steps_left now.heap now.seat) (sym stepped.heap_stays) nears.0
-
-  pub step_leaves_room : owes now.seat + 2 ≤ now.spare → owes new.seat + 2 ≤ new.spare
-  step_leaves_room room = omega (arith, room, nears.1, stepped.room_stays)
-
-  pub step_makes : (made : List Made) → MakesSteps first now made → MakesSteps first new (made ++ record { step = step; found = found } ∷ [])
-  step_makes made makes = makes_append first now new made (record { step = step; found = found } ∷ []) makes (makes_one now new step found due told stepped)
-
 -- while groups are claimed
 pub record WhileClaiming (first now : SeatHeld) : Type 0 where
-  pub made : List Made
-  pub makes : MakesSteps first now made
+  pub steps : (made : List Made) × MakesSteps first now made
   pub stands : StandsClaiming now.seat.command now.seat.place
   pub none_given : now.seat.given ≡ 0
   pub none_stored : now.seat.stored ≡ 0
@@ -92,7 +76,7 @@ claims_begin held reserve cursor need_ begins room =
     let has : HasClaims held.seat = subst HasClaims (sym begins.goes_on) start in
     let owed : owes held.seat ≤ 2 * need_ + 2 = subst (λ (s : Seat). owes s ≤ 2 * need_ + 2) (sym begins.goes_on)
     (subst (λ (n : ℕ). owes (gather_next held.heap begins.before) ≤ 2 * n + 2) begins.need_is (goes_with_room held.heap begins.before begins.rests.empty_hand)) in
-    record { made = []; makes = makes_none held; stands = has.0; none_given = has.1; none_stored = has.2; room = at_most (owes held.seat) need_ held.spare owed room }
+    record { steps = ([], makes_none held); stands = has.0; none_given = has.1; none_stored = has.2; room = at_most (owes held.seat) need_ held.spare owed room }
   where
     at_most : (owed n spare : ℕ) → owed ≤ 2 * n + 2 → 2 * n + 4 ≤ spare → owed + 2 ≤ spare
     at_most owed n spare a b = omega arith
@@ -107,8 +91,7 @@ claims_on first now new step found sound while is stepped told =
     stepped.seat_is ∙ ap (λ (p : Place). seat_after_due now.seat (move_at now.heap now.number now.seat p) found) at.0 in
     let has : HasClaims new.seat = subst HasClaims (sym claimed) (goes_claiming now.heap next while.none_given while.none_stored) in (
       record {
-        made = while.made ++ record { step = step; found = found } ∷ [];
-        makes = step_makes first now new step found sound at.1 stepped told while.made while.makes;
+        steps = step_makes first now new step found sound at.1 stepped told while.steps;
         stands = has.0;
         none_given = has.1;
         none_stored = has.2;
@@ -151,8 +134,7 @@ module _ (held : SeatHeld) (sound : IsSound held) (none : due_of_claims held.sea
 
 -- while what was claimed is given back
 pub record WhileReturning (first now : SeatHeld) : Type 0 where
-  pub made : List Made
-  pub makes : MakesSteps first now made
+  pub steps : (made : List Made) × MakesSteps first now made
   pub stands : IsReturning now.seat.place
   pub all : length now.seat.hand + now.seat.given ≡ length first.seat.hand + first.seat.given
   pub room : owes now.seat + 2 ≤ now.spare
@@ -163,7 +145,7 @@ returning_room seat (places.Making Refusing) spare is stands room = subst (λ (p
 returning_room seat _ spare is stands room = absurd stands
 
 pub returns_begin : (held : SeatHeld) → IsReturning held.seat.place → length held.seat.hand + 3 ≤ held.spare → WhileReturning held held
-returns_begin held stands room = record { made = []; makes = makes_none held; stands = stands; all = refl; room = returning_room held.seat held.seat.place held.spare refl stands room }
+returns_begin held stands room = record { steps = ([], makes_none held); stands = stands; all = refl; room = returning_room held.seat held.seat.place held.spare refl stands room }
 
 pub returns_on : (first now new : SeatHeld) (step : Step) (found : ℕ) → IsSound now → WhileReturning first now → due_of_returns now.seat.place (due_step now.heap now.number now.seat) ≡ Some step
     → IsStepped now new found → ToldAtStep now.heap now.number now.seat found → WhileReturning first new × (steps_left new.heap new.seat < steps_left now.heap now.seat)
@@ -176,8 +158,7 @@ returns_on first now new step found sound while is stepped told =
     let stands : IsReturning (after_give_back now.seat).place = returning_cases (λ m. IsReturning (places.Making m)) (part_out group now.seat.hand) (λ none. tt) (λ some. tt) in
     let all : length (part_out group now.seat.hand) + (now.seat.given + length (part_in group now.seat.hand)) ≡ length first.seat.hand + first.seat.given = omega (arith, both, while.all) in (
       record {
-        made = while.made ++ record { step = step; found = found } ∷ [];
-        makes = step_makes first now new step found sound at.1 stepped told while.made while.makes;
+        steps = step_makes first now new step found sound at.1 stepped told while.steps;
         stands = subst (λ (s : Seat). IsReturning s.place) (sym given) stands;
         all = subst (λ (s : Seat). length s.hand + s.given ≡ length first.seat.hand + first.seat.given) (sym given) all;
         room = step_leaves_room first now new step found sound at.1 stepped told while.room;

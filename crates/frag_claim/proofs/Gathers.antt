@@ -1,6 +1,5 @@
 -- What a gather comes to, by whatever steps it was made.
 use Rattle.std.proofs.Common.{◌≡◌, ℕ, ◌+◌, ◌%◌, ◌<◌, ◌≤◌, true, false, List, [], ◌++◌, length, take, drop, refl, sym, ap, subst, ◌∙◌, inl, inr, append-nil, length-take, length-append, arith}
-use Rattle.std.specs.Prelude.{◌⊎◌}
 use Rattle.heap_model.specs.Needs.{need_of}
 use Rattle.heap_model.specs.declared.command.Command.{Command}
 use Rattle.heap_model.specs.declared.entry.Entry.{Entry}
@@ -13,9 +12,8 @@ use Rattle.core_machine.specs.declared.place.Making.TheVariants.{Refusing, Placi
 use Rattle.core_machine.specs.declared.place.Place.{Place}
 use Rattle.core_machine.specs.declared.place.Place.TheVariants as places
 use Rattle.core_machine.specs.declared.step.MakingStep.TheVariants.{Claim}
-use Rattle.core_machine.specs.declared.step.SpineStep.TheVariants.{BudgetAdd}
 use Rattle.core_machine.specs.declared.step.Step.{Step}
-use Rattle.core_machine.specs.declared.step.Step.TheVariants.{Making, Spine}
+use Rattle.core_machine.specs.declared.step.Step.TheVariants.{Making}
 use Rattle.core_machine.specs.seat.Commands.{IsArrayCall}
 use Rattle.core_machine.specs.seat.Fits.{FitsPlace}
 use Rattle.core_machine.specs.seat.Making.{settled_place, gather_next}
@@ -28,28 +26,15 @@ use Rattle.core_machine.proofs.seat_lemmas.Fitting.{need_of_object}
 use Rattle.core_machine.proofs.table_lemmas.Free.{clear_in-claimed}
 use Rattle.heap_table.specs.Made.{Made, FoundIn, MakesSteps, IsSound}
 use Rattle.heap_table.specs.SeatHeld.{SeatHeld}
-use Rattle.heap_table.proofs.MadeSteps.{stage_along}
+use Rattle.heap_table.proofs.MadeSteps.{stage_along, TellsHere, made_here}
 use Rattle.frag_claim.specs.Begins.{BeginsGathering}
 use Rattle.frag_claim.specs.Due.{has_its_fragments}
 use Rattle.frag_claim.specs.Gathered.{IsClaimed, HasGathered, IsExhausted, HasItsFragments, EndsClaiming}
 
--- the step asks for an array's spine words, which is none of a gather
-abbrev AsksForWords : Step → Type 0
-AsksForWords (Spine (BudgetAdd words)) = Unit {0}
-AsksForWords _ = ⊥
-
--- the step was made here, or it asked for the words before
-abbrev TellsHere : List Made → Step → ℕ → Type 0
-TellsHere made step word = FoundIn made step word ⊎ AsksForWords step
-
 -- a claim was made here
-claimed_here : (made : List Made) (group word : ℕ) → TellsHere made (Making (Claim group)) word → FoundIn made (Making (Claim group)) word
-claimed_here made group word (inl here) = here
-claimed_here made group word (inr asks) = absurd asks
-
 is_claimed : (made : List Made) (claimed : List ℕ) (group : ℕ) → ClaimsGroup (TellsHere made) claimed group → IsClaimed made claimed group
 is_claimed made claimed group claims = record {
-  claim = record { word = claims.word; told = claimed_here made group claims.word claims.told; got = claims.got };
+  claim = record { word = claims.word; told = made_here made _ claims.word (λ asks. asks) claims.told; got = claims.got };
   leaves = clear_in-claimed group claims.word;
 }
 

@@ -1,5 +1,6 @@
 -- What a call comes to that was made after some room was, and noted.
-use Rattle.std.proofs.Common.{◌≡◌, ◌≢◌, ℕ, ◌+◌, ◌-◌, ◌*◌, ◌<◌, ◌≤◌, List, [], ◌∷◌, ◌++◌, length, drop, sym, ap, subst, ◌∙◌, length-append, arith}
+use Rattle.std.proofs.Common.{◌≡◌, ◌≢◌, ℕ, ◌+◌, ◌-◌, ◌*◌, ◌<◌, ◌≤◌, List, [], ◌∷◌, ◌++◌, length, drop, get_or, sym, ap, subst, ◌∙◌, length-append, arith}
+use Rattle.std.proofs.lemmas.List.{length-drop, drop-drop}
 use Rattle.heap_model.specs.declared.command.Command.{Command}
 use Rattle.heap_model.specs.declared.command.Command.TheVariants.{Leave}
 use Rattle.heap_model.specs.declared.entry.Entry.{Entry}
@@ -11,9 +12,9 @@ use Rattle.heap_model.specs.account.Turned.{without_turned}
 use Rattle.heap_model.specs.calls.SeatLaws.{EachCallIsShort}
 use Rattle.core_machine.specs.machine.Calls.{PlaysCall, CountsCall, AnswersNew, AnswersArray, TellsLeave, IsPlaceRefusal, LeavesAll}
 use Rattle.core_machine.specs.machine.Machine.{State, seat_at}
-use Rattle.core_machine.specs.machine.Value.{MachineValue, log_of, spare_of, SpendsRoom}
+use Rattle.core_machine.specs.machine.Value.{MachineValue, log_of, recent_of, forgotten_of, spare_of, SpendsRoom}
 use Rattle.core_machine.specs.seat.Commands.{IsRecordCall, IsArrayCall}
-use Rattle.core_rule.specs.Laws.{EveryRunKeeps}
+use Rattle.core_rule.specs.runs.Laws.{EveryRunKeeps}
 use Rattle.core_rule.proofs.parties.Logs.{log_longer, log_since}
 use Rattle.core_rule.proofs.parties.OneSeat.{after_call}
 use Rattle.core_rule.proofs.parties.Standing.{phase_near}
@@ -38,11 +39,34 @@ pub record AddsTold (old new : Recorded) (told : List Entry) : Type 0 where
 pub room_kept : (old new : Recorded) (told : List Entry) → AddsTold old new told → old.spare + length old.history ≤ new.spare + length new.history
 room_kept old new told is = omega (arith, is.left, ap (length {A = Entry}) is.noted, length-append old.history told)
 
--- what was noted behind the party's log as it was is what that has more
-pub noted_since : (old : Recorded) (one two : MachineValue) (party : ℕ) (before had now : List Entry) → now ≡ had ++ drop (length before) (log_of two party) → had ≡ old.listed → before ≡ log_of one party
+-- this was recent of the party before, and nothing was forgotten since
+pub record Remembers (one two : MachineValue) (party : ℕ) (before : List Entry) : Type 0 where
+  pub recent : before ≡ recent_of one party
+  pub within : forgotten_of one party ≤ length (log_of one party)
+  pub same : two.forgotten ≡ one.forgotten
+
+-- so what is behind it is what the log has more
+pub recent_since : (one two : MachineValue) (party : ℕ) (before : List Entry) → Remembers one two party before → drop (length before) (recent_of two party) ≡ since one two party
+recent_since one two party before remembers =
+    let gone = forgotten_of one party in
+    let same : forgotten_of two party ≡ gone = ap (λ (l : List ℕ). get_or l party 0) remembers.same in
+    let long : length before ≡ length (log_of one party) - gone = ap (length {A = Entry}) remembers.recent ∙ length-drop gone (log_of one party) in
+    let whole : gone + length before ≡ length (log_of one party) = omega (arith, long, remembers.within) in
+    ap (λ (n : ℕ). drop (length before) (drop n (log_of two party))) same ∙ drop-drop (length before) gone (log_of two party) ∙ ap (λ (n : ℕ). drop n (log_of two party)) whole
+
+-- and there is as much
+pub recent_longer : (one two : MachineValue) (party : ℕ) (before : List Entry) → Remembers one two party before → length (log_of one party) ≤ length (log_of two party)
+    → length before ≤ length (recent_of two party)
+recent_longer one two party before remembers longer =
+    let same : forgotten_of two party ≡ forgotten_of one party = ap (λ (l : List ℕ). get_or l party 0) remembers.same in
+    let long = ap (length {A = Entry}) remembers.recent ∙ length-drop (forgotten_of one party) (log_of one party) in
+    omega (arith, same, long, length-drop (forgotten_of two party) (log_of two party), longer)
+
+-- what was noted behind it comes to the list
+pub noted_since : (old : Recorded) (one two : MachineValue) (party : ℕ) (before had now : List Entry) → Remembers one two party before → now ≡ had ++ drop (length before) (recent_of two party) → had ≡ old.listed
     → now ≡ old.listed ++ since one two party
-noted_since old one two party before had now added as_it_was log =
-    added ∙ ap (λ (l : List Entry). l ++ drop (length before) (log_of two party)) as_it_was ∙ ap (λ (l : List Entry). old.listed ++ drop (length l) (log_of two party)) log
+noted_since old one two party before had now remembers added as_it_was =
+    added ∙ ap (λ (l : List Entry). l ++ drop (length before) (recent_of two party)) as_it_was ∙ ap (λ (l : List Entry). old.listed ++ l) (recent_since one two party before remembers)
 
 -- the history has as much more
 pub history_since : (old : Recorded) (now told : List Entry) → old.history ≡ without_turned old.listed → now ≡ old.listed ++ told → AreOfHeap told → without_turned now ≡ old.history ++ told
@@ -62,8 +86,16 @@ pub record CallMade (heap : Heap) (old new : State) (told : List Entry) (number 
 pub made_of_heap : (heap : Heap) (old new : State) (told : List Entry) (number : ℕ) (command : Command) (reply : Reply) → CallMade heap old new told number command reply → AreOfHeap told
 made_of_heap heap old new told number command reply made = subst AreOfHeap (sym made.told_is) (call_of_heap heap old new number command reply made.call)
 
+-- the collector's room is as it was where only a seat's entries were forgotten
+pub kept_room : (old : Recorded) (two three : MachineValue) (number : ℕ) → number < length two.state.seats → spare_of two (length two.state.seats) ≡ spare_of old.machine (length old.machine.state.seats)
+    → three ≡ record two { spares = three.spares; forgotten = three.forgotten } → ((other : ℕ) → other ≢ number → spare_of three other ≡ spare_of two other)
+    → spare_of three (length three.state.seats) ≡ spare_of old.machine (length old.machine.state.seats)
+kept_room old two three number within own same others =
+    ap (λ (m : MachineValue). spare_of three (length m.state.seats)) same ∙ others (length two.state.seats) (λ e. omega (arith, e, within)) ∙ own
+
 -- it was the machine's and is short; the collector's room is as it was
 pub record CallFacts (old : Recorded) (one two : MachineValue) (number : ℕ) (command : Command) (reply : Reply) : Type 0 where
+  pub within : number < length two.state.seats
   pub longer : length (log_of one number) ≤ length (log_of two number)
   pub made : CallMade old.machine.heap old.machine.state two.state (since one two number) number command reply
   pub short : length (since one two number) ≤ 2 * need_of command + 2
@@ -92,6 +124,7 @@ call_facts runs each_short old one two number command reply led same others step
     let many = ap (length {A = Entry}) made.told_is ∙ length-append call.before (Said number command reply ∷ []) in
     let after = after_call heap state two.state number command reply call in
     record {
+      within = omega (arith, can.0, after.seats);
       longer = log_longer one two number command reply steps.can.0.0 steps;
       made = made;
       short = omega (arith, many, brief);
@@ -99,10 +132,10 @@ call_facts runs each_short old one two number command reply led same others step
     }
 
 -- so it is what contracts say of it
-pub makes_call : (old new : Recorded) (one : MachineValue) (number : ℕ) (command : Command) (reply : Reply) → CallFacts old one new.machine number command reply → AddsTold old new (since one new.machine number)
-    → MakesCall old new number command reply
-makes_call old new one number command reply facts is =
-    let made = facts.made in
+pub makes_call : (old new : Recorded) (one two : MachineValue) (number : ℕ) (command : Command) (reply : Reply) → CallFacts old one two number command reply → AddsTold old new (since one two number)
+    → new.machine.state ≡ two.state → MakesCall old new number command reply
+makes_call old new one two number command reply facts is same =
+    let made = subst (λ (t : State). CallMade old.machine.heap old.machine.state t (since one two number) number command reply) (sym same) facts.made in
     record {
       same_heap = is.same_heap;
       call = made.call;
@@ -115,5 +148,5 @@ makes_call old new one number command reply facts is =
       refused = made.refused;
       turns_stay = is.turns_stay;
       last_stays = is.last_stays;
-      spare = room_kept old new (since one new.machine number) is;
+      spare = room_kept old new (since one two number) is;
     }

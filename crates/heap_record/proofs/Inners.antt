@@ -17,6 +17,7 @@ use Rattle.heap_record.proofs.HeapEntries.{AreOfHeap, inner_of_heap}
 
 -- the call was the machine's, and it tells one entry at most; the collector's room is as it was
 pub record InnerFacts (old : Recorded) (one two : MachineValue) (number : ℕ) (inner : Inner) : Type 0 where
+  pub within : number < length two.state.seats
   pub longer : length (log_of one number) ≤ length (log_of two number)
   pub plays : PlaysInner old.machine.heap old.machine.state two.state number inner
   pub told : since one two number ≡ inner_entries old.machine.heap old.machine.state.words number (seat_at old.machine.state number).answered inner
@@ -40,6 +41,7 @@ inner_facts old one two number inner same others plays spent =
     let more : log_of two number ≡ log_of one number ++ added = two_log ∙ ap (λ (l : List Entry). l ++ added) (sym one_log) in
     let told : since one two number ≡ added = rw more (drop-append_seam (log_of one number) added) in
     record {
+      within = omega (arith, within, after.seats);
       longer = omega (arith, ap (length {A = Entry}) more, length-append (log_of one number) added);
       plays = here;
       told = told;
@@ -52,13 +54,14 @@ pub facts_of_heap : (old : Recorded) (one two : MachineValue) (number : ℕ) (in
 facts_of_heap old one two number inner facts = subst AreOfHeap (sym facts.told) (inner_of_heap old.machine.heap old.machine.state two.state number inner facts.plays)
 
 -- so it is what contracts say of it
-pub makes_inner : (old new : Recorded) (one : MachineValue) (number : ℕ) (inner : Inner) → InnerFacts old one new.machine number inner → AddsTold old new (since one new.machine number) → MakesInner old new number inner
-makes_inner old new one number inner facts is = record {
+pub makes_inner : (old new : Recorded) (one two : MachineValue) (number : ℕ) (inner : Inner) → InnerFacts old one two number inner → AddsTold old new (since one two number)
+    → new.machine.state ≡ two.state → MakesInner old new number inner
+makes_inner old new one two number inner facts is same = record {
   same_heap = is.same_heap;
-  plays = facts.plays;
+  plays = subst (λ (t : State). PlaysInner old.machine.heap old.machine.state t number inner) (sym same) facts.plays;
   noted = is.noted ∙ ap (λ (l : List Entry). old.history ++ l) facts.told;
   listed = is.listed ∙ ap (λ (l : List Entry). old.listed ++ l) facts.told;
   turns_stay = is.turns_stay;
   last_stays = is.last_stays;
-  spare = room_kept old new (since one new.machine number) is;
+  spare = room_kept old new (since one two number) is;
 }

@@ -15,7 +15,7 @@ use Rattle.core_machine.specs.machine.InnerCalls.{inner_events}
 use Rattle.core_machine.specs.machine.Machine.{State, seat_at, Event, Turns, Run, state_after_all, history}
 use Rattle.core_machine.specs.machine.Opening.{IsOpening}
 use Rattle.core_machine.specs.seat.Seat.{Seat}
-use Rattle.core_rule.specs.Laws.{EveryRunKeeps, StandsFor, AllIdle}
+use Rattle.core_rule.specs.runs.Laws.{EveryRunKeeps, StandsFor, AllIdle}
 use Rattle.core_rule.proofs.parties.MoreEvents.{Run-append, after_all-append, history-append}
 use Rattle.core_rule.proofs.parties.OneSeat.{SameBut, after_call, after_inner}
 use Rattle.core_rule.proofs.parties.OpenedSeats.{idle_opened}

@@ -9,7 +9,7 @@ use Rattle.heap_model.specs.account.PhaseCounts.{phase}
 use Rattle.heap_model.specs.calls.CollectorCalls.{ComesTo}
 use Rattle.core_machine.specs.machine.Machine.{Turns, Can, next_turn, found_by, state_after, entries}
 use Rattle.core_machine.specs.machine.Value.{MachineValue}
-use Rattle.core_rule.specs.Laws.{EveryRunKeeps, EachEventKeeps, EachTurnComesTo, IsToldBy}
+use Rattle.core_rule.specs.runs.Laws.{EveryRunKeeps, EachEventKeeps, EachTurnComesTo, IsToldBy}
 use Rattle.core_rule.proofs.parties.Collectors.{all_collectors}
 use Rattle.core_rule.proofs.parties.TurnLogs.{TurnFacts, turn_facts}
 use Rattle.heap_record.specs.Recorded.{Recorded, EventsLeadTo, AnyEvents, MakesTurn, collector_of}

@@ -21,7 +21,7 @@ use Rattle.core_machine.specs.machine.InnerCalls.{PlaysInner, inner_entries}
 use Rattle.core_machine.specs.machine.Machine.{State, seat_at, Event, Turns, Can, Run, next_turn, found_by, state_after, state_after_all, entries, history}
 use Rattle.core_machine.specs.machine.Opening.{IsOpening}
 use Rattle.core_machine.specs.machine.Value.{MachineValue, spare_of}
-use Rattle.core_rule.specs.Laws.{AllIdle}
+use Rattle.core_rule.specs.runs.Laws.{AllIdle}
 
 -- the machine, the entries of all its parties in their order, the same with the answers to the collector's commands that were noted between them, for how many more
 -- of the collector's there is room, its turns as far as they are counted, and what the last of them answered

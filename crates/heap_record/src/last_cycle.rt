@@ -3,7 +3,6 @@ ghost use Rattle.heap_record.specs.LastCycle.{EndsWholeCycle};
 
 use heap_model::phase_plan::{CYCLE_PHASES, REST};
 use heap_model::{CollectorCalls, Memory, Turn};
-use slack_pace::RoomCalls;
 use std::sync::Wait;
 
 /// The first cycle that begins at this phase or behind it.
@@ -19,12 +18,12 @@ pub fn next_whole_cycle(phase: u64) -> u64
 }
 
 /// Makes turns up to the end of the first cycle that begins not before the first of them, and room for the entries of each.
-pub fn end_whole_cycle<C: RoomCalls, R: Wait>(rt: &R, collector: &mut C) -> Result<(), Memory>
+pub fn end_whole_cycle<C: CollectorCalls, R: Wait>(rt: &R, collector: &mut C) -> Result<(), Memory>
     ensures { OnOk result (EndsWholeCycle C.state C.roomed C.turned collector.old collector.new) }
 {
     let target = next_whole_cycle(collector.phase());
     for _ in rt.forever() {
-        collector.make_room(2)?;
+        collector.room(2)?;
         if let Turn::Ended { cycle, .. } = collector.turn() {
             if cycle == target {
                 return Ok(());

@@ -1,5 +1,5 @@
-ghost use Rattle.std.specs.Prelude.{◌≡◌, ◌+◌, ◌-◌, ◌≤◌, ◌++◌, length, drop, vec_len, vec_capacity};
-ghost use Rattle.core_machine.specs.machine.Value.{IsParty, log_of};
+ghost use Rattle.std.specs.Prelude.{◌≡◌, ◌≢◌, ℕ, ◌+◌, ◌-◌, ◌≤◌, ◌++◌, length, drop, vec_len, vec_capacity};
+ghost use Rattle.core_machine.specs.machine.Value.{IsParty, recent_of, spare_of};
 ghost use Rattle.heap_record.specs.Recorded.{claimed_by};
 
 use core_machine::Machine;
@@ -13,35 +13,40 @@ fn note_all(list: &mut Vec<Entry>, entries: &[Entry])
     ensures len { vec_len list.new ≡ vec_len list.old + length entries.now }
     ensures capacity { vec_capacity list.old ≤ vec_capacity list.new }
 {
-    // (most turns add none)
-    if entries.is_empty() {
-        return;
-    }
     let Ok(()) = list.extend_from_slice(entries) else {
         unreachable!()
     };
 }
 
-/// Adds what the party's log has behind its first `before` entries, for which there is room, and takes it from the spare room.
+/// Adds the party's entries behind the first `before` that the machine shows, for which there is room, takes them from the spare room, and lets the machine forget
+/// them.
 #[inline(always)]
 pub fn note_since(
     list: &mut Vec<Entry>,
     spare: &mut usize,
-    machine: &Machine,
+    machine: &mut Machine,
     party: u8,
     before: usize,
 )
-    requires party { IsParty machine.now party }
-    requires longer { before ≤ length (log_of machine.now party) }
-    requires room { vec_len list.old + length (drop before (log_of machine.now party)) ≤ vec_capacity list.old }
-    ensures items { list.new.items ≡ list.old.items ++ drop before (log_of machine.now party) }
-    ensures len { vec_len list.new ≡ vec_len list.old + length (drop before (log_of machine.now party)) }
+    requires party { IsParty machine.old party }
+    requires longer { before ≤ length (recent_of machine.old party) }
+    requires room { vec_len list.old + length (drop before (recent_of machine.old party)) ≤ vec_capacity list.old }
+    ensures items { list.new.items ≡ list.old.items ++ drop before (recent_of machine.old party) }
+    ensures len { vec_len list.new ≡ vec_len list.old + length (drop before (recent_of machine.old party)) }
     ensures capacity { vec_capacity list.old ≤ vec_capacity list.new }
-    ensures left { spare.new ≡ spare.old - length (drop before (log_of machine.now party)) }
+    ensures left { spare.new ≡ spare.old - length (drop before (recent_of machine.old party)) }
+    ensures same { machine.new ≡ record machine.old { spares = machine.new.spares; forgotten = machine.new.forgotten } }
+    ensures more { spare_of machine.old party ≤ spare_of machine.new party }
+    ensures others { (other : ℕ) → other ≢ party → spare_of machine.new other ≡ spare_of machine.old other }
 {
-    let (_, told) = machine.log(party).split_at(before);
+    let (_, told) = machine.recent(party).split_at(before);
+    // (most turns tell nothing)
+    if told.is_empty() {
+        return;
+    }
     *spare = spare.saturating_sub(told.len());
     note_all(list, told);
+    machine.forget(party);
 }
 
 /// How many fragments these entries take, or the last number of its type.

@@ -79,12 +79,12 @@ impl Recorder {
         let room = 2 * command.need() as usize + 4;
         self.machine.room(seat, room)?;
         self.entries.reserve(room)?;
-        let before = self.machine.log(seat).len();
+        let before = self.machine.recent(seat).len();
         let reply = self.machine.play_call(seat, command);
         note_since(
             &mut self.entries,
             &mut self.spare,
-            &self.machine,
+            &mut self.machine,
             seat,
             before,
         );
@@ -107,12 +107,12 @@ impl Recorder {
         law_every_run();
         self.machine.room(seat, 4)?;
         self.entries.reserve(4)?;
-        let before = self.machine.log(seat).len();
+        let before = self.machine.recent(seat).len();
         self.machine.play_inner(seat, inner);
         note_since(
             &mut self.entries,
             &mut self.spare,
-            &self.machine,
+            &mut self.machine,
             seat,
             before,
         );

@@ -20,7 +20,7 @@ use Rattle.core_rule.proofs.runs.Plays.{keeps_there}
 use Rattle.heap_table.specs.Folded.{SeatsBefore}
 use Rattle.heap_record.proofs.LastCycle.{left_before}
 use Rattle.log_merge.proofs.merge_lemmas.Parts.{IsParted, parted_filter}
-use Rattle.heap_runs.specs.Finishing.{EndsBehindLeaves}
+use Rattle.heap_model.specs.runs.Endings.{EndsBehindLeaves}
 
 -- the list is parted at an element that passes the test
 record PartsAt {X : Type 0} (test : X → Bool) (all : List X) : Type 0 where

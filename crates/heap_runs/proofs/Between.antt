@@ -7,7 +7,7 @@ use Rattle.heap_model.specs.declared.reply.Reply.{Reply}
 use Rattle.core_machine.specs.machine.Calls.{call_events}
 use Rattle.core_machine.specs.machine.InnerCalls.{inner_events}
 use Rattle.core_machine.specs.machine.Machine.{State, Event, Turns}
-use Rattle.core_rule.specs.Laws.{OneCallAtATime, NotesNow}
+use Rattle.core_rule.specs.runs.Laws.{OneCallAtATime, NotesNow}
 use Rattle.core_rule.proofs.parties.MoreEvents.{OneCall-append}
 use Rattle.core_rule.proofs.parties.OneSeat.{call_alone, inner_alone}
 use Rattle.heap_record.specs.Recorded.{Recorded, MakesCall, MakesInner, MakesTurn}

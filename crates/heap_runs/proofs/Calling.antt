@@ -17,7 +17,7 @@ use Rattle.core_machine.specs.machine.Machine.{seat_at, Begins, Can}
 use Rattle.core_machine.specs.seat.Commands.{IsServed}
 use Rattle.core_machine.specs.seat.Making.{next_object_id}
 use Rattle.core_machine.specs.seat.Seat.{Seat}
-use Rattle.core_rule.specs.Laws.{StandsFor, FreeIsUnused, WordsAreUsed}
+use Rattle.core_rule.specs.runs.Laws.{StandsFor, FreeIsUnused, WordsAreUsed}
 use Rattle.core_rule.proofs.parties.Standing.{words_used, own_reserve, answered_last, gone_is, made_is, phase_near, number_left}
 use Rattle.heap_record.specs.Recorded.{Recorded, MakesCall}
 use Rattle.heap_runs.specs.Collecting.{IsStillThere}

@@ -12,7 +12,7 @@ use Rattle.heap_model.specs.declared.entry.Entry.TheVariants.{Ends}
 use Rattle.heap_model.specs.declared.heap.Heap.{Heap}
 use Rattle.core_machine.specs.seat.Seat.{Seat}
 use Rattle.core_machine.specs.collector.Collector.{Collector}
-use Rattle.core_rule.specs.SweepLaws.{EachLastCycleBalances}
+use Rattle.core_rule.specs.sweep_exact.SweepLaws.{EachLastCycleBalances}
 use Rattle.heap_table.specs.Closed.{ClosedTable, HasOneHistory, logs_known}
 use Rattle.heap_table.specs.CollectorHeld.{CollectorHeld}
 use Rattle.heap_table.specs.Folded.{IsFolded, AllFolded}

@@ -97,15 +97,8 @@ pub steps_made : (n : ℕ) (old new : PlayState) → TakesTurns IsStep n old new
 steps_made zero old new same = rw same (record { same_heap = refl; steps = []; told = sym (append-nil old.entries); own = tt; begins = begins_none (phase old.entries) })
 steps_made (suc n) old new taken = step_more old taken.0 new (steps_made n old taken.0 taken.2) (subst (λ (turn : Turn). TakesTurn taken.0 new turn) taken.4 taken.3)
 
--- turns up to the end of a cycle
-pub record ComesToEnd (old new : PlayState) : Type 0 where
-  pub same_heap : new.heap ≡ old.heap
-  pub turned : List Entry
-  pub told : new.entries ≡ old.entries ++ turned
-  pub ended : ReachesCycleEnd (phase old.entries % cycle_phases == rest) turned
-  pub at_rest : phase new.entries % cycle_phases ≡ rest
-
-pub comes_to_end : (old new : PlayState) (cycle kept : ℕ) (reply : TurnReply) → HasComeTo IsStep old new (turns.Ended cycle kept) reply → ComesToEnd old new
+-- turns up to the end of a cycle are those of one
+pub comes_to_end : (old new : PlayState) (cycle kept : ℕ) (reply : TurnReply) → HasComeTo IsStep old new (turns.Ended cycle kept) reply → NotesCycle old new
 comes_to_end old new cycle kept reply came =
     let made = steps_made came.earlier old came.now came.turned.taken in
     let takes = came.takes in
@@ -124,7 +117,7 @@ comes_to_end old new cycle kept reply came =
     begun first now some (inr there) last = there.1
 
 -- once every seat has left no turn waits, so the cycle ends
-pub unhindered : (old new : PlayState) (reply : TurnReply) → AllHaveLeft old → ServesCycle old new reply → ComesToEnd old new
+pub unhindered : (old new : PlayState) (reply : TurnReply) → AllHaveLeft old → ServesCycle old new reply → NotesCycle old new
 unhindered old new replies.Done gone serves = absurd serves
 unhindered old new (replies.Cycle cycle) gone serves = comes_to_end old new cycle serves.0 (replies.Cycle cycle) serves.1
 unhindered old new (replies.Waits number answer p) gone serves =

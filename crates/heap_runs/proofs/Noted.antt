@@ -15,12 +15,12 @@ use Rattle.heap_model.specs.account.Phases.{IsBehind}
 use Rattle.core_machine.specs.declared.seat.looks.Looks.{Looks}
 use Rattle.core_machine.specs.declared.table.address.Address.TheVariants.{Phase, Answer}
 use Rattle.core_machine.specs.machine.InnerCalls.{inner_entries}
-use Rattle.core_machine.specs.machine.Machine.{seat_at}
-use Rattle.core_machine.specs.seat.Looks.{first_of, looked, compared, seen_phase, FirstUpTo, noted_reply}
+use Rattle.core_machine.specs.machine.Machine.{BeginsInner, Can, seat_at}
+use Rattle.core_machine.specs.seat.Looks.{first_of, looked, compared, seen_phase, FirstUpTo, MayMake, noted_reply}
 use Rattle.core_machine.specs.seat.Seat.{Seat}
 use Rattle.core_machine.specs.table.Layout.{at}
-use Rattle.core_rule.specs.Laws.{StandsFor}
-use Rattle.core_rule.specs.Looks.{WasSeen}
+use Rattle.core_rule.specs.runs.Laws.{StandsFor}
+use Rattle.core_rule.specs.looks.Looks.{WasSeen}
 use Rattle.core_rule.proofs.parties.OneSeat.{after_inner}
 use Rattle.core_rule.proofs.parties.Standing.{word_is, answer_word_is}
 use Rattle.heap_record.specs.Recorded.{MakesInner, Recorded}
@@ -36,16 +36,21 @@ present_still old new number inner makes present =
     let others = after_inner old.machine.heap old.machine.state new.machine.state number inner makes.plays in
     record { within = omega (arith, present.within, others.seats); there = ap (λ (s : Seat). s.left) makes.plays.seat ∙ present.there }
 
+-- between two calls it may begin an inner call that what it found allows
+can_begin : (whole : Recorded) (number : ℕ) (inner : Inner) → IsStillThere whole number → IsBetweenCalls whole.machine.heap whole.machine.state whole.history
+    → MayMake whole.machine.heap number (seat_at whole.machine.state number).looks inner → Can whole.machine.heap whole.machine.state (BeginsInner number inner)
+can_begin whole number inner present between makes = (present.within, record { idle = between.all_idle number present.within; present = present.there; makes = makes })
+
 -- it may look, and see what its turns came to
 pub may_look : (whole : Recorded) (number : ℕ) → IsStillThere whole number → IsBetweenCalls whole.machine.heap whole.machine.state whole.history → MayGoOn whole number inners.Look
 may_look whole number present between =
-    record { can = (present.within, record { idle = between.all_idle number present.within; present = present.there; makes = tt }); now = tt }
+    record { can = can_begin whole number inners.Look present between tt; now = tt }
 
 pub may_see : (whole : Recorded) (number : ℕ) (reply : CollectReply) → IsStillThere whole number → IsBetweenCalls whole.machine.heap whole.machine.state whole.history → LastTurnIs whole number reply
     → MayGoOn whole number (seen_by reply)
 may_see whole number (replies.Cycle cycle) present between comes = may_look whole number present between
 may_see whole number (replies.Waits other answer p) present between comes =
-    record { can = (present.within, record { idle = between.all_idle number present.within; present = present.there; makes = (comes.2, comes.0) }); now = tt }
+    record { can = can_begin whole number (inners.Behind other) present between (comes.2, comes.0); now = tt }
 
 -- the first look found no phase later than the one now
 first_now : (history : List Entry) (number found : ℕ) (first : Option ℕ) → IfSome first (WasSeen history number) → found ≡ phase history → FirstUpTo (first_of first found) (phase history)
@@ -80,16 +85,9 @@ module _ (old new : Recorded) (number p : ℕ) (one : StandsFor old.machine.heap
       let looks : (seat_at new.machine.state number).looks ≡ looked (at old.machine.heap old.machine.state.words Phase) (seat_at old.machine.state number).looks = ap (λ (t : Seat). t.looks) makes.plays.seat in
       let kept = first_kept (seat_at old.machine.state number).looks.first (at old.machine.heap old.machine.state.words Phase) p (cycle_phases * cycle) upto (whole cycle refl) in
       record {
-        can = (
-          here.within,
-          record {
-            idle = between.all_idle number here.within;
-            present = here.there;
-            makes = (
-              subst (λ (l : Looks). FirstUpTo l.first (cycle_phases * cycle)) (sym looks) kept,
-              omega (arith, ap (λ (l : Looks). l.seen) looks, word_is old.machine.heap old.machine.state old.history one, comes.2),
-            );
-          },
+        can = can_begin new number (inners.Note (replies.Cycle cycle)) here between (
+          subst (λ (l : Looks). FirstUpTo l.first (cycle_phases * cycle)) (sym looks) kept,
+          omega (arith, ap (λ (l : Looks). l.seen) looks, word_is old.machine.heap old.machine.state old.history one, comes.2),
         );
         now = tt;
       }
@@ -105,14 +103,8 @@ module _ (old new : Recorded) (number p : ℕ) (one : StandsFor old.machine.heap
       let looks : (seat_at new.machine.state number).looks ≡ compared other (at old.machine.heap old.machine.state.words Phase) (at old.machine.heap old.machine.state.words (Answer other))
       (seen_phase (at old.machine.heap old.machine.state.words Phase) (seat_at old.machine.state number).looks) = ap (λ (t : Seat). t.looks) makes.plays.seat in
       record {
-        can = (
-          here.within,
-          record {
-            idle = between.all_idle number here.within;
-            present = here.there;
-            makes = ap (λ (l : Looks). l.behind) looks ∙ (rw (phase_word, own_word) (found_then other q answer (seen_phase q (seat_at old.machine.state number).looks) comes.4));
-          },
-        );
+        can = can_begin new number (inners.Note (replies.Waits other answer q)) here between
+            (ap (λ (l : Looks). l.behind) looks ∙ (rw (phase_word, own_word) (found_then other q answer (seen_phase q (seat_at old.machine.state number).looks) comes.4)));
         now = record {
           word = answer_word_is new.machine.heap new.machine.state new.history two other answer there later.present later.answered;
           here = word_is new.machine.heap new.machine.state new.history two ∙ later.here;

@@ -1,12 +1,13 @@
 -- The seats of a table that opens may run short scripts.
-use Rattle.std.proofs.Common.{◌≡◌, ℕ, ◌<◌, ◌≤◌, List, [], length, map, Vec, Global, None, sym, ap, subst, ◌∙◌, arith}
+use Rattle.std.proofs.Common.{◌≡◌, ℕ, ◌<◌, List, [], length, map, None, sym, ap, subst, ◌∙◌, arith}
 use Rattle.std.specs.Prelude.{All, slice_index_or}
 use Rattle.std.specs.List.{range_with_len}
 use Rattle.std.proofs.lemmas.List.{length-map, get_or-replicate}
-use Rattle.std.proofs.lemmas.List.Elements.{All-nil, All-map}
+use Rattle.std.proofs.lemmas.List.Elements.{All-nil}
 use Rattle.std.proofs.lemmas.List.FromFn.{length-range_with_len, get_or-range_with_len}
 use Rattle.std.proofs.Math.ListN.{get_or-map}
 use Rattle.atomic_table.specs.Seated.{TableId}
+use Rattle.heap_model.specs.Limits.{stamp_limit}
 use Rattle.heap_model.specs.calls.SeatLaws.{IsOwn}
 use Rattle.heap_model.specs.calls.SeatState.{own_graph_seat}
 use Rattle.heap_model.specs.declared.command.Command.{Command}
@@ -37,29 +38,29 @@ own_opened table heap held opened within =
     (subst (λ (h : Heap). own_graph_seat (record { heap = h; number = held.number; mine = []; spare = held.spare }) ≡ opening_graph_seat) (sym opened.heap_is)
     (get_or-replicate heap.seats held.number opening_graph_seat absent_graph_seat within))
 
+-- the commands are of a script, and there are fewer than the stamps of a seat
+abbrev pub IsShortScript : List Command → Type 0
+IsShortScript commands = (length commands < stamp_limit) × All IsOfScript commands
+
 -- and may work on its script
 ready_opened : (table : TableId) (heap : Heap) (scripts : List (List Command)) (held : SeatHeld) → IsOpened table heap held → held.number < heap.seats → length scripts ≡ heap.seats
-    → length (script_at scripts held.number) ≤ 20 → All IsOfScript (script_at scripts held.number) → IsReadyToWork table heap scripts held
-ready_opened table heap scripts held opened within seated short each =
+    → IsShortScript (script_at scripts held.number) → IsReadyToWork table heap scripts held
+ready_opened table heap scripts held opened within seated short =
     let own = own_opened table heap held opened within in
     record {
       of_table = record { table_is = opened.table_is; heap_is = opened.heap_is };
       scripted = omega (arith, within, seated);
       may = record {
         present = ap (λ (g : GraphSeat). g.left) own;
-        each = each;
-        names = omega (arith, short, ap (λ (g : GraphSeat). length g.objects) own);
-        stamps = omega (arith, short, ap (λ (g : GraphSeat). g.sets) own);
+        each = short.1;
+        names = omega (arith, short.0, ap (λ (g : GraphSeat). length g.objects) own);
+        stamps = omega (arith, short.0, ap (λ (g : GraphSeat). g.sets) own);
       };
     }
 
--- the commands in a list of them
-abbrev pub items : Vec Command Global → List Command
-items script = script.items
-
-module _ (heap : Heap) (scripts : List (Vec Command Global)) (made : CollectorHeld) (holders : List SeatHeld) (heap_is : made.heap ≡ heap)
+module _ (heap : Heap) (scripts : List (List Command)) (made : CollectorHeld) (holders : List SeatHeld) (heap_is : made.heap ≡ heap)
     (numbers : map (λ held. held.number) holders ≡ range_with_len 0 heap.seats) (opened : All (IsOpened made.table heap) holders) where
-  many_seats : length holders ≡ heap.seats
+  pub many_seats : length holders ≡ heap.seats
   many_seats = sym (length-map holders (λ (held : SeatHeld). held.number)) ∙ ap length numbers ∙ length-range_with_len 0 heap.seats
 
   number_there : (k : ℕ) (d : SeatHeld) → k < length holders → (slice_index_or holders k d).number ≡ k
@@ -73,19 +74,12 @@ module _ (heap : Heap) (scripts : List (Vec Command Global)) (made : CollectorHe
 
   -- and they may run the scripts
   pub may_run : (seats : List SeatHeld) (collector : CollectorValue) → seats ≡ holders → collector ≡ record { holder = made; last_turn = None } → length scripts ≡ heap.seats
-      → All (λ (script : Vec Command Global). length script.items ≤ 20) scripts → All (λ (script : Vec Command Global). All IsOfScript script.items) scripts
-      → MayRun seats collector (map items scripts)
-  may_run seats collector same collector_is seated short each =
-      let lists = map items scripts in
-      let many : length lists ≡ heap.seats = length-map scripts items ∙ seated in
-      let shorts = All-map (λ (l : List Command). length l ≤ 20) items scripts short in
-      let eaches = All-map (λ (l : List Command). All IsOfScript l) items scripts each in
-      subst (λ l. MayRun l collector lists) (sym same) (subst (λ v. MayRun holders v lists) (sym collector_is) (record {
+      → ((number : ℕ) → number < heap.seats → IsShortScript (script_at scripts number)) → MayRun seats collector scripts
+  may_run seats collector same collector_is seated short =
+      subst (λ l. MayRun l collector scripts) (sym same) (subst (λ v. MayRun holders v scripts) (sym collector_is) (record {
         numbers = numbers ∙ ap (λ (h : Heap). range_with_len 0 h.seats) (sym heap_is);
         ready = λ k d below.
             let held = slice_index_or holders k d in
             let within : held.number < heap.seats = omega (arith, number_there k d below, below, many_seats) in
-            let scripted : held.number < length lists = omega (arith, within, many) in
-            subst (λ h. IsReadyToWork made.table h lists held) (sym heap_is)
-            (ready_opened made.table heap lists held (opened k d below) within many (shorts held.number [] scripted) (eaches held.number [] scripted));
+            subst (λ h. IsReadyToWork made.table h scripts held) (sym heap_is) (ready_opened made.table heap scripts held (opened k d below) within seated (short held.number within));
       }))

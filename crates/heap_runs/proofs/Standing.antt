@@ -4,7 +4,7 @@ use Rattle.heap_model.specs.declared.heap.Heap.{Heap}
 use Rattle.heap_model.specs.declared.entry.Entry.{Entry}
 use Rattle.heap_model.specs.account.Account.{IsLegal}
 use Rattle.core_machine.specs.machine.Machine.{State}
-use Rattle.core_rule.specs.Laws.{OneCallAtATime, StandsFor, EveryRunKeeps, WholeCallsPlay, WordsAreUsed}
+use Rattle.core_rule.specs.runs.Laws.{OneCallAtATime, StandsFor, EveryRunKeeps, WholeCallsPlay, WordsAreUsed}
 use Rattle.core_rule.proofs.parties.Standing.{none_short, words_used}
 use Rattle.heap_record.proofs.Leading.{book_stands}
 use Rattle.heap_runs.specs.MachineHeap.{IsBetweenCalls}

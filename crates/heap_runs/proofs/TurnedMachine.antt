@@ -4,8 +4,8 @@ use Rattle.heap_model.specs.declared.calls.collector_calls.Turn.{Turn}
 use Rattle.heap_model.specs.declared.calls.collector_calls.Turn.TheVariants as turns
 use Rattle.heap_model.specs.account.Phases.{IsBehind}
 use Rattle.core_machine.specs.machine.Machine.{Turns, next_turn, found_by, entries}
-use Rattle.core_rule.specs.Laws.{StandsFor, EachWaitIsBehind}
-use Rattle.core_rule.specs.TurnsLeft.{EachTurnLeavesFewer}
+use Rattle.core_rule.specs.runs.Laws.{StandsFor, EachWaitIsBehind}
+use Rattle.core_rule.specs.turns.TurnsLeft.{EachTurnLeavesFewer}
 use Rattle.heap_record.specs.Recorded.{Recorded, MakesTurn}
 use Rattle.heap_runs.specs.MachineHeap.{run_state_of}
 use Rattle.heap_runs.specs.PlayHeap.{TakesTurn, WaitsRightly}

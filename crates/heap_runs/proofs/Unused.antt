@@ -15,7 +15,7 @@ use Rattle.heap_model.specs.account.Noting.{is_collectors}
 use Rattle.heap_model.specs.account.PhaseCounts.{has_left}
 use Rattle.heap_model.specs.account.Space.{fragments_gained, fragments_lost, words_granted, words_returned}
 use Rattle.core_machine.specs.seat.Seat.{Seat}
-use Rattle.core_rule.specs.SweepLaws.{EachLastCycleBalances}
+use Rattle.core_rule.specs.sweep_exact.SweepLaws.{EachLastCycleBalances}
 use Rattle.heap_table.specs.Closed.{ClosedTable, HasOneHistory, logs_known}
 use Rattle.heap_table.specs.Known.{CollectorKnown}
 use Rattle.heap_table.specs.SeatHeld.{SeatHeld}

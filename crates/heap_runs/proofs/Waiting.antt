@@ -16,8 +16,8 @@ use Rattle.core_machine.specs.collector.Collector.{Collector, has_answered_of, a
 use Rattle.core_machine.specs.machine.Machine.{State, seat_at, found_by}
 use Rattle.core_machine.specs.seat.Seat.{Seat}
 use Rattle.core_machine.specs.table.Layout.{at}
-use Rattle.core_rule.specs.Laws.{StandsFor}
-use Rattle.core_rule.specs.TurnsLeft.{turns_left, turns_left_at}
+use Rattle.core_rule.specs.runs.Laws.{StandsFor}
+use Rattle.core_rule.specs.turns.TurnsLeft.{turns_left, turns_left_at}
 use Rattle.core_rule.proofs.parties.OneSeat.{after_inner}
 use Rattle.core_rule.proofs.parties.Standing.{word_is, answered_last, phase_near}
 use Rattle.heap_record.specs.Recorded.{MakesInner, Recorded, MakesTurn}

@@ -9,7 +9,7 @@ use Rattle.heap_model.specs.account.Account.{IsLegal}
 use Rattle.heap_model.specs.account.PhaseCounts.{has_left}
 use Rattle.heap_model.specs.account.Windows.{begins_cycle, up_to_cycle}
 use Rattle.heap_model.specs.calls.SeatCalls.{leave_entries}
-use Rattle.core_rule.specs.SweepLaws.{EachLastCycleEmpties}
+use Rattle.core_rule.specs.sweep_exact.SweepLaws.{EachLastCycleEmpties}
 use Rattle.heap_model.specs.account.Space.{fragments_gained, fragments_lost, fragments_used, words_used, words_granted, words_returned}
 use Rattle.script_text.specs.declared.script.Form.TheVariants as forms
 use Rattle.script_text.specs.declared.script.Script.{Script}

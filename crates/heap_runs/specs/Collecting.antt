@@ -10,7 +10,7 @@ use Rattle.heap_model.specs.PhasePlan.{cycle_phases, clearing}
 use Rattle.heap_model.specs.account.PhaseCounts.{phase}
 use Rattle.heap_model.specs.account.Phases.{IsBehind}
 use Rattle.core_machine.specs.machine.Machine.{BeginsInner, Can, seat_at}
-use Rattle.core_rule.specs.Laws.{NotesNow}
+use Rattle.core_rule.specs.runs.Laws.{NotesNow}
 use Rattle.heap_record.specs.Recorded.{Recorded}
 use Rattle.heap_runs.specs.MachineHeap.{CollectsMachine}
 use Rattle.heap_runs.specs.Play.{EndsInCycle, TellsInCollect, IsFirstFrom}

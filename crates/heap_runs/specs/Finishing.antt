@@ -1,14 +1,13 @@
 -- How a run on a table ends.
-use Rattle.std.specs.Prelude.{◌≡◌, ℕ, ◌<◌, true, List, [], ◌∷◌, ◌++◌, map}
+use Rattle.std.specs.Prelude.{◌≡◌, true, List, [], ◌∷◌, ◌++◌, map}
 use Rattle.std.specs.List.{AllByRecursion}
 use Rattle.atomic_table.specs.Seated.{TableId}
 use Rattle.heap_model.specs.declared.entry.Entry.{Entry}
-use Rattle.heap_model.specs.declared.entry.Entry.TheVariants.{Ends}
 use Rattle.heap_model.specs.declared.heap.Heap.{Heap}
 use Rattle.heap_model.specs.account.PhaseCounts.{has_left}
 use Rattle.heap_model.specs.account.Space.{fragments_gained, fragments_lost, words_granted, words_returned}
 use Rattle.heap_model.specs.account.Turned.{is_of_heap}
-use Rattle.heap_model.specs.account.Windows.{up_to_cycle}
+use Rattle.heap_model.specs.runs.Endings.{EndsBehindLeaves}
 use Rattle.heap_table.specs.Closed.{ClosedTable, HasOneHistory}
 use Rattle.heap_table.specs.Handing.{with_folded}
 use Rattle.heap_table.specs.Known.{CollectorKnown}
@@ -24,14 +23,6 @@ pub record HasGone (table : TableId) (heap : Heap) (held : SeatHeld) : Type 0 wh
 -- what the collector's holder knows once it has folded in the seat as well
 abbrev pub folded_in : CollectorKnown → SeatHeld → CollectorKnown
 folded_in known held = with_folded known held.number held.seat
-
--- the last entry ends a cycle that began after every seat had left
-pub record EndsBehindLeaves (heap : Heap) (told : List Entry) : Type 0 where
-  pub before : List Entry
-  pub cycle : ℕ
-  pub kept : ℕ
-  pub last : told ≡ before ++ Ends cycle kept ∷ []
-  pub left : (number : ℕ) → number < heap.seats → has_left number (up_to_cycle before) ≡ true
 
 -- one legal history has exactly the logs, and the words stand for it; it ends with a cycle that began after every seat had left, and nothing is in use then
 pub record EndsUnused (closed : ClosedTable) : Type 0 where

@@ -10,8 +10,8 @@ use Rattle.heap_model.specs.account.Turned.{without_turned, AllAnswerRightly}
 use Rattle.core_machine.specs.machine.InnerCalls.{PlaysInner, inner_entries}
 use Rattle.core_machine.specs.machine.Machine.{State, seat_at, Turns, Can, state_after, entries}
 use Rattle.core_machine.specs.machine.Opening.{IsOpening}
-use Rattle.core_rule.specs.Laws.{OneCallAtATime}
-use Rattle.core_rule.specs.TurnsLeft.{turns_left}
+use Rattle.core_rule.specs.runs.Laws.{OneCallAtATime}
+use Rattle.core_rule.specs.turns.TurnsLeft.{turns_left}
 use Rattle.heap_record.specs.Recorded.{Recorded, EventsLeadTo, MakesCall}
 use Rattle.heap_runs.specs.PlayHeap.{PlayState}
 

@@ -17,7 +17,7 @@ pub use machine_heap::MachineHeap;
 pub use play_heap::PlayHeap;
 pub use playing::play;
 pub use role::{Held, HeldName};
-pub use running_seats::{Ran, run_seats};
+pub use running_seats::{Ran, run_seats, seats_of};
 pub use seat_collect::collect_call;
 pub use turning::turn_line;
 

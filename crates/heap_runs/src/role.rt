@@ -46,6 +46,25 @@ pub struct Held<N: HeldName, P = Box<dyn Pace>> {
 }
 
 impl<N: HeldName, P> Held<N, P> {
+    /// What is shared as a run begins: nothing was claimed, and no worker has ended.
+    pub fn new(collector: Collector, pace: P) -> Held<N, P>
+        requires table { collector.holder.table ≡ N.table }
+        requires heap { collector.holder.heap ≡ N.heap }
+        requires before { collector.holder.known.collector.log ≡ N.before }
+        ensures collector { result.collector ≡ collector }
+        ensures pace { result.pace ≡ pace }
+        ensures owed { result.owed ≡ 0 }
+        ensures gone { result.gone ≡ 0 }
+    {
+        Held {
+            collector,
+            pace,
+            owed: 0,
+            gone: 0,
+            name: PhantomData,
+        }
+    }
+
     /// Makes one turn of the collector, and answers what it came to.
     pub fn turn(&mut self) -> Result<Turn, Memory>
         ensures turn { IfOk result (MakesOneTurn self.old.collector self.new.collector) }

@@ -1,4 +1,5 @@
-ghost use Rattle.std.specs.Prelude.{◌≡◌, ◌≤◌, ◌<◌, ◌^◌, length, map, IfOk};
+ghost use Rattle.std.specs.Prelude.{◌≡◌, ◌≤◌, ◌<◌, ◌^◌, length, map, All, IfOk};
+ghost use Rattle.mutator_seat.specs.Resting.{IsBetweenCalls};
 ghost use Rattle.heap_runs.specs.RunningSeats.{MayRun, IsRanOf};
 
 use crate::finishing::finish;
@@ -6,11 +7,11 @@ use crate::role::{Held, HeldName};
 use crate::workers::work_all;
 use collector_turns::Collector;
 use heap_model::{Command, Gate, Memory};
-use heap_table::Closed;
+use heap_table::{Closed, Holder};
 use mutator_seat::Seat;
 use slack_pace::Pace;
 use std::alloc::Global;
-use std::marker::{Brand, PhantomData};
+use std::marker::Brand;
 use std::sync::{Mutex, Wait};
 use std::thread::Threads;
 
@@ -19,6 +20,18 @@ use std::thread::Threads;
 pub struct Ran {
     pub closed: Closed,
     pub waits: Vec<u64>,
+}
+
+/// The seats of these holders, in their order.
+pub fn seats_of(alloc: Global, holders: Vec<Holder>) -> Result<Vec<Seat>, Memory>
+    requires { All IsBetweenCalls holders.items }
+    ensures { IfOk result (λ seats. seats.items ≡ holders.items) }
+{
+    let mut seats = Vec::new(alloc);
+    for holder in holders {
+        seats.push(Seat::make(holder))?;
+    }
+    Ok(seats)
 }
 
 /// How often each seat has found another one behind.
@@ -32,31 +45,32 @@ fn waits_of(alloc: Global, seats: &[Seat]) -> Result<Vec<u64>, Memory>
     Ok(waits)
 }
 
+/// The collector of a run, and the pace of its slack turns.
+#[derive(Drop)]
+struct PacedCollector {
+    collector: Collector,
+    pace: Box<dyn Pace>,
+}
+
 /// A run whose table and collector its name tells.
 fn run_named<N: HeldName + Send + Sync, G: Gate, R: Threads + Wait + Sync>(
     rt: &R,
     alloc: Global,
     seats: Vec<Seat>,
-    collector: Collector,
+    paced: PacedCollector,
     scripts: &[Vec<Command>],
-    pace: Box<dyn Pace>,
     patience: u32,
     gate: &G,
 ) -> Result<Ran, Memory>
-    requires table { collector.holder.table ≡ N.table }
-    requires heap { collector.holder.heap ≡ N.heap }
-    requires before { collector.holder.known.collector.log ≡ N.before }
-    requires may { MayRun seats.items collector (map (λ script. script.items) scripts.now) }
+    requires table { paced.collector.holder.table ≡ N.table }
+    requires heap { paced.collector.holder.heap ≡ N.heap }
+    requires before { paced.collector.holder.known.collector.log ≡ N.before }
+    requires may { MayRun seats.items paced.collector (map (λ script. script.items) scripts.now) }
     requires patience { 1 ≤ patience }
-    ensures { IfOk result (IsRanOf patience (map (λ script. script.items) scripts.now) seats.items collector) }
+    ensures { IfOk result (IsRanOf patience (map (λ script. script.items) scripts.now) seats.items paced.collector) }
 {
-    let held = Mutex::new(Held::<N> {
-        collector,
-        pace,
-        owed: 0,
-        gone: 0,
-        name: PhantomData,
-    });
+    let PacedCollector { collector, pace } = paced;
+    let held = Mutex::new(Held::<N>::new(collector, pace));
     let seats = work_all(rt, alloc, &held, seats, scripts, patience, gate)?;
     let waits = waits_of(alloc, seats.as_slice())?;
     let Held { collector, .. } = held.into_inner();
@@ -81,5 +95,6 @@ pub fn run_seats<G: Gate, R: Threads + Wait + Sync>(
     requires patience { 1 ≤ patience }
     ensures { IfOk result (IsRanOf patience (map (λ script. script.items) scripts.now) seats.items collector) }
 {
-    run_named::<Brand, G, R>(rt, alloc, seats, collector, scripts, pace, patience, gate)
+    let paced = PacedCollector { collector, pace };
+    run_named::<Brand, G, R>(rt, alloc, seats, paced, scripts, patience, gate)
 }

@@ -21,38 +21,8 @@ fn each_seat(alloc: Global, done: Vec<Result<Seat, Memory>>) -> Result<Vec<Seat>
     Ok(back)
 }
 
-/// Gives each seat to a worker of its own, tells under the lock when all of these have ended, and hands the seats back in their order.
-fn work_seats<N: HeldName + Send + Sync, G: Gate, R: Threads + Wait + Sync>(
-    rt: &R,
-    alloc: Global,
-    held: &Mutex<Held<N>>,
-    seats: Vec<Seat>,
-    scripts: &[Vec<Command>],
-    patience: u32,
-    gate: &G,
-) -> Result<Vec<Seat>, Memory>
-    requires ready { All (IsReadyToWork N.table N.heap (map (λ script. script.items) scripts.now)) seats.items }
-    requires patience { 1 ≤ patience }
-    ensures { IfOk result (λ done. HaveWorked patience (map (λ script. script.items) scripts.now) seats.items done.items) }
-{
-    let done = map_vec(
-        rt,
-        seats,
-        &|seat: Seat| -> Result<Seat, Memory>
-            requires ready { IsReadyToWork N.table N.heap (map (λ script. script.items) scripts.now) seat }
-            requires patience { 1 ≤ patience }
-            ensures { IfOk result (HasWorked patience seat (script_at (map (λ script. script.items) scripts.entry.now) seat.number)) }
-        {
-            let number = seat.number() as usize;
-            work(rt, held, seat, scripts[number].as_slice(), patience, gate)
-        },
-    );
-    held.lock(rt).end();
-    each_seat(alloc, done?)
-}
-
-/// Lets each seat work on its script in a thread of its own, while one more makes the collector's slack turns, and hands the seats back in their order.
-/// Where a thread can't be had the caller does its work.
+/// Lets each seat work on its script in a thread of its own, while one more makes the collector's slack turns until it is told under the lock that all of these have ended, and hands the
+/// seats back in their order. Where a thread can't be had the caller does its work.
 pub fn work_all<N: HeldName + Send + Sync, G: Gate, R: Threads + Wait + Sync>(
     rt: &R,
     alloc: Global,
@@ -73,7 +43,22 @@ pub fn work_all<N: HeldName + Send + Sync, G: Gate, R: Threads + Wait + Sync>(
             requires ready { All (IsReadyToWork N.table N.heap (map (λ script. script.items) scripts.now)) seats.items }
             requires patience { 1 ≤ patience }
             ensures { IfOk result (λ done. HaveWorked patience (map (λ script. script.items) scripts.entry.now) seats.items done.items) }
-        { work_seats(rt, alloc, held, seats, scripts, patience, gate) },
+        {
+            let done = map_vec(
+                rt,
+                seats,
+                &|seat: Seat| -> Result<Seat, Memory>
+                    requires ready { IsReadyToWork N.table N.heap (map (λ script. script.items) scripts.now) seat }
+                    requires patience { 1 ≤ patience }
+                    ensures { IfOk result (HasWorked patience seat (script_at (map (λ script. script.items) scripts.entry.now) seat.number)) }
+                {
+                    let number = seat.number() as usize;
+                    work(rt, held, seat, scripts[number].as_slice(), patience, gate)
+                },
+            );
+            held.lock(rt).end();
+            each_seat(alloc, done?)
+        },
     );
     turns?;
     back

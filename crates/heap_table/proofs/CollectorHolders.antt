@@ -12,7 +12,7 @@ use Rattle.core_machine.specs.collector.Collector.{Collector, next_turn}
 use Rattle.core_machine.specs.collector.FitsTurns.{CollectorFits}
 use Rattle.core_machine.specs.declared.step.Step.{Step}
 use Rattle.core_machine.specs.declared.step.operation.Operation.{Operation}
-use Rattle.core_machine.specs.declared.step.operation.Operation.TheVariants.{Load, Store, Exchange, Or, And, Add, Subtract}
+use Rattle.core_machine.specs.declared.step.operation.Operation.TheVariants.{Store}
 use Rattle.core_machine.specs.machine.Value.{SeatWithRoom}
 use Rattle.core_machine.specs.seat.Seat.{Seat}
 use Rattle.core_machine.specs.table.Decode.{FoundPointsWithin}
@@ -26,11 +26,13 @@ use Rattle.heap_table.specs.Holds.{Holds}
 use Rattle.heap_table.specs.Known.{CollectorKnown}
 use Rattle.heap_table.specs.Quiet.{is_quiet}
 use Rattle.heap_table.specs.Told.{next_collector, next_known, Shows, TurnHasWord, ToldAtTurn, Tells, TellsStored}
+use Rattle.heap_table.specs.TokenOf.{IsTokenOf}
 use Rattle.heap_table.specs.Views.{seat_view, collector_view, known_by}
 use Rattle.heap_table.specs.declared.view.View.{View}
 use Rattle.heap_table.specs.declared.view.View.TheVariants.{Spent}
 use Rattle.heap_table.proofs.Folding.{folding_allowed}
 use Rattle.heap_table.proofs.Quiet.{quiet_collector, quiet_answer, store_is_quiet}
+use Rattle.heap_table.proofs.Stored.{tells_stored}
 use Rattle.heap_table.proofs.Turns.{turn_allows, may_turn}
 
 -- what is told at the due turn of the collector whose view this is
@@ -56,16 +58,15 @@ module _ (shared : TableId) (key : Heap) (mine : TableId) (me : Me (Unit {0}) Vi
         → Allows (Holds key') slots id me (index_of heap (address_of step)) (word_after step) (TurnTells heap me)
     turn_allowed slots id room key' slots_are key_is some_room within =
         let may = may_turn heap known.collector known_fits (omega (arith, some_room, within, ap (λ (c : Collector). length c.log) keeps.collector_is)) in
-        let none_ : slots ≡ 0 = slots_are ∙ ap (λ (z : TableId). z.slots) (sym keeps.token.table) ∙ keeps.token.slots in
-        subst (λ (k : Heap). Allows (Holds k) slots id me (index_of heap (address_of step)) (word_after step) (TurnTells heap me)) (sym (key_is ∙ keeps.token.key_is))
+        let none_ : slots ≡ 0 = slots_are ∙ ap (λ (z : TableId). z.slots) (sym keeps.token.of.table) ∙ keeps.token.of.slots in
+        subst (λ (k : Heap). Allows (Holds k) slots id me (index_of heap (address_of step)) (word_after step) (TurnTells heap me)) (sym (key_is ∙ keeps.token.of.key_is))
         (subst (λ (k : ℕ). Allows (Holds heap) k id me (index_of heap (address_of step)) (word_after step) (TurnTells heap me)) (sym none_)
         (subst (λ (m : Me (Unit {0}) View). Allows (Holds heap) 0 id m (index_of heap (address_of step)) (word_after step) (Tells (λ n. collector_view (next_known heap known n)) (ToldAtTurn heap known.collector) m)) (sym keeps.token.knows)
         (turn_allows heap known step due may keeps.unread id)))
 
     -- of a store, it tells what goes with the word stored
-    stored_at : (operation : Operation) → operation_of step ≡ operation → TellsStored operation (TurnTells heap me)
-    stored_at Load is = tt
-    stored_at (Store word) is = λ found after tells.
+    pub turn_stored : TellsStored (operation_of step) (TurnTells heap me)
+    turn_stored = tells_stored (operation_of step) (TurnTells heap me) (λ word is found after tells.
         let stores : operation_of (next_turn heap known.collector).step ≡ Store word = ap operation_of due ∙ is in
         let quiet = store_is_quiet (next_turn heap known.collector).step word stores in
         let same = quiet_collector heap known.collector found word quiet in
@@ -78,15 +79,7 @@ module _ (shared : TableId) (key : Heap) (mine : TableId) (me : Me (Unit {0}) Vi
             comes_to = λ old new shown shown_after. subst (ComesTo old new) (quiet_answer heap known.collector found word quiet)
                 (tells.1.comes_to old new shown (subst (Shows new) (sym same) shown_after));
           },
-        )
-    stored_at (Exchange word) is = tt
-    stored_at (Or bits) is = tt
-    stored_at (And bits) is = tt
-    stored_at (Add k) is = tt
-    stored_at (Subtract k) is = tt
-
-    pub turn_stored : TellsStored (operation_of step) (TurnTells heap me)
-    turn_stored = stored_at (operation_of step) refl
+        ))
 
   -- what the holder keeps after the turn
   pub keeps_turned : (mine' : TableId) (me' : Me (Unit {0}) View) (next : Collector) (found : ℕ) → mine' ≡ mine → TurnTells heap me found me' → next ≡ next_collector heap collector found
@@ -96,10 +89,7 @@ module _ (shared : TableId) (key : Heap) (mine : TableId) (me : Me (Unit {0}) Vi
       let collector_is : (known_by me'.0).collector ≡ next = ap (λ (k : CollectorKnown). k.collector) known_is ∙ ap (λ (c : Collector). next_collector heap c found) keeps.collector_is ∙ sym is in
       record {
         token = record {
-          table = same ∙ keeps.token.table;
-          size = ap (λ (z : TableId). z.words) same ∙ keeps.token.size;
-          slots = ap (λ (z : TableId). z.slots) same ∙ keeps.token.slots;
-          key_is = keeps.token.key_is;
+          of = subst (λ (z : TableId). IsTokenOf shared key z heap) (sym same) keeps.token.of;
           limits = keeps.token.limits;
           knows = tells.0 ∙ ap (λ (m : Me (Unit {0}) View). (collector_view (next_known heap known found), m.1)) keeps.token.knows ∙ ap (λ (k : CollectorKnown). (collector_view k, [])) (sym known_is);
         };
@@ -116,7 +106,7 @@ module _ (shared : TableId) (key : Heap) (mine : TableId) (me : Me (Unit {0}) Vi
   pub fold_allowed : (id other number : ℕ) (seat : Seat) (key' : Heap) (view : View) → seat.left ≡ true → key' ≡ key → view ≡ seat_view number seat
       → Joins (Holds key') id me.0 other view (folding_view me.0 view) Spent
   fold_allowed id other number seat key' view left key_is view_is =
-      subst (λ (k : Heap). Joins (Holds k) id me.0 other view (folding_view me.0 view) Spent) (sym (key_is ∙ keeps.token.key_is))
+      subst (λ (k : Heap). Joins (Holds k) id me.0 other view (folding_view me.0 view) Spent) (sym (key_is ∙ keeps.token.of.key_is))
       (subst (λ (v : View). Joins (Holds heap) id me.0 other v (folding_view me.0 v) Spent) (sym view_is)
       (subst (λ (v : View). Joins (Holds heap) id v other (seat_view number seat) (folding_view v (seat_view number seat)) Spent) (sym (ap (λ (m : Me (Unit {0}) View). m.0) keeps.token.knows))
       (folding_allowed heap known number seat left id other)))
@@ -129,10 +119,7 @@ module _ (shared : TableId) (key : Heap) (mine : TableId) (me : Me (Unit {0}) Vi
       let known_is : known_by me'.0 ≡ with_folded known number seat = ap (λ (m : Me (Unit {0}) View). known_by m.0) me_is ∙ ap (λ (v : View). known_by (folding_view me.0 v)) view_is in
       record {
         token = record {
-          table = same ∙ keeps.token.table;
-          size = ap (λ (z : TableId). z.words) same ∙ keeps.token.size;
-          slots = ap (λ (z : TableId). z.slots) same ∙ keeps.token.slots;
-          key_is = keeps.token.key_is;
+          of = subst (λ (z : TableId). IsTokenOf shared key z heap) (sym same) keeps.token.of;
           limits = keeps.token.limits;
           knows = me_is ∙ ap (λ (m : Me (Unit {0}) View). (folding_view me.0 view, m.1)) keeps.token.knows ∙ ap (λ (k : CollectorKnown). (collector_view k, []))
               (ap (λ (v : View). known_by (folding_view me.0 v)) view_is ∙ sym known_is);

@@ -26,6 +26,7 @@ use Rattle.heap_table.specs.Handing.{with_closed}
 use Rattle.heap_table.specs.Holds.{Holds}
 use Rattle.heap_table.specs.Known.{CollectorKnown}
 use Rattle.heap_table.specs.Told.{Tells}
+use Rattle.heap_table.specs.TokenOf.{IsTokenOf}
 use Rattle.heap_table.specs.Views.{collector_view, known_by}
 use Rattle.heap_table.specs.declared.view.View.{View}
 use Rattle.heap_table.proofs.ClosingLoads.{reading_allowed}
@@ -85,8 +86,8 @@ module _ (shared : TableId) (key : Heap) (mine : TableId) (me : Me (Unit {0}) Vi
   pub read_allowed : (slots id word : ℕ) (key' : Heap) → slots ≡ shared.slots → key' ≡ key → AllFolded heap (known_by me.0).seats → word ≡ length (known_by me.0).closed → word < table_length heap
       → Allows (Holds key') slots id me word (λ n. n) (ReadTells heap me)
   read_allowed slots id word key' slots_are key_is all next within =
-      let none_ : slots ≡ 0 = slots_are ∙ ap (λ (z : TableId). z.slots) (sym keeps.table) ∙ keeps.slots in
-      subst (λ (k : Heap). Allows (Holds k) slots id me word (λ n. n) (ReadTells heap me)) (sym (key_is ∙ keeps.key_is))
+      let none_ : slots ≡ 0 = slots_are ∙ ap (λ (z : TableId). z.slots) (sym keeps.of.table) ∙ keeps.of.slots in
+      subst (λ (k : Heap). Allows (Holds k) slots id me word (λ n. n) (ReadTells heap me)) (sym (key_is ∙ keeps.of.key_is))
       (subst (λ (k : ℕ). Allows (Holds heap) k id me word (λ n. n) (ReadTells heap me)) (sym none_)
       (subst (λ (k : ℕ). Allows (Holds heap) 0 id me k (λ n. n) (ReadTells heap me)) (sym next)
       (subst (λ (m : Me (Unit {0}) View). Allows (Holds heap) 0 id m (length (known_by me.0).closed) (λ n. n) (Tells (λ n. collector_view (with_closed (known_by me.0) n)) (λ n. EndsWhole heap (with_closed (known_by me.0) n)) m)) (sym keeps.knows)
@@ -95,10 +96,7 @@ module _ (shared : TableId) (key : Heap) (mine : TableId) (me : Me (Unit {0}) Vi
   -- and leaves the collector's token
   pub keeps_read : (mine' : TableId) (me' : Me (Unit {0}) View) (found : ℕ) → mine' ≡ mine → ReadTells heap me found me' → KeepsToken shared key mine' me' heap
   keeps_read mine' me' found same tells = record {
-    table = same ∙ keeps.table;
-    size = ap (λ (z : TableId). z.words) same ∙ keeps.size;
-    slots = ap (λ (z : TableId). z.slots) same ∙ keeps.slots;
-    key_is = keeps.key_is;
+    of = subst (λ (z : TableId). IsTokenOf shared key z heap) (sym same) keeps.of;
     limits = keeps.limits;
     knows = tells.0 ∙ ap (λ (m : Me (Unit {0}) View). (collector_view (with_closed (known_by me.0) found), m.1)) keeps.knows
         ∙ ap (λ (m : Me (Unit {0}) View). (collector_view (known_by m.0), [])) (sym tells.0);

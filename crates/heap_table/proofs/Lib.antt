@@ -3,6 +3,7 @@ pub mod Knowers
 pub mod SeatSteps
 pub mod Turns
 pub mod Quiet
+pub mod Stored
 pub mod Performed
 pub mod Handing
 pub mod Folding

@@ -1,12 +1,14 @@
 -- Steps that a seat has made: they go on by one more, one list of them behind another, and the call stands after them as it is to.
-use Rattle.std.proofs.Common.{suc, ◌≡◌, ℕ, ◌+◌, ◌<◌, ◌≤◌, List, [], ◌∷◌, ◌++◌, length, Option, Some, None, refl, sym, ap, subst, ◌∙◌, append-nil, append_assoc, length-append, arith}
-use Rattle.std.specs.Prelude.{IfSome, option_map, replicate}
+use Rattle.std.proofs.Common.{suc, ◌≡◌, ℕ, ◌+◌, ◌<◌, ◌≤◌, List, [], ◌∷◌, ◌++◌, length, Option, Some, None, refl, sym, ap, subst, ◌∙◌, inl, inr, append-nil, append_assoc, length-append, arith}
+use Rattle.std.specs.Prelude.{IfSome, ◌⊎◌, option_map, replicate}
 use Rattle.std.proofs.lemmas.List.{get_or_push, length-replicate}
 use Rattle.heap_model.specs.Heap.{IsHeap}
 use Rattle.heap_model.specs.declared.command.Command.{Command}
 use Rattle.heap_model.specs.declared.entry.Entry.{Entry}
 use Rattle.heap_model.specs.declared.heap.Heap.{Heap}
+use Rattle.core_machine.specs.declared.step.SpineStep.TheVariants.{BudgetAdd}
 use Rattle.core_machine.specs.declared.step.Step.{Step}
+use Rattle.core_machine.specs.declared.step.Step.TheVariants.{Spine}
 use Rattle.core_machine.specs.declared.table.address.Address.{Address}
 use Rattle.core_machine.specs.Moves.{Move, next_move, due_step, seat_after_due}
 use Rattle.core_machine.specs.calls.OwnStage.{OwnStage}
@@ -20,10 +22,10 @@ use Rattle.core_machine.specs.calls.Owes.{owes, steps_left}
 use Rattle.core_machine.proofs.moves.{move_stands}
 use Rattle.core_machine.proofs.moves.Standing.{MoveStands}
 use Rattle.core_machine.proofs.own_stages.{own_leads}
-use Rattle.core_rule.specs.Flight.{WhileAccess}
-use Rattle.core_rule.specs.Reached.{HasReached}
+use Rattle.core_rule.specs.cycle.Flight.{WhileAccess}
+use Rattle.core_rule.specs.told.Reached.{HasReached}
 use Rattle.heap_table.specs.Begun.{next_seat}
-use Rattle.heap_table.specs.Made.{Made, FoundIn, LeadsTo, MakesSteps}
+use Rattle.heap_table.specs.Made.{Made, FoundIn, LeadsTo, MakesSteps, IsSound}
 use Rattle.heap_table.specs.SeatHeld.{SeatHeld, IsStepped}
 use Rattle.heap_table.specs.Told.{ToldAtStep}
 use Rattle.heap_table.proofs.SeatSteps.{at_is}
@@ -120,6 +122,42 @@ module _ (heap : Heap) (number : ℕ) (seat : Seat) (limits : IsHeap heap) (few 
   pub stage_on : (tells : Step → ℕ → Type 0) (command : Command) (old : Seat) (told : List Entry) (step : Step) (found : ℕ) → due_step heap number seat ≡ Some step → tells step found
       → OwnStage tells heap number command old seat told → (more : List Entry) × OwnStage tells heap number command old (next_seat heap number seat found) (told ++ more)
   stage_on tells command old told step found due tell stage = on_by tells command old told (next_move heap number seat) step found refl due tell stage
+
+-- a holder goes on by one step
+module _ (first now new : SeatHeld) (step : Step) (found : ℕ) (sound : IsSound now) (due : due_step now.heap now.number now.seat ≡ Some step)
+    (stepped : IsStepped now new found) (told : ToldAtStep now.heap now.number now.seat found) where
+  -- fewer steps are left, and no more entries are added than were owed
+  nears : (steps_left now.heap new.seat < steps_left now.heap now.seat) × (owes new.seat + length new.seat.mine ≤ owes now.seat + length now.seat.mine)
+  nears = step_nears now.heap now.number now.seat sound.limits (omega (arith, sound.within, sound.limits.seats_fit)) sound.fits step found new.seat due stepped.seat_is
+
+  pub step_falls : steps_left new.heap new.seat < steps_left now.heap now.seat
+  step_falls = subst (λ (h : Heap). steps_left h new.seat < steps_left now.heap now.seat) (sym stepped.heap_stays) nears.0
+
+  pub step_leaves_room : owes now.seat + 2 ≤ now.spare → owes new.seat + 2 ≤ new.spare
+  step_leaves_room room = omega (arith, room, nears.1, stepped.room_stays)
+
+  pub step_pays : (most : ℕ) → owes now.seat + length now.seat.mine ≤ most → owes new.seat + length new.seat.mine ≤ most
+  step_pays most paid = omega (arith, paid, nears.1)
+
+  -- one step more was made
+  pub step_makes : ((made : List Made) × MakesSteps first now made) → (made : List Made) × MakesSteps first new made
+  step_makes steps =
+      let one = record { step = step; found = found } ∷ [] in
+      (steps.0 ++ one, makes_append first now new steps.0 one steps.1 (makes_one now new step found due told stepped))
+
+-- the step asks for an array's spine words
+abbrev pub AsksForWords : Step → Type 0
+AsksForWords (Spine (BudgetAdd words)) = Unit {0}
+AsksForWords _ = ⊥
+
+-- the step is one of these, or it asked for the words before them
+abbrev pub TellsHere : List Made → Step → ℕ → Type 0
+TellsHere made step word = FoundIn made step word ⊎ AsksForWords step
+
+-- another step is one of these
+pub made_here : (made : List Made) (step : Step) (word : ℕ) → (AsksForWords step → ⊥) → TellsHere made step word → FoundIn made step word
+made_here made step word other (inl here) = here
+made_here made step word other (inr asks) = absurd (other asks)
 
 -- a call that stands so stands after all these steps as it is to, where so much is told of each of them
 pub stage_along : (tells : Step → ℕ → Type 0) (heap : Heap) (number : ℕ) (command : Command) (old : Seat) → IsHeap heap → number < 16

@@ -18,7 +18,7 @@ use Rattle.core_machine.specs.seat.Seat.{Seat}
 use Rattle.core_machine.specs.table.Layout.{at, InTable, table_length}
 use Rattle.core_machine.proofs.machine_lemmas.OpeningMachine.{opening_machine}
 use Rattle.core_rule.proofs.runs.OpeningStands.{opening_stands, opening_seat_at}
-use Rattle.core_rule.specs.Told.{IsAsTold}
+use Rattle.core_rule.specs.told.Told.{IsAsTold}
 use Rattle.heap_table.specs.Begun.{Same}
 use Rattle.heap_table.specs.CollectorHeld.{CollectorHeld, KeepsCollector, seats_in}
 use Rattle.heap_table.specs.Handing.{handing_view, handed_view}
@@ -26,6 +26,7 @@ use Rattle.heap_table.specs.Holds.{Holds}
 use Rattle.heap_table.specs.Known.{opening_known}
 use Rattle.heap_table.specs.Opened.{EachOpens, IsOpened}
 use Rattle.heap_table.specs.SeatHeld.{SeatHeld, KeepsSeat}
+use Rattle.heap_table.specs.TokenOf.{IsTokenOf}
 use Rattle.heap_table.specs.Views.{seat_view, collector_view, known_by, opening_view}
 use Rattle.heap_table.specs.declared.view.View.{View}
 use Rattle.heap_table.proofs.Folding.{none_later}
@@ -85,10 +86,7 @@ module _ (heap : Heap) (words : List ℕ) (limits : IsHeap heap) (long : length 
       let stands = opening_stands heap (opening_state heap words) limits is_opening in
       record {
         token = record {
-          table = same;
-          size = ap (λ (z : TableId). z.words) same ∙ words_are ∙ long;
-          slots = ap (λ (z : TableId). z.slots) same ∙ none_;
-          key_is = key_is;
+          of = record { table = same; size = ap (λ (z : TableId). z.words) same ∙ words_are ∙ long; slots = ap (λ (z : TableId). z.slots) same ∙ none_; key_is = key_is };
           limits = limits;
           knows = me_is ∙ ap (λ (m : Me (Unit {0}) View). (collector_view (known_by m.0), [])) (sym me_is);
         };
@@ -113,13 +111,10 @@ handing_as heap key id view key_is view_is few open_ =
     (subst (λ (v : View). Splits (Holds heap) id v (handing_view v) (handed_view heap v)) (sym view_is) (handing_allowed heap (known_by view) few open_ id))
 
 -- what its holder keeps
-pub keeps_handed : (heap key : Heap) (shared mine : TableId) (me : Me (Unit {0}) View) (number : ℕ) (seat : Seat) → EachOpens heap → IsHeap heap → mine ≡ shared → mine.words ≡ table_length heap → mine.slots ≡ 0 → key ≡ heap
+pub keeps_handed : (heap key : Heap) (shared mine : TableId) (me : Me (Unit {0}) View) (number : ℕ) (seat : Seat) → EachOpens heap → IsHeap heap → IsTokenOf shared key mine heap
     → number < heap.seats → me ≡ (seat_view number (opening_seat heap number), []) → seat ≡ opening_seat heap number → KeepsSeat shared key mine me heap number seat
-keeps_handed heap key shared mine me number seat opens limits same size none_ key_is within knows is = record {
-  table = same;
-  size = size;
-  slots = none_;
-  key_is = key_is;
+keeps_handed heap key shared mine me number seat opens limits of within knows is = record {
+  of = of;
   limits = limits;
   within = within;
   old = opening_seat heap number;

@@ -14,7 +14,7 @@ use Rattle.core_machine.specs.declared.seat.register.Register.{Register}
 use Rattle.core_machine.specs.declared.seat.register.Register.TheVariants.{Nil, Number, Object}
 use Rattle.core_machine.specs.declared.step.Step.{Step}
 use Rattle.core_machine.specs.declared.step.operation.Operation.{Operation}
-use Rattle.core_machine.specs.declared.step.operation.Operation.TheVariants.{Load, Store, Exchange, Or, And, Add, Subtract}
+use Rattle.core_machine.specs.declared.step.operation.Operation.TheVariants.{Store}
 use Rattle.core_machine.specs.machine.Machine.{MayBegin, MayBeginInner, after_begin, after_inner_begin}
 use Rattle.core_machine.specs.Moves.{Move, next_move, due_step}
 use Rattle.core_machine.specs.seat.Access.{access_start}
@@ -29,19 +29,21 @@ use Rattle.core_machine.specs.table.Operation.{address_of, operation_of, operati
 use Rattle.core_machine.proofs.moves.{move_stands, begin_stands}
 use Rattle.core_machine.proofs.moves.Collect.{inner_stands}
 use Rattle.core_machine.proofs.moves.Standing.{MoveStands}
-use Rattle.core_rule.specs.Flight.{WhileAccess}
-use Rattle.core_rule.specs.Reached.{HasReached}
-use Rattle.core_rule.specs.Told.{IsAsTold}
+use Rattle.core_rule.specs.cycle.Flight.{WhileAccess}
+use Rattle.core_rule.specs.told.Reached.{HasReached}
+use Rattle.core_rule.specs.told.Told.{IsAsTold}
 use Rattle.core_rule.proofs.told.StoredWords.{store_tells}
 use Rattle.heap_table.specs.Begun.{MayHaveBegun, Same, Begun, BegunInner, next_seat, NextHasWord}
 use Rattle.heap_table.specs.Holds.{Holds}
 use Rattle.heap_table.specs.Quiet.{is_quiet}
 use Rattle.heap_table.specs.SeatHeld.{SeatHeld, KeepsSeat, IsStepped}
 use Rattle.heap_table.specs.Told.{ToldAtStep, Tells, TellsStored}
+use Rattle.heap_table.specs.TokenOf.{IsTokenOf}
 use Rattle.heap_table.specs.Views.{seat_view}
 use Rattle.heap_table.specs.declared.view.View.{View}
 use Rattle.heap_table.proofs.Quiet.{quiet_seat, store_is_quiet}
 use Rattle.heap_table.proofs.SeatSteps.{seat_allows}
+use Rattle.heap_table.proofs.Stored.{tells_stored}
 
 -- a call that was begun is in flight
 opened_busy : (seat : Seat) (register : Register) → (access_start seat register).place ≡ Idle → ⊥
@@ -108,16 +110,15 @@ module _ (shared : TableId) (key : Heap) (mine : TableId) (me : Me (Unit {0}) Vi
     -- the rule allows it
     pub step_allowed : (slots id : ℕ) (key' : Heap) → slots ≡ shared.slots → key' ≡ key → Allows (Holds key') slots id me (index_of heap (address_of step)) (word_after step) SeatTells
     step_allowed slots id key' slots_are key_is =
-        let none_ : slots ≡ 0 = slots_are ∙ ap (λ (z : TableId). z.slots) (sym keeps.table) ∙ keeps.slots in
-        subst (λ (k : Heap). Allows (Holds k) slots id me (index_of heap (address_of step)) (word_after step) SeatTells) (sym (key_is ∙ keeps.key_is))
+        let none_ : slots ≡ 0 = slots_are ∙ ap (λ (z : TableId). z.slots) (sym keeps.of.table) ∙ keeps.of.slots in
+        subst (λ (k : Heap). Allows (Holds k) slots id me (index_of heap (address_of step)) (word_after step) SeatTells) (sym (key_is ∙ keeps.of.key_is))
         (subst (λ (k : ℕ). Allows (Holds heap) k id me (index_of heap (address_of step)) (word_after step) SeatTells) (sym none_)
         (subst (λ (m : Me (Unit {0}) View). Allows (Holds heap) 0 id m (index_of heap (address_of step)) (word_after step) (Tells (λ n. seat_view number (next_seat heap number seat n)) (ToldAtStep heap number seat) m)) (sym keeps.knows)
         (seat_allows heap number keeps.old seat step keeps.begun due id)))
 
     -- of a store, it tells what goes with the word stored
-    stored_at : (operation : Operation) → operation_of step ≡ operation → TellsStored operation SeatTells
-    stored_at Load is = tt
-    stored_at (Store word) is = λ found after tells.
+    pub step_stored : TellsStored (operation_of step) SeatTells
+    step_stored = tells_stored (operation_of step) SeatTells (λ word is found after tells.
         let same = quiet_seat heap number seat step found word due (store_is_quiet step word is) in (
           tells.0 ∙ ap (λ (s : Seat). (seat_view number s, me.1)) same,
           record {
@@ -128,18 +129,10 @@ module _ (shared : TableId) (key : Heap) (mine : TableId) (me : Me (Unit {0}) Vi
             own = subst (IsAsTold heap number) same tells.1.own;
             comes = subst (λ (s : Seat). WhileAccess (HasReached heap number s) s.place) same tells.1.comes;
           },
-        )
+        ))
       where
         few : number < 16
         few = omega (arith, keeps.within, keeps.limits.seats_fit)
-    stored_at (Exchange word) is = tt
-    stored_at (Or bits) is = tt
-    stored_at (And bits) is = tt
-    stored_at (Add k) is = tt
-    stored_at (Subtract k) is = tt
-
-    pub step_stored : TellsStored (operation_of step) SeatTells
-    step_stored = stored_at (operation_of step) refl
 
   -- without a call in flight the seat has what its own list tells
   pub idle_told : seat.place ≡ Idle → IsAsTold heap number seat
@@ -149,10 +142,7 @@ module _ (shared : TableId) (key : Heap) (mine : TableId) (me : Me (Unit {0}) Vi
   pub keeps_stepped : (mine' : TableId) (me' : Me (Unit {0}) View) (next : Seat) (found : ℕ) → mine' ≡ mine → SeatTells found me' → next ≡ next_seat heap number seat found
       → KeepsSeat shared key mine' me' heap number next
   keeps_stepped mine' me' next found same tells is = record {
-    table = same ∙ keeps.table;
-    size = ap (λ (z : TableId). z.words) same ∙ keeps.size;
-    slots = ap (λ (z : TableId). z.slots) same ∙ keeps.slots;
-    key_is = keeps.key_is;
+    of = subst (λ (z : TableId). IsTokenOf shared key z heap) (sym same) keeps.of;
     limits = keeps.limits;
     within = keeps.within;
     old = next_seat heap number seat found;
@@ -163,42 +153,32 @@ module _ (shared : TableId) (key : Heap) (mine : TableId) (me : Me (Unit {0}) Vi
     own = tells.1.own;
   }
 
-  -- and after a begin
+  -- and with a seat that may have begun a call since
+  keeps_for : (next : Seat) → MayHaveBegun heap number keeps.old next → Fits heap next → KeepsSeat shared key mine me heap number next
+  keeps_for next begun fits = record {
+    of = keeps.of;
+    limits = keeps.limits;
+    within = keeps.within;
+    old = keeps.old;
+    knows = keeps.knows;
+    begun = begun;
+    fits = fits;
+    has_word = keeps.has_word;
+    own = keeps.own;
+  }
+
+  -- so after a begin
   pub keeps_begun : (command : Command) (next : Seat) → MayBegin seat command → next ≡ after_begin heap seat command → KeepsSeat shared key mine me heap number next
   keeps_begun command next may is =
       let same = idle_same heap number keeps.old seat keeps.begun may.idle in
-      record {
-        table = keeps.table;
-        size = keeps.size;
-        slots = keeps.slots;
-        key_is = keeps.key_is;
-        limits = keeps.limits;
-        within = keeps.within;
-        old = keeps.old;
-        knows = keeps.knows;
-        begun = Begun command (subst (λ (s : Seat). MayBegin s command) same may) (is ∙ ap (λ (s : Seat). after_begin heap s command) same);
-        fits = subst (Fits heap) (sym is) (begin_stands heap number seat command keeps.limits keeps.fits may).fits;
-        has_word = keeps.has_word;
-        own = keeps.own;
-      }
+      keeps_for next (Begun command (subst (λ (s : Seat). MayBegin s command) same may) (is ∙ ap (λ (s : Seat). after_begin heap s command) same))
+      (subst (Fits heap) (sym is) (begin_stands heap number seat command keeps.limits keeps.fits may).fits)
 
   pub keeps_begun_inner : (inner : Inner) (next : Seat) → MayBeginInner heap number seat inner → next ≡ after_inner_begin seat inner → KeepsSeat shared key mine me heap number next
   keeps_begun_inner inner next may is =
       let same = idle_same heap number keeps.old seat keeps.begun may.idle in
-      record {
-        table = keeps.table;
-        size = keeps.size;
-        slots = keeps.slots;
-        key_is = keeps.key_is;
-        limits = keeps.limits;
-        within = keeps.within;
-        old = keeps.old;
-        knows = keeps.knows;
-        begun = BegunInner inner (subst (λ (s : Seat). MayBeginInner heap number s inner) same may) (is ∙ ap (λ (s : Seat). after_inner_begin s inner) same);
-        fits = subst (Fits heap) (sym is) (inner_stands heap number seat inner keeps.fits may).fits;
-        has_word = keeps.has_word;
-        own = keeps.own;
-      }
+      keeps_for next (BegunInner inner (subst (λ (s : Seat). MayBeginInner heap number s inner) same may) (is ∙ ap (λ (s : Seat). after_inner_begin s inner) same))
+      (subst (Fits heap) (sym is) (inner_stands heap number seat inner keeps.fits may).fits)
 
 -- what holds of the holder as contracts see it holds of its parts
 pub due_of : (whole value : SeatHeld) (step : Step) → whole ≡ value → due_step value.heap value.number value.seat ≡ Some step → due_step whole.heap whole.number whole.seat ≡ Some step

@@ -21,17 +21,17 @@ use Rattle.core_machine.specs.seat.Fits.{Fits}
 use Rattle.core_machine.specs.seat.Seat.{Seat, absent_seat}
 use Rattle.core_machine.proofs.machine_lemmas.Runs.{due_within_table}
 use Rattle.core_rule.specs.Book.{Book}
-use Rattle.core_rule.specs.Laws.{StandsFor}
-use Rattle.core_rule.specs.Flight.{WhileAccess}
-use Rattle.core_rule.specs.Found.{TellsFound, EachFoundIsTold}
-use Rattle.core_rule.specs.Reached.{ReachesOwn, EachReachesOwn, HasReached}
+use Rattle.core_rule.specs.runs.Laws.{StandsFor}
+use Rattle.core_rule.specs.cycle.Flight.{WhileAccess}
+use Rattle.core_rule.specs.told.Found.{TellsFound, EachFoundIsTold}
+use Rattle.core_rule.specs.told.Reached.{ReachesOwn, EachReachesOwn, HasReached}
 use Rattle.core_rule.specs.Rule.{Rule}
 use Rattle.core_rule.specs.Stands.{Stands}
-use Rattle.core_rule.specs.Told.{IsAsTold, EachSeatIsAsTold}
+use Rattle.core_rule.specs.told.Told.{IsAsTold, EachSeatIsAsTold}
 use Rattle.core_rule.proofs.told.AsTold.{each_seat_is_as_told}
 use Rattle.core_rule.proofs.told.FoundWords.{each_found_is_told}
 use Rattle.core_rule.proofs.told.ReachedFields.{each_reaches_own}
-use Rattle.core_rule.specs.TableLaws.{EachStepHasItsWord}
+use Rattle.core_rule.specs.runs.TableLaws.{EachStepHasItsWord}
 use Rattle.core_rule.proofs.held.DueWords.{each_step_has_its_word}
 use Rattle.core_rule.proofs.runs.KeptRuns.{event_keeps}
 use Rattle.heap_table.specs.Begun.{MayHaveBegun, Same, Begun, BegunInner, next_seat, StepHasWord, NextHasWord}

@@ -23,9 +23,9 @@ use Rattle.core_machine.specs.collector.FitsTurns.{CollectorFits}
 use Rattle.core_machine.specs.machine.Machine.{State, seat_at, found_by, Turns, Can, state_after, state_after_turn, entries}
 use Rattle.core_machine.proofs.collector_lemmas.{turn_stands}
 use Rattle.core_rule.specs.Book.{Book}
-use Rattle.core_rule.specs.Laws.{IsToldBy, StandsFor}
+use Rattle.core_rule.specs.runs.Laws.{IsToldBy, StandsFor}
 use Rattle.core_rule.specs.Stands.{Stands}
-use Rattle.core_rule.specs.TableLaws.{EachTurnHasItsWord}
+use Rattle.core_rule.specs.runs.TableLaws.{EachTurnHasItsWord}
 use Rattle.core_rule.proofs.held.DueWords.{each_turn_has_its_word}
 use Rattle.core_rule.proofs.runs.ComingTurns.{each_turn_comes_to, turn_collects}
 use Rattle.core_rule.proofs.runs.KeptRuns.{event_keeps}

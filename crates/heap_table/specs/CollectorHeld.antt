@@ -4,13 +4,14 @@ use Rattle.atomic_table.specs.Seated.{TableId}
 use Rattle.atomic_table.specs.Table.{Me}
 use Rattle.heap_model.specs.declared.heap.Heap.{Heap}
 use Rattle.heap_model.specs.Heap.{IsHeap}
-use Rattle.core_machine.specs.collector.Collector.{Collector}
+use Rattle.core_machine.specs.collector.Collector.{Collector, next_turn}
 use Rattle.core_machine.specs.collector.FitsTurns.{CollectorFits}
+use Rattle.core_machine.specs.declared.step.Step.{Step}
 use Rattle.core_machine.specs.machine.Value.{SeatWithRoom}
 use Rattle.core_machine.specs.seat.Seat.{Seat}
-use Rattle.core_machine.specs.table.Layout.{table_length}
 use Rattle.heap_table.specs.Known.{CollectorKnown}
 use Rattle.heap_table.specs.Told.{next_known, TurnHasWord}
+use Rattle.heap_table.specs.TokenOf.{IsTokenOf}
 use Rattle.heap_table.specs.Views.{collector_view, known_by}
 use Rattle.heap_table.specs.declared.view.View.{View}
 
@@ -26,12 +27,9 @@ pub record CollectorHeld : Type 0 where
 abbrev pub seats_in : List (Option SeatWithRoom) → List (Option Seat)
 seats_in places = map (λ place. option_map (λ party. party.seat) place) places
 
--- the token is of this table, whose rule is that of the heap, and its view is the collector's
+-- the token is of this table, and its view is the collector's
 pub record KeepsToken (shared : TableId) (key : Heap) (mine : TableId) (me : Me (Unit {0}) View) (heap : Heap) : Type 0 where
-  pub table : mine ≡ shared
-  pub size : mine.words ≡ table_length heap
-  pub slots : mine.slots ≡ 0
-  pub key_is : key ≡ heap
+  pub of : IsTokenOf shared key mine heap
   pub limits : IsHeap heap
   pub knows : me ≡ (collector_view (known_by me.0), [])
 
@@ -45,6 +43,11 @@ pub record KeepsCollector (shared : TableId) (key : Heap) (mine : TableId) (me :
   pub unread : (known_by me.0).closed ≡ []
   pub fits : CollectorFits heap collector
   pub has_word : TurnHasWord heap collector
+
+-- this step is that of the collector's due turn, and there is room for the entries that it adds
+pub record MayTurn (held : CollectorHeld) (step : Step) : Type 0 where
+  pub due : (next_turn held.heap held.known.collector).step ≡ step
+  pub room : 2 ≤ held.spare
 
 -- the collector made its due turn, which found this word; else the holder is as it was, but for the room of new entries
 pub record IsTurned (old new : CollectorHeld) (found : ℕ) : Type 0 where

@@ -6,6 +6,7 @@ pub mod Begun
 pub mod Quiet
 pub mod Told
 pub mod Handing
+pub mod TokenOf
 pub mod SeatHeld
 pub mod CollectorHeld
 pub mod Opened

@@ -4,7 +4,7 @@ use Rattle.atomic_table.specs.Seated.{TableId}
 use Rattle.heap_model.specs.declared.heap.Heap.{Heap}
 use Rattle.core_machine.specs.machine.Opening.{opening_seat}
 use Rattle.core_machine.specs.seat.Fits.{Fits}
-use Rattle.core_rule.specs.Told.{IsAsTold}
+use Rattle.core_rule.specs.told.Told.{IsAsTold}
 use Rattle.heap_table.specs.Begun.{NextHasWord}
 use Rattle.heap_table.specs.SeatHeld.{SeatHeld}
 

@@ -13,10 +13,10 @@ use Rattle.core_machine.specs.seat.Seat.{Seat}
 use Rattle.core_machine.specs.table.Decode.{FoundPointsWithin}
 use Rattle.core_machine.specs.table.Layout.{HasWord}
 use Rattle.core_machine.specs.table.Operation.{address_of}
-use Rattle.core_rule.specs.Flight.{WhileAccess}
-use Rattle.core_rule.specs.Found.{TellsFound}
-use Rattle.core_rule.specs.Reached.{HasReached}
-use Rattle.core_rule.specs.Told.{IsAsTold}
+use Rattle.core_rule.specs.cycle.Flight.{WhileAccess}
+use Rattle.core_rule.specs.told.Found.{TellsFound}
+use Rattle.core_rule.specs.told.Reached.{HasReached}
+use Rattle.core_rule.specs.told.Told.{IsAsTold}
 use Rattle.heap_table.specs.Begun.{next_seat, NextHasWord}
 use Rattle.heap_table.specs.Known.{CollectorKnown}
 use Rattle.heap_table.specs.declared.view.View.{View}

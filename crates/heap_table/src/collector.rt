@@ -3,7 +3,7 @@ ghost use Rattle.std.specs.List.{list_all};
 ghost use Rattle.heap_model.specs.Heap.{IsHeap};
 ghost use Rattle.core_machine.specs.collector.Collector.{next_turn};
 ghost use Rattle.core_machine.specs.machine.Opening.{opening_seat};
-ghost use Rattle.heap_table.specs.CollectorHeld.{IsTurned};
+ghost use Rattle.heap_table.specs.CollectorHeld.{IsTurned, MayTurn};
 ghost use Rattle.heap_table.specs.Folded.{AllFolded};
 ghost use Rattle.heap_table.specs.Handing.{with_handed, with_folded};
 ghost use Rattle.heap_table.specs.Known.{opening_known};
@@ -14,6 +14,7 @@ ghost use Rattle.heap_table.specs.Told.{ToldAtTurn};
 use crate::holder::Holder;
 use crate::plays::FoldsIn;
 use crate::rule::{SharedTable, Token};
+use crate::shared_steps::SharedSteps;
 use crate::touch::{hand_out, touch};
 use atomic_table::Table;
 use core_machine::{CollectorParty, CountsEntries, Entries, Log, SeatParty, Step, opening_words};
@@ -108,7 +109,13 @@ impl<L: Entries, C: CountsEntries> CollectorHolder<L, C> {
         let table = self.table.clone()?;
         let token = hand_out::<Brand>(&self.table.shared, &mut self.token, &self.heap);
         let party = SeatParty::opening(alloc, &self.heap, number);
-        Ok(Holder::of(table, token, self.heap, number, party))
+        Ok(Holder {
+            table,
+            token,
+            heap: self.heap,
+            number,
+            party,
+        })
     }
 
     /// The heap whose table it is, each of whose seats has a place.
@@ -198,10 +205,9 @@ impl<L: Entries, C: CountsEntries> CollectorHolder<L, C> {
         (found, answer)
     }
 
-    /// Makes the next turn, whose step is this one, and after which the collector is the same whatever word was found.
+    /// Makes this turn, after which the collector is the same whatever word was found.
     fn turn_quietly(&mut self, step: &Step)
-        requires due { (next_turn self.old.heap self.old.known.collector).step ≡ step.now }
-        requires room { 2 ≤ self.old.spare }
+        requires may { MayTurn self.old step.now }
         requires quiet { is_quiet step.now ≡ true }
         ensures { IsTurned self.old self.new 0 }
     {
@@ -228,6 +234,16 @@ impl<L: Entries, C: CountsEntries> CollectorHolder<L, C> {
             .join_seat::<FoldsIn>(&mut self.token, token);
         self.folded = self.party.phase();
         self.places[place] = Some(party);
+    }
+}
+
+impl<L: Entries, C: CountsEntries> SharedSteps for CollectorHolder<L, C> {
+    ghost may = { MayTurn };
+
+    ghost finds = { IsTurned };
+
+    fn found_by(&mut self, step: &Step) -> u64 {
+        self.turn_by(step).0
     }
 }
 

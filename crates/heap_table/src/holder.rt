@@ -1,16 +1,16 @@
 ghost use Rattle.std.specs.Prelude.{◌≡◌, ◌+◌, ◌<◌, ◌≤◌, ◌^◌, Some, [], true, length, OnOk, OnErr, ◌↔◌, IsTrue};
-ghost use Rattle.std.specs.Arc.{arc_value};
 ghost use Rattle.core_machine.specs.Moves.{due_step};
 ghost use Rattle.core_machine.specs.declared.place.Place.TheVariants.{Idle};
 ghost use Rattle.core_machine.specs.machine.Machine.{MayBegin, MayBeginInner, after_begin, after_inner_begin};
-ghost use Rattle.core_rule.specs.Told.{IsAsTold};
+ghost use Rattle.core_rule.specs.told.Told.{IsAsTold};
 ghost use Rattle.heap_table.specs.Quiet.{is_quiet};
 ghost use Rattle.heap_table.specs.Made.{IsSound};
-ghost use Rattle.heap_table.specs.SeatHeld.{KeepsSeat, IsStepped};
+ghost use Rattle.heap_table.specs.SeatHeld.{IsStepped, MayStep, StepFinds};
 ghost use Rattle.heap_table.specs.Told.{ToldAtStep};
 ghost use Rattle.heap_table.specs.Views.{seat_view};
 
 use crate::rule::{SharedTable, Token};
+use crate::shared_steps::SharedSteps;
 use crate::touch::touch;
 use core_machine::{Entries, Log, SeatParty, Step};
 use heap_model::{Command, Entry, Heap, Inner, Memory};
@@ -24,11 +24,11 @@ mod spine;
 /// One seat of a table: the right to make its steps, with what is kept of it and its log.
 #[derive(Drop)]
 pub struct Holder<L: Entries = Log> {
-    table: SharedTable,
-    token: Token,
-    heap: Heap,
-    number: u8,
-    party: SeatParty<L>,
+    pub(crate) table: SharedTable,
+    pub(crate) token: Token,
+    pub(crate) heap: Heap,
+    pub(crate) number: u8,
+    pub(crate) party: SeatParty<L>,
 }
 
 impl<L: Entries> Model for Holder<L> {
@@ -49,26 +49,6 @@ impl<L: Entries> Model for Holder<L> {
 }
 
 impl<L: Entries> Holder<L> {
-    /// The holder of a seat that was handed out.
-    pub(crate) fn of(
-        table: SharedTable,
-        token: Token,
-        heap: Heap,
-        number: u8,
-        party: SeatParty<L>,
-    ) -> Holder<L>
-        requires keeps { KeepsSeat (arc_value table).shared.table_id (arc_value table).shared.key token.table_id token.me heap number party.seat }
-        ensures { result ≡ record { table = token.table_id; heap = heap; number = number; seat = party.seat; spare = party.spare } }
-    {
-        Holder {
-            table,
-            token,
-            heap,
-            number,
-            party,
-        }
-    }
-
     /// The token with the seat's data, which are those of its view.
     pub(crate) fn into_parts(self) -> (Token, SeatParty<L>)
         requires { self.seat.left ≡ true }
@@ -184,14 +164,23 @@ impl<L: Entries> Holder<L> {
         found
     }
 
-    /// Makes the due step, after which the seat is the same whatever word was found.
+    /// Makes this step, after which the seat is the same whatever word was found.
     fn step_quietly(&mut self, step: &Step)
-        requires due { due_step self.old.heap self.old.number self.old.seat ≡ Some step.now }
-        requires room { 2 ≤ self.old.spare }
+        requires may { MayStep self.old step.now }
         requires quiet { is_quiet step.now ≡ true }
         ensures { IsStepped self.old self.new 0 }
     {
         self.step(step);
+    }
+}
+
+impl<L: Entries> SharedSteps for Holder<L> {
+    ghost may = { MayStep };
+
+    ghost finds = { StepFinds };
+
+    fn found_by(&mut self, step: &Step) -> u64 {
+        self.step(step)
     }
 }
 

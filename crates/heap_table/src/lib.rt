@@ -8,6 +8,7 @@ mod holder;
 mod opening;
 mod plays;
 mod rule;
+mod shared_steps;
 mod touch;
 mod view;
 
@@ -16,4 +17,5 @@ pub use closing::CloseFault;
 pub use collector::CollectorHolder;
 pub use holder::Holder;
 pub use opening::HeapTable;
+pub use shared_steps::SharedSteps;
 pub use view::View;

@@ -3,6 +3,7 @@ use Rattle.std.proofs.Common.{◌≡◌, ℕ, ◌+◌, ◌*◌, ◌/◌, ◌%◌
 use Rattle.std.specs.Int.{bit_at}
 use Rattle.std.proofs.lemmas.Nat.{one_shl, or_shifted, shl_whole}
 use Rattle.std.proofs.lemmas.Nat.Bits.{shr_and_one}
+use Rattle.heap_words.specs.Control.{taken_at}
 
 -- below a multiple of 2^k there is room for k bits
 or_above : (a n k b : ℕ) → a ≡ n * 2 ^ k → b < 2 ^ k → bit_or a b ≡ a + b
@@ -35,5 +36,5 @@ pub place_shift : (k : ℕ) → 1 * 2 ^ (k % 16) % 2 ^ 16 ≡ 2 ^ (k % 16)
 place_shift k = one_shl (k % 16) 16 (omega arith)
 
 -- a bit below the sixteenth, tested
-pub place_test : (word k : ℕ) → bit_and (word / 2 ^ (k % 16)) 1 ≡ bit_at word (k % 16)
+pub place_test : (word k : ℕ) → bit_and (word / 2 ^ (k % 16)) 1 ≡ bit_at word (taken_at k)
 place_test word k = shr_and_one word (k % 16)

@@ -2,13 +2,29 @@ use Rattle.std.specs.Prelude.{ℕ, ◌+◌, ◌-◌, ◌*◌, ◌/◌, ◌%◌, 
 use Rattle.std.specs.Int.{bit_at}
 use Rattle.std.specs.List.{find, range_with_len}
 
+-- where a fragment's taken bit stands in its group's control word
+abbrev pub taken_at : ℕ → ℕ
+taken_at fragment = fragment % 16
+
+-- where its born bit does
+abbrev pub born_at : ℕ → ℕ
+born_at fragment = 16 + fragment % 16
+
+-- where its marked bit does
+abbrev pub marked_at : ℕ → ℕ
+marked_at fragment = 32 + fragment % 16
+
+-- where its scanned bit does
+abbrev pub scanned_at : ℕ → ℕ
+scanned_at fragment = 48 + fragment % 16
+
 -- a fragment's bit among the sixteen of its group
 abbrev pub place_bit_of : ℕ → ℕ
-place_bit_of fragment = 2 ^ (fragment % 16)
+place_bit_of fragment = 2 ^ taken_at fragment
 
 -- the fragment's taken bit isn't set in the control word
 abbrev pub is_clear : ℕ → ℕ → Bool
-is_clear word fragment = bit_at word (fragment % 16) == 0
+is_clear word fragment = bit_at word (taken_at fragment) == 0
 
 -- the taken bits of all sixteen fragments of a group
 abbrev pub all_taken : ℕ
@@ -29,15 +45,15 @@ birth_bits_of true bits = bits * 2 ^ 16 + bits * 2 ^ 32 + bits * 2 ^ 48
 
 -- the bit that a shade sets: the fragment is marked
 abbrev pub shade_bit_of : ℕ → ℕ
-shade_bit_of fragment = 2 ^ (32 + fragment % 16)
+shade_bit_of fragment = 2 ^ marked_at fragment
 
 -- the bit that a blacken sets: the fragment is scanned
 abbrev pub blacken_bit_of : ℕ → ℕ
-blacken_bit_of fragment = 2 ^ (48 + fragment % 16)
+blacken_bit_of fragment = 2 ^ scanned_at fragment
 
 -- the fragment is marked and not scanned in its group's control word
 abbrev pub is_grey : ℕ → ℕ → Bool
-is_grey word fragment = if bit_at word (32 + fragment % 16) == 1 then bit_at word (48 + fragment % 16) == 0 else false
+is_grey word fragment = if bit_at word (marked_at fragment) == 1 then bit_at word (scanned_at fragment) == 0 else false
 
 -- the lowest of a group's sixteen places whose fragment is grey, if one is
 abbrev pub lowest_grey_of : ℕ → Option ℕ

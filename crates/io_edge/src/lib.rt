@@ -2,6 +2,7 @@
 #![tactic(auto)]
 
 mod copying;
+mod counted;
 mod failed;
 mod mem_sink;
 mod mem_source;

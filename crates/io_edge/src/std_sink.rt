@@ -3,16 +3,13 @@ ghost use Rattle.std.specs.Io.KnownBytes.{Appends, Keeps};
 ghost use Rattle.io_edge.specs.Faults.{CountsFault};
 ghost use Rattle.io_edge.specs.Taken.{Takes, TakesSome};
 
-use crate::failed::raised;
+use crate::counted::Counted;
 use crate::{Failed, Sink};
 use std::io::Write;
 
 /// One of std's writers as a sink, which doesn't tell what it took. It flushes nothing.
 #[derive(Debug, Drop)]
-pub struct StdSink<W> {
-    output: W,
-    faults: u64,
-}
+pub struct StdSink<W>(Counted<W>);
 
 impl<W: Write> StdSink<W> {
     ghost use Rattle.io_edge.specs.Adapters.{writer};
@@ -22,7 +19,7 @@ impl<W: Write> StdSink<W> {
         ensures writer { writer result ≡ output }
         ensures faults { ⟦<StdSink<W> as Sink>⟧.faults result ≡ 0 }
     {
-        StdSink { output, faults: 0 }
+        StdSink(Counted::new(output))
     }
 }
 
@@ -32,7 +29,7 @@ impl<W: Write> Sink for StdSink<W> {
 
     ghost taken = { λ _. None };
 
-    ghost faults = { λ s. s.faults };
+    ghost faults = { λ s. s.0.faults };
 
     fn write(&mut self, piece: &[u8]) -> Result<usize, Failed>
         ensures ok { IfOk result (TakesSome None None piece.now) }
@@ -47,12 +44,9 @@ impl<W: Write> Sink for StdSink<W> {
         ensures kept { OnErr result
             (Keeps (W.contents (writer self.old)) (W.contents (writer self.new))) }
     {
-        match self.output.write(piece) {
+        match self.0.inner.write(piece) {
             Ok(n) if 0 < n || piece.is_empty() => Ok(n),
-            _ => {
-                self.faults = raised(self.faults);
-                Err(Failed)
-            }
+            _ => Err(self.0.fail()),
         }
     }
 }

@@ -17,7 +17,7 @@ use Rattle.heap_model.specs.declared.calls.collect.Inner.{Inner}
 use Rattle.core_machine.specs.seat.Commands.{IsServed}
 use Rattle.core_machine.specs.seat.Looks.{MayMake}
 use Rattle.core_machine.specs.seat.Seat.{Seat, HasNumberLeft}
-use Rattle.core_rule.specs.Laws.{EveryRunKeeps}
+use Rattle.core_rule.specs.runs.Laws.{EveryRunKeeps}
 use Rattle.core_rule.proofs.parties.OneSeat.{after_call}
 use Rattle.locked_heap.specs.declared.progress.Progress.{Progress}
 use Rattle.locked_heap.specs.Given.{Given, IsOfScript, IsSeatScript, script_of}

@@ -7,7 +7,7 @@ use Rattle.heap_model.specs.declared.entry.Entry.{Entry}
 use Rattle.heap_model.specs.declared.heap.Heap.{Heap}
 use Rattle.heap_model.specs.declared.reply.Reply.{Reply}
 use Rattle.core_machine.specs.machine.Machine.{State, Event, Run, state_after_all, history}
-use Rattle.core_rule.specs.Laws.{EveryRunKeeps, StandsFor}
+use Rattle.core_rule.specs.runs.Laws.{EveryRunKeeps, StandsFor}
 use Rattle.locked_heap.specs.Given.{Given}
 use Rattle.locked_heap.specs.Locked.{OpensAs, IsRunFrom}
 use Rattle.heap_record.specs.Recorded.{Recorded, StandsStill, MakesCall, MakesInner, MakesTurn}

@@ -21,7 +21,7 @@ use Rattle.locked_heap.specs.declared.progress.Progress.{Progress}
 use Rattle.locked_heap.specs.Given.{Given, script_of}
 use Rattle.heap_model.specs.PhasePlan.{cycle_phases}
 use Rattle.heap_model.specs.account.PhaseCounts.{phase}
-use Rattle.core_rule.specs.Laws.{StandsFor}
+use Rattle.core_rule.specs.runs.Laws.{StandsFor}
 use Rattle.core_rule.proofs.parties.Standing.{word_is}
 use Rattle.locked_heap.specs.Locked.{LockedValue, AllHaveCome, IsNext, IsCollecting, IsQuiet, MayAnswer}
 use Rattle.locked_heap.specs.Progress.{progress_at, IsTargetOf, HasCome}

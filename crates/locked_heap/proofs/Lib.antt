@@ -1,3 +1,4 @@
+pub mod GivenScripts
 pub mod GivenRuns
 pub mod HeapEntries
 pub mod TurnsOn

@@ -14,9 +14,9 @@ use Rattle.heap_model.specs.account.PhaseCounts.{phase, has_left}
 use Rattle.heap_model.specs.account.Space.{fragments_gained, fragments_lost, fragments_used, words_granted, words_returned, words_used}
 use Rattle.core_machine.specs.machine.Machine.{State, seat_at}
 use Rattle.core_machine.specs.seat.Seat.{Seat, absent_seat}
-use Rattle.core_rule.specs.Finds.{finds_in, WaitsAreFinds}
-use Rattle.core_rule.specs.Laws.{EveryRunKeeps, WordsAreUsed}
-use Rattle.core_rule.specs.SweepLaws.{EachLastCycleEmpties}
+use Rattle.core_rule.specs.looks.Finds.{finds_in, WaitsAreFinds}
+use Rattle.core_rule.specs.runs.Laws.{EveryRunKeeps, WordsAreUsed}
+use Rattle.core_rule.specs.sweep_exact.SweepLaws.{EachLastCycleEmpties}
 use Rattle.core_rule.proofs.runs.CountedFinds.{finds_by_law}
 use Rattle.core_rule.proofs.parties.Standing.{none_short, words_used as words_told}
 use Rattle.core_rule.proofs.runs.CountedFinds.{finds_by_law}
@@ -65,12 +65,14 @@ ends_empty runs given old new run all gone parted ends legal =
     let last : new.history ≡ before ++ Ends ends.cycle ends.kept ∷ [] = ends.told ∙ sym (append_assoc told ends.earlier (Ends ends.cycle ends.kept ∷ [])) in
     let leaves = leaves_stay told ends.earlier (parted.behind_leave gone) ends.own in
     record {
-      before = before;
-      cycle = ends.cycle;
-      kept = ends.kept;
-      last = last;
-      left = λ number below. left_before given.heap false told ends.earlier ends.cycle ends.kept number (subst (IsLegal given.heap false) last legal) ends.began
-          (gone_told runs given old run all number below (gone number below));
+      behind = record {
+        before = before;
+        cycle = ends.cycle;
+        kept = ends.kept;
+        last = last;
+        left = λ number below. left_before given.heap false told ends.earlier ends.cycle ends.kept number (subst (IsLegal given.heap false) last legal) ends.began
+            (gone_told runs given old run all number below (gone number below));
+      };
       first = omega (arith, ends.first, ap phase leaves);
     }
 
@@ -88,9 +90,9 @@ none_used runs words empties given recorded run legal ends =
     let s = run_stands given recorded run runs in
     let short = subst (λ (h : Heap). fragments_lost told ≤ fragments_gained h told) run.of_heap (none_short heap state told s) in
     let granted = words_told heap state told s words run.led.all_idle in
-    let none = empties given.heap false ends.before ends.cycle ends.kept (subst (IsLegal given.heap false) ends.last legal) ends.left in
-    let none_left : fragments_used given.heap told ≡ 0 = ap (fragments_used given.heap) ends.last ∙ none.0 in
-    let no_words : words_used told ≡ 0 = ap words_used ends.last ∙ none.1 in
+    let none = empties given.heap false ends.behind.before ends.behind.cycle ends.behind.kept (subst (IsLegal given.heap false) ends.behind.last legal) ends.behind.left in
+    let none_left : fragments_used given.heap told ≡ 0 = ap (fragments_used given.heap) ends.behind.last ∙ none.0 in
+    let no_words : words_used told ≡ 0 = ap words_used ends.behind.last ∙ none.1 in
     record { fragments = omega (arith, short, none_left); words = omega (arith, granted.0, no_words) }
 
 -- two functions that agree below a number tell the same of all below it

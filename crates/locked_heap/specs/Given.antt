@@ -1,5 +1,6 @@
 -- What a run is given.
-use Rattle.std.specs.Prelude.{◌≡◌, ◌≢◌, ℕ, ◌<◌, List, [], length, slice_index_or, All}
+use Rattle.std.specs.Prelude.{◌≡◌, ◌≢◌, ℕ, ◌^◌, ◌<◌, List, [], length, map, slice_index_or, All, Vec}
+use Rattle.std.specs.declared.alloc.Global.{Global}
 use Rattle.heap_model.specs.declared.command.Command.{Command}
 use Rattle.heap_model.specs.declared.command.Command.TheVariants.{Leave}
 use Rattle.heap_model.specs.declared.heap.Heap.{Heap}
@@ -45,3 +46,10 @@ pub record IsGiven (given : Given) : Type 0 where
   pub opens : IsOpening given.heap given.opening
   pub seated : length given.scripts ≡ given.heap.seats
   pub scripts : All IsSeatScript given.scripts
+
+-- these are the scripts that were given, one for each seat; a byte counts the seats, and thirty-two bits the commands of each
+pub record AreScripts (given : Given) (scripts : List (Vec Command Global)) : Type 0 where
+  pub same : map (λ script. script.items) scripts ≡ given.scripts
+  pub seated : length scripts ≡ given.heap.seats
+  pub seats : given.heap.seats < 256
+  pub few : All (λ script. length script.items < 2 ^ 32) scripts

@@ -7,7 +7,7 @@ use Rattle.heap_model.specs.runs.Endings.{EndsEmpty, IsPaid}
 use Rattle.heap_model.specs.runs.Told.{commands_told, waits_told}
 use Rattle.heap_model.specs.account.Space.{fragments_gained, fragments_lost, words_granted, words_returned}
 use Rattle.core_machine.specs.machine.Machine.{Event, Run, history}
-use Rattle.core_rule.specs.Finds.{finds_in}
+use Rattle.core_rule.specs.looks.Finds.{finds_in}
 use Rattle.locked_heap.specs.declared.ran.LockedRan.{LockedRan}
 use Rattle.locked_heap.specs.Given.{Given, script_of}
 

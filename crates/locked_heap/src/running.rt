@@ -15,23 +15,30 @@ use std::marker::Brand;
 use std::sync::{Mutex, Wait};
 use std::thread::Threads;
 
+/// A machine that has just been made, and how often a collect on it finds another seat behind before it answers that it waits.
+#[derive(Drop)]
+struct PatientMachine {
+    machine: Machine,
+    patience: u32,
+}
+
 /// A run on what was given, which its name tells.
 fn run_named<N: Handed + Send + Sync, G: Gate, R: Threads + Wait + Sync>(
     rt: &R,
     alloc: Global,
-    machine: Machine,
+    on: PatientMachine,
     scripts: &[Vec<Command>],
     pace: Box<dyn Pace>,
-    patience: u32,
     gate: &G,
 ) -> Result<LockedRan, Memory>
     requires given { IsGiven N.given }
-    requires heap { machine.heap ≡ N.given.heap }
-    requires opening { machine.state ≡ N.given.opening }
+    requires heap { on.machine.heap ≡ N.given.heap }
+    requires opening { on.machine.state ≡ N.given.opening }
     requires scripts { map (λ script. script.items) scripts.now ≡ N.given.scripts }
-    requires patience { patience ≡ N.given.patience }
+    requires patience { on.patience ≡ N.given.patience }
     ensures { IfOk result (IsRun N.given) }
 {
+    let PatientMachine { machine, patience } = on;
     let held = Mutex::new(Locked::<N>::new(alloc, machine, patience)?);
     work_all(rt, alloc, &held, scripts, pace, gate)?;
     held.into_inner().finish(rt, alloc, scripts)
@@ -61,5 +68,6 @@ pub fn run_locked<G: Gate, R: Threads + Wait + Sync>(
 {
     // What is true of every machine is known from here on.
     let _ = machine.heap();
-    run_named::<Brand, G, R>(rt, alloc, machine, scripts, pace, patience, gate)
+    let on = PatientMachine { machine, patience };
+    run_named::<Brand, G, R>(rt, alloc, on, scripts, pace, gate)
 }

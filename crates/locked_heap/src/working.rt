@@ -1,5 +1,5 @@
-ghost use Rattle.std.specs.Prelude.{◌≡◌, ◌<◌, ◌^◌, true, length, map, All, IfOk};
-ghost use Rattle.locked_heap.specs.Given.{script_of};
+ghost use Rattle.std.specs.Prelude.{◌≡◌, ◌<◌, ◌^◌, true, length, IfOk};
+ghost use Rattle.locked_heap.specs.Given.{AreScripts, script_of};
 ghost use Rattle.locked_heap.specs.Progress.{HaveAllLeft};
 
 use crate::handed::Handed;
@@ -67,10 +67,7 @@ fn work_seats<N: Handed + Send + Sync, G: Gate, R: Threads + Wait + Sync>(
     scripts: &[Vec<Command>],
     gate: &G,
 ) -> Result<Vec<Progress>, Memory>
-    requires scripts { map (λ script. script.items) scripts.now ≡ N.given.scripts }
-    requires seated { length scripts.now ≡ N.given.heap.seats }
-    requires seats { N.given.heap.seats < 256 }
-    requires few { All (λ script. length script.items < 2 ^ 32) scripts.now }
+    requires { AreScripts N.given scripts.now }
     ensures { IfOk result (λ came. HaveAllLeft N.given.heap.seats came.items) }
 {
     let done = map_indices(
@@ -79,10 +76,7 @@ fn work_seats<N: Handed + Send + Sync, G: Gate, R: Threads + Wait + Sync>(
         scripts.len(),
         &|seat: usize| -> Result<Progress, Memory>
             requires within { seat < length scripts.now }
-            requires scripts { map (λ script. script.items) scripts.now ≡ N.given.scripts }
-            requires seated { length scripts.now ≡ N.given.heap.seats }
-            requires seats { N.given.heap.seats < 256 }
-            requires few { All (λ script. length script.items < 2 ^ 32) scripts.now }
+            requires scripts { AreScripts N.given scripts.now }
             ensures { IfOk result (λ progress. progress.gone ≡ true) }
         { work(rt, held, seat as u8, scripts[seat].as_slice(), gate) },
     );
@@ -103,20 +97,14 @@ pub fn work_all<N: Handed + Send + Sync, G: Gate, R: Threads + Wait + Sync>(
     mut pace: Box<dyn Pace>,
     gate: &G,
 ) -> Result<Vec<Progress>, Memory>
-    requires scripts { map (λ script. script.items) scripts.now ≡ N.given.scripts }
-    requires seated { length scripts.now ≡ N.given.heap.seats }
-    requires seats { N.given.heap.seats < 256 }
-    requires few { All (λ script. length script.items < 2 ^ 32) scripts.now }
+    requires { AreScripts N.given scripts.now }
     ensures { IfOk result (λ came. HaveAllLeft N.given.heap.seats came.items) }
 {
     let (slack, seats) = join(
         rt,
         move || work_slack(rt, held, &mut pace),
         || -> Result<Vec<Progress>, Memory>
-            requires scripts { map (λ script. script.items) scripts.now ≡ N.given.scripts }
-            requires seated { length scripts.now ≡ N.given.heap.seats }
-            requires seats { N.given.heap.seats < 256 }
-            requires few { All (λ script. length script.items < 2 ^ 32) scripts.now }
+            requires { AreScripts N.given scripts.now }
             ensures { IfOk result (λ came. HaveAllLeft N.given.heap.seats came.items) }
         { work_seats(rt, alloc, held, scripts, gate) },
     );

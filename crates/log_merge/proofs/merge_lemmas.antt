@@ -7,7 +7,10 @@ pub mod Finding
 pub mod Kinds
 pub mod MergerLemmas
 pub mod Merges
+pub mod Moving
 pub mod Parts
 pub mod Places
 pub mod Rests
 pub mod Sound
+pub mod SoundChanges
+pub mod Waiting

@@ -27,14 +27,14 @@ use Rattle.core_machine.specs.seat.FitsAccess.{NamesObject, NamesField}
 use Rattle.core_machine.specs.seat.Local.{answer_of}
 use Rattle.core_machine.specs.seat.Registers.{register_in, register_head, value_of, is_same_value}
 use Rattle.core_machine.proofs.own_stages.Objects.{held_head, none_refused, refused_none}
-use Rattle.core_rule.specs.Found.{IsMetaOf}
-use Rattle.core_rule.specs.Registers.{IsAwaited}
+use Rattle.core_rule.specs.told.Found.{IsMetaOf}
+use Rattle.core_rule.specs.graph.Registers.{IsAwaited}
 use Rattle.core_rule.proofs.graph.SameValues.{same_tells}
 use Rattle.heap_table.specs.SeatHeld.{SeatHeld}
 use Rattle.mutator_seat.specs.Calls.{ToldIn, MakesCall}
-use Rattle.mutator_seat.specs.Replies.{AnswersGet, AnswersSet}
+use Rattle.mutator_seat.specs.Replies.{AnswersGet, AnswersSet, IsReplyTo}
 use Rattle.mutator_seat.specs.Resting.{seat_state, Rests}
-use Rattle.mutator_seat.proofs.Replied.{reply_to, IsReplyTo}
+use Rattle.mutator_seat.proofs.Replied.{reply_to}
 
 -- at rest each register holds what the seat's own list tells
 not_awaited : (place : Place) (d r : ℕ) → place ≡ places.Idle → ¬ IsAwaited place d r

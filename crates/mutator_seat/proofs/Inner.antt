@@ -26,7 +26,7 @@ use Rattle.core_machine.specs.seat.Seat.{Seat}
 use Rattle.core_machine.proofs.moves.{due_move}
 use Rattle.core_machine.proofs.moves.Collect.{InnerStands, inner_stands}
 use Rattle.core_machine.proofs.own_stages.Inner.{inner_leads, inner_begins, inner_ended}
-use Rattle.core_rule.specs.Told.{IsAsTold}
+use Rattle.core_rule.specs.told.Told.{IsAsTold}
 use Rattle.heap_table.specs.Begun.{next_seat}
 use Rattle.heap_table.specs.Made.{Made, FoundIn, LeadsTo, MakesSteps, IsSound}
 use Rattle.heap_table.specs.SeatHeld.{SeatHeld}

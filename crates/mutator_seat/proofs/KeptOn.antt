@@ -19,7 +19,7 @@ use Rattle.core_machine.specs.machine.Calls.{IsBeside}
 use Rattle.core_machine.specs.seat.FitsAccess.{IsSet}
 use Rattle.core_machine.specs.machine.Machine.{MayBegin}
 use Rattle.core_machine.specs.seat.Seat.{HasNumberLeft}
-use Rattle.core_rule.specs.Told.{IsAsTold}
+use Rattle.core_rule.specs.told.Told.{IsAsTold}
 use Rattle.heap_table.specs.Made.{IsSound}
 use Rattle.heap_table.specs.SeatHeld.{SeatHeld}
 use Rattle.mutator_seat.specs.Calls.{ToldIn, MakesCall}

@@ -16,22 +16,7 @@ use Rattle.core_machine.specs.seat.Local.{answer_of, local_reply_of}
 use Rattle.core_machine.specs.seat.Registers.{register_in, value_of, is_same_value}
 use Rattle.heap_table.specs.SeatHeld.{SeatHeld}
 use Rattle.mutator_seat.specs.Calls.{ToldIn, MakesCall}
-use Rattle.mutator_seat.specs.Replies.{TellsPhase, AnswersRecord, AnswersArray, AnswersGet, AnswersSet, AnswersSame, AnswersLen, IsDone}
-
--- the reply is of a kind that the command can give
-abbrev pub IsReplyTo : Command → Reply → Type 0
-IsReplyTo (commands.New d fields) reply = AnswersRecord reply
-IsReplyTo (commands.Array d cells) reply = AnswersArray reply
-IsReplyTo (commands.Get d r i) reply = AnswersGet reply
-IsReplyTo (commands.Set r i v) reply = AnswersSet reply
-IsReplyTo (commands.Num d n) reply = IsDone reply
-IsReplyTo (commands.Nil d) reply = IsDone reply
-IsReplyTo (commands.Copy d r) reply = IsDone reply
-IsReplyTo (commands.Same a b) reply = AnswersSame reply
-IsReplyTo (commands.Len r) reply = AnswersLen reply
-IsReplyTo commands.Poll reply = TellsPhase reply
-IsReplyTo commands.Collect reply = ⊥
-IsReplyTo commands.Leave reply = IsDone reply
+use Rattle.mutator_seat.specs.Replies.{AnswersRecord, AnswersArray, AnswersGet, AnswersSet, AnswersSame, IsDone, IsReplyTo}
 
 -- one that looks at no word
 answers_same : (b : Bool) → AnswersSame (answer_of b)

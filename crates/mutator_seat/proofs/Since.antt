@@ -26,7 +26,7 @@ use Rattle.core_machine.specs.calls.OwnStage.{StageAt, OwnStage}
 use Rattle.core_machine.specs.seat.Fits.{Fits}
 use Rattle.core_machine.specs.seat.Registers.{register_in, register_head}
 use Rattle.core_machine.specs.seat.Seat.{Seat}
-use Rattle.core_rule.specs.Found.{TellsWord, TellsMeta, IsMetaOf, IsAnsweredOrNext}
+use Rattle.core_rule.specs.told.Found.{TellsWord, TellsMeta, IsMetaOf, IsAnsweredOrNext}
 use Rattle.heap_table.specs.Begun.{next_seat}
 use Rattle.heap_table.specs.Made.{Made, FoundIn, LeadsTo}
 use Rattle.heap_table.proofs.MadeSteps.{stage_on, found_first, found_more}

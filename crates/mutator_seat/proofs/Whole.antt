@@ -8,7 +8,7 @@ use Rattle.core_machine.specs.declared.place.Place.TheVariants.{Idle}
 use Rattle.core_machine.specs.machine.Calls.{last_reply_of}
 use Rattle.core_machine.specs.machine.Machine.{MayBegin}
 use Rattle.core_machine.specs.seat.Commands.{IsServed}
-use Rattle.core_rule.specs.Told.{IsAsTold}
+use Rattle.core_rule.specs.told.Told.{IsAsTold}
 use Rattle.heap_table.specs.Made.{Made, MakesSteps, IsSound}
 use Rattle.heap_table.specs.SeatHeld.{SeatHeld}
 use Rattle.mutator_seat.specs.Calls.{begun, MakesCall}

@@ -15,7 +15,7 @@ use Rattle.core_machine.specs.declared.step.Step.{Step}
 use Rattle.core_machine.specs.declared.step.Step.TheVariants.{PollLoad, Spine}
 use Rattle.core_machine.specs.machine.Calls.{IsBeside, KeepsOwn}
 use Rattle.core_machine.specs.machine.Machine.{after_begin}
-use Rattle.core_rule.specs.Found.{TellsWord}
+use Rattle.core_rule.specs.told.Found.{TellsWord}
 use Rattle.heap_table.specs.Made.{Made, FoundIn, MakesSteps}
 use Rattle.heap_table.specs.SeatHeld.{SeatHeld}
 use Rattle.frag_claim.specs.Gathered.{IsExhausted}

@@ -1,4 +1,6 @@
 -- Which replies answer which calls.
+use Rattle.heap_model.specs.declared.command.Command.{Command}
+use Rattle.heap_model.specs.declared.command.Command.TheVariants as commands
 use Rattle.heap_model.specs.declared.reply.Reply.{Reply}
 use Rattle.heap_model.specs.declared.reply.Reply.TheVariants.{Made, Got, Was, Done, Yes, No, Length, Phase, NoObject, NoField, Full, SpineFull}
 
@@ -50,3 +52,18 @@ AnswersLen _ = ⊥
 abbrev pub IsDone : Reply → Type 0
 IsDone Done = Unit {0}
 IsDone _ = ⊥
+
+-- the reply is of a kind that the command can give
+abbrev pub IsReplyTo : Command → Reply → Type 0
+IsReplyTo (commands.New d fields) reply = AnswersRecord reply
+IsReplyTo (commands.Array d cells) reply = AnswersArray reply
+IsReplyTo (commands.Get d r i) reply = AnswersGet reply
+IsReplyTo (commands.Set r i v) reply = AnswersSet reply
+IsReplyTo (commands.Num d n) reply = IsDone reply
+IsReplyTo (commands.Nil d) reply = IsDone reply
+IsReplyTo (commands.Copy d r) reply = IsDone reply
+IsReplyTo (commands.Same a b) reply = AnswersSame reply
+IsReplyTo (commands.Len r) reply = AnswersLen reply
+IsReplyTo commands.Poll reply = TellsPhase reply
+IsReplyTo commands.Collect reply = ⊥
+IsReplyTo commands.Leave reply = IsDone reply

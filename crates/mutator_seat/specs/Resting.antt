@@ -4,7 +4,7 @@ use Rattle.heap_model.specs.Limits.{stamp_limit}
 use Rattle.heap_model.specs.calls.SeatLaws.{IsOwn}
 use Rattle.heap_model.specs.calls.SeatState.{SeatState}
 use Rattle.core_machine.specs.declared.place.Place.TheVariants.{Idle}
-use Rattle.core_rule.specs.Told.{IsAsTold}
+use Rattle.core_rule.specs.told.Told.{IsAsTold}
 use Rattle.heap_table.specs.Made.{IsSound}
 use Rattle.heap_table.specs.SeatHeld.{SeatHeld}
 

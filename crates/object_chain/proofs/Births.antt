@@ -15,7 +15,7 @@ use Rattle.core_machine.proofs.table_lemmas.Bits.{bool_tells}
 use Rattle.heap_table.specs.Made.{Made, MakesSteps, IsSound}
 use Rattle.heap_table.specs.SeatHeld.{SeatHeld, IsStepped}
 use Rattle.heap_table.specs.Told.{ToldAtStep}
-use Rattle.heap_table.proofs.MadeSteps.{makes_none, makes_append, makes_one, step_nears}
+use Rattle.heap_table.proofs.MadeSteps.{makes_none, step_falls, step_leaves_room, step_pays, step_makes}
 use Rattle.object_chain.specs.Bearing.{BeginsBearing}
 use Rattle.object_chain.specs.Due.{due_of_bearing}
 
@@ -28,8 +28,7 @@ StandsBearing _ = ⊥
 
 -- while the record is stored and born: no more entries are added than were owed
 pub record WhileBearing (first now : SeatHeld) : Type 0 where
-  pub made : List Made
-  pub makes : MakesSteps first now made
+  pub steps : (made : List Made) × MakesSteps first now made
   pub stands : StandsBearing now.seat.place
   pub reserve_stays : now.seat.reserve ≡ first.seat.reserve
   pub paid : owes now.seat + length now.seat.mine ≤ 1 + length first.seat.mine
@@ -39,8 +38,7 @@ pub bearing_begins : (held : SeatHeld) (fragments : List ℕ) (fields d : ℕ) �
 bearing_begins held fragments fields d begins room =
     let owed : owes held.seat ≡ 1 = ap (owes_at held.seat) begins.place_is in
     record {
-      made = [];
-      makes = makes_none held;
+      steps = ([], makes_none held);
       stands = subst StandsBearing (sym begins.place_is) tt;
       reserve_stays = refl;
       paid = omega (arith, owed);
@@ -74,17 +72,15 @@ keeps_on heap number seat found _ due step e = cc
 pub bearing_on : (first now new : SeatHeld) (step : Step) (found : ℕ) → IsSound now → WhileBearing first now → due_of_bearing now.seat.place (due_step now.heap now.number now.seat) ≡ Some step
     → IsStepped now new found → ToldAtStep now.heap now.number now.seat found → WhileBearing first new × (steps_left new.heap new.seat < steps_left now.heap now.seat)
 bearing_on first now new step found sound while is stepped told =
-    let due = of_bearing now.seat.place (due_step now.heap now.number now.seat) step is in
-    let near = step_nears now.heap now.number now.seat sound.limits (omega (arith, sound.within, sound.limits.seats_fit)) sound.fits step found new.seat due stepped.seat_is in (
+    let due = of_bearing now.seat.place (due_step now.heap now.number now.seat) step is in (
       record {
-        made = while.made ++ record { step = step; found = found } ∷ [];
-        makes = makes_append first now new while.made (record { step = step; found = found } ∷ []) while.makes (makes_one now new step found due told stepped);
+        steps = step_makes first now new step found sound due stepped told while.steps;
         stands = subst (λ (s : Seat). StandsBearing s.place) (sym stepped.seat_is) (stands_on now.heap now.number now.seat found now.seat.place (due_step now.heap now.number now.seat) step refl is);
         reserve_stays = ap (λ (s : Seat). s.reserve) stepped.seat_is ∙ keeps_on now.heap now.number now.seat found now.seat.place (due_step now.heap now.number now.seat) step is ∙ while.reserve_stays;
-        paid = omega (arith, while.paid, near.1);
-        room = omega (arith, while.room, near.1, stepped.room_stays);
+        paid = step_pays first now new step found sound due stepped told (1 + length first.seat.mine) while.paid;
+        room = step_leaves_room first now new step found sound due stepped told while.room;
       },
-      subst (λ (h : Heap). steps_left h new.seat < steps_left now.heap now.seat) (sym stepped.heap_stays) near.0,
+      step_falls first now new step found sound due stepped told,
     )
 
 -- once none is due the call is over

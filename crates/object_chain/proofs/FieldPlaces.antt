@@ -8,8 +8,8 @@ use Rattle.core_machine.specs.seat.Commands.{object_of, field_of}
 use Rattle.core_machine.specs.seat.Registers.{register_in, register_head}
 use Rattle.core_machine.specs.seat.Seat.{Seat}
 use Rattle.core_rule.specs.Book.{Book, fragment_at}
-use Rattle.core_rule.specs.Flight.{WhileAccess}
-use Rattle.core_rule.specs.Reached.{IsOnObject, IsFieldPlace, HasReached, ReachesInBook}
+use Rattle.core_rule.specs.cycle.Flight.{WhileAccess}
+use Rattle.core_rule.specs.told.Reached.{IsOnObject, IsFieldPlace, HasReached, ReachesInBook}
 use Rattle.core_rule.specs.Stands.{Stands}
 use Rattle.heap_model.specs.declared.heap.Heap.{Heap}
 use Rattle.heap_table.specs.SeatHeld.{SeatHeld}

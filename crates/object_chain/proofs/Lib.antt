@@ -1,4 +1,5 @@
 pub mod Births
+pub mod MadeObjects
 pub mod Born
 pub mod FieldPlaces
 pub mod Links

@@ -26,8 +26,8 @@ use Rattle.core_machine.specs.seat.FitsAccess.{NamesField}
 use Rattle.core_machine.specs.seat.Seat.{Seat, with_entries}
 use Rattle.core_machine.specs.calls.Owes.{owes, owes_at, steps_left}
 use Rattle.core_machine.proofs.seat_lemmas.FieldPlaces.{field_cases}
-use Rattle.core_rule.specs.Flight.{WhileAccess}
-use Rattle.core_rule.specs.Reached.{HasReached}
+use Rattle.core_rule.specs.cycle.Flight.{WhileAccess}
+use Rattle.core_rule.specs.told.Reached.{HasReached}
 use Rattle.heap_table.specs.Made.{Made, FoundIn, MakesSteps, IsSound}
 use Rattle.heap_table.specs.SeatHeld.{SeatHeld, IsStepped}
 use Rattle.heap_table.specs.Told.{ToldAtStep}

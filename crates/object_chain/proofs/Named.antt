@@ -7,8 +7,8 @@ use Rattle.core_machine.specs.declared.place.Place.{Place}
 use Rattle.core_machine.specs.declared.step.AccessStep.TheVariants.{NameLoad}
 use Rattle.core_machine.specs.declared.step.Step.TheVariants.{Access}
 use Rattle.core_machine.specs.table.Decode.{id_of_owner}
-use Rattle.core_rule.specs.Flight.{WhileAccess}
-use Rattle.core_rule.specs.Reached.{ReachesInBook}
+use Rattle.core_rule.specs.cycle.Flight.{WhileAccess}
+use Rattle.core_rule.specs.told.Reached.{ReachesInBook}
 use Rattle.heap_words.specs.Name.{name_in}
 use Rattle.heap_words.specs.declared.name.Name.{Name}
 use Rattle.heap_table.specs.Made.{Made}

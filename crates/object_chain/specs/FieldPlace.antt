@@ -3,7 +3,7 @@ use Rattle.std.specs.Prelude.{◌≡◌, ℕ}
 use Rattle.core_machine.specs.machine.Machine.{State, seat_at}
 use Rattle.core_machine.specs.seat.Commands.{field_of}
 use Rattle.core_rule.specs.Book.{Book, fragment_at}
-use Rattle.core_rule.specs.Reached.{IsFieldPlace}
+use Rattle.core_rule.specs.told.Reached.{IsFieldPlace}
 use Rattle.core_rule.specs.Stands.{Stands}
 use Rattle.heap_table.specs.SeatHeld.{SeatHeld}
 

@@ -10,7 +10,7 @@ use Rattle.core_machine.specs.declared.step.Step.TheVariants.{Access}
 use Rattle.core_machine.specs.machine.Machine.{State, seat_at}
 use Rattle.core_machine.specs.table.Decode.{id_of_owner}
 use Rattle.core_rule.specs.Book.{Book, fragment_at, id_at}
-use Rattle.core_rule.specs.Reached.{AwaitsName}
+use Rattle.core_rule.specs.told.Reached.{AwaitsName}
 use Rattle.core_rule.specs.Stands.{Stands}
 use Rattle.heap_table.specs.Made.{Made, FoundIn}
 use Rattle.heap_table.specs.SeatHeld.{SeatHeld}

@@ -1,15 +1,12 @@
-ghost use Rattle.std.specs.Prelude.{◌≡◌, ◌+◌, ◌*◌, ◌≤◌, ◌++◌, List, [], ◌∷◌, length, slice_set, slice_index_or};
+ghost use Rattle.std.specs.Prelude.{◌≡◌, ◌*◌, ◌≤◌, ◌++◌, List, [], ◌∷◌, length};
 ghost use Rattle.heap_model.specs.declared.command.Command.TheVariants.{New};
 ghost use Rattle.heap_model.specs.declared.entry.Entry.TheVariants.{Said};
-ghost use Rattle.heap_model.specs.declared.id.Id.TheVariants.{Made as MadeBy};
 ghost use Rattle.heap_model.specs.declared.reply.Reply.TheVariants.{Made as TellsMade};
 ghost use Rattle.core_machine.specs.Moves.{due_step};
 ghost use Rattle.core_machine.specs.calls.Making.{name_after, HasStored};
-ghost use Rattle.core_machine.specs.declared.place.Place.TheVariants.{Idle};
-ghost use Rattle.core_machine.specs.declared.seat.register.Register.TheVariants.{Object};
 ghost use Rattle.core_machine.specs.seat.Seat.{no_spot};
 ghost use Rattle.heap_table.specs.Made.{Made, FoundIn, MakesSteps, BySteps, IsSound};
-ghost use Rattle.object_chain.specs.Bearing.{BeginsBearing, IsBorn};
+ghost use Rattle.object_chain.specs.Bearing.{BeginsBearing, IsBorn, HoldsNewborn};
 ghost use Rattle.object_chain.specs.Due.{due_of_bearing as due_at_bearing};
 
 use core_machine::{Entries, Making, Place, Step};
@@ -34,11 +31,7 @@ pub fn bear_record<L: Entries>(holder: &mut Holder<L>, fragments: &[u16], fields
     ensures steps { (made : List Made) × MakesSteps holder.old holder.new made }
     ensures stored { BySteps holder.old holder.new (λ made. HasStored (FoundIn made) (New d fields) (name_after holder.old.number holder.old.seat.made) no_spot fragments.now (4 * length fragments.now)) }
     ensures born { BySteps holder.old holder.new (λ made. IsBorn made fragments.now) }
-    ensures id { result ≡ MadeBy holder.old.number holder.old.seat.made }
-    ensures counted { holder.new.seat.made ≡ holder.old.seat.made + 1 }
-    ensures register { holder.new.seat.registers ≡ slice_set holder.old.seat.registers d (Object (slice_index_or fragments.now 0 0) result) }
-    ensures reserve { holder.new.seat.reserve ≡ holder.old.seat.reserve }
-    ensures over { holder.new.seat.place ≡ Idle }
+    ensures newborn { HoldsNewborn holder.old holder.new d fragments.now result }
     ensures told { holder.new.seat.mine ≡ holder.old.seat.mine ++ Said holder.old.number (New d fields) (TellsMade result) ∷ [] }
 {
     let id = Id::Made {

@@ -3,5 +3,4 @@ pub mod OneStatus
 pub mod SeatScripts
 pub mod RunHistories
 pub mod Inputs
-pub mod OpenedSeats
 pub mod TableRuns

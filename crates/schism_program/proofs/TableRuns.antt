@@ -1,9 +1,11 @@
 -- What a run on a shared table came to is a run of the script.
 use Rattle.std.proofs.Common.{◌≡◌, ℕ, suc, ◌+◌, ◌<◌, ◌≤◌, Bool, true, false, if◌then◌else◌, List, [], ◌∷◌, ◌++◌, length, map, filter, Some, inl, inr, refl, sym, ap, subst, ◌∙◌, arith}
-use Rattle.std.specs.Prelude.{slice_get}
+use Rattle.std.specs.Prelude.{All, slice_get}
 use Rattle.std.specs.List.{AllByRecursion, range_with_len}
 use Rattle.std.proofs.lemmas.Bool.Decides.{eqb_tells}
 use Rattle.std.proofs.lemmas.List.Concat.{flat_map-cons}
+use Rattle.std.proofs.lemmas.List.Elements.{recursion_from_All}
+use Rattle.atomic_table.specs.Seated.{TableId}
 use Rattle.heap_model.specs.Logs.{logs_of}
 use Rattle.heap_model.specs.account.Effects.{is_of}
 use Rattle.heap_model.specs.account.Noting.{is_collectors}
@@ -14,14 +16,17 @@ use Rattle.heap_model.specs.declared.entry.Entry.{Entry}
 use Rattle.heap_model.specs.declared.entry.Entry.TheVariants as entries
 use Rattle.heap_model.specs.declared.heap.Heap.{Heap}
 use Rattle.heap_model.specs.graph.Legal.{IsObjectLegal}
+use Rattle.heap_model.specs.runs.Endings.{EndsBehindLeaves}
 use Rattle.heap_model.specs.runs.Told.{command_told, commands_told}
+use Rattle.core_machine.specs.seat.Seat.{Seat}
 use Rattle.heap_table.specs.Closed.{ClosedTable, HasOneHistory}
+use Rattle.heap_table.specs.Opened.{IsOpened}
 use Rattle.heap_table.specs.SeatHeld.{SeatHeld}
 use Rattle.log_merge.proofs.SameLogs.{snoc_same, same_totals, keeps_logs}
 use Rattle.script_text.specs.declared.script.Script.{Script}
 use Rattle.heap_model.specs.account.Account.{IsLegal}
 use Rattle.heap_model.specs.account.Space.{fragments_gained, fragments_lost}
-use Rattle.heap_runs.specs.Finishing.{HasLogs, EndsBehindLeaves, EndsUnused}
+use Rattle.heap_runs.specs.Finishing.{HasLogs, EndsUnused}
 use Rattle.heap_runs.specs.SeatWork.{HasWorked, HaveWorked, script_at}
 use Rattle.schism_program.specs.Running.{seat_commands, merged_history, IsRunOf, IsOfTable}
 
@@ -59,6 +64,10 @@ unturned_by (entry ∷ es) own = by (unturned_by es) (is_collectors entry) refl 
 -- the seat had told nothing
 abbrev pub HasToldNone : SeatHeld → Type 0
 HasToldNone held = held.seat.mine ≡ []
+
+-- as no seat of a table that opens has
+pub told_none : (table : TableId) (heap : Heap) (holders : List SeatHeld) → All (IsOpened table heap) holders → AllByRecursion HasToldNone holders
+told_none table heap holders opened = recursion_from_All HasToldNone holders (λ k d below. ap (λ (s : Seat). s.mine) (opened k d below).seat_is)
 
 module _ (patience : ℕ) (scripts : List (List Command)) (history : List Entry) where
   -- seats that follow one another, had told nothing, and whose lists are their parts of the history, have told their scripts and left

@@ -9,7 +9,7 @@ use Rattle.heap_model.specs.Logs.{logs_of, KeepsLogs}
 use Rattle.heap_model.specs.account.Account.{IsLegal}
 use Rattle.heap_model.specs.account.Space.{words_granted, words_returned}
 use Rattle.heap_model.specs.account.Turned.{is_of_heap}
-use Rattle.heap_model.specs.runs.Endings.{EndsEmpty}
+use Rattle.heap_model.specs.runs.Endings.{EndsBehindLeaves, EndsEmpty}
 use Rattle.heap_model.specs.runs.Told.{commands_told}
 use Rattle.script_text.specs.declared.script.Form.TheVariants as forms
 use Rattle.script_text.specs.declared.script.Line.{Line}
@@ -21,7 +21,7 @@ use Rattle.reply_text.specs.declared.history.History.{History}
 use Rattle.reply_text.specs.History.{history_lines}
 use Rattle.log_merge.specs.Legal.{IsLegalHistory}
 use Rattle.heap_table.specs.Closed.{ClosedTable}
-use Rattle.heap_runs.specs.Finishing.{EndsBehindLeaves, EndsUnused}
+use Rattle.heap_runs.specs.Finishing.{EndsUnused}
 use Rattle.locked_heap.specs.declared.ran.LockedRan.{LockedRan}
 
 -- the command of the line, where the line is the seat's

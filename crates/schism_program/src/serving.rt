@@ -1,4 +1,4 @@
-ghost use Rattle.std.specs.Prelude.{◌≡◌, ℕ, Err, IfOk, IsSome, is_some};
+ghost use Rattle.std.specs.Prelude.{◌≡◌, ℕ, None, Err, IfOk, IsSome, is_some};
 ghost use Rattle.form_words.specs.Works.{IsWork, MayBeMade};
 ghost use Rattle.script_text.specs.declared.cause.LineFault.{LineFault as ALineFault};
 ghost use Rattle.script_text.specs.declared.script.Form.TheVariants.{Play};
@@ -6,7 +6,7 @@ ghost use Rattle.script_text.specs.Grammar.{IsScript};
 ghost use Rattle.script_text.specs.Writing.{IsOfForm};
 ghost use Rattle.script_text.specs.Text.{text_of};
 ghost use Rattle.schism_program.specs.Serving.{told_lines, FailsAsScript, IsMadeText, Plays};
-ghost use Rattle.schism_program.specs.Works.{FailsAt, IsIllegalAt, IsOpenRun, LeavesTable, MakesText};
+ghost use Rattle.schism_program.specs.Works.{FailsAt, IsIllegalAt, LeavesTable, MakesText};
 
 use crate::fault::WorkFault;
 use crate::made::Made;
@@ -77,44 +77,15 @@ fn made_script_text(alloc: Global, start: u32, seats: u8, lines: u32) -> Result<
     Ok(text)
 }
 
-/// The text that the work makes of the input, where it is no run without the lock. Only a run may wait, and only its work is handed the runtime.
-fn text_alone<G: Gate, R: Threads + Wait + Sync>(
-    rt: &R,
-    alloc: Global,
-    work: Work,
-    input: &[u8],
-    paces: Paces,
-    gate: &G,
-) -> Result<Vec<u8>, WorkFault>
-    requires work { IsWork work }
-    requires alone { ¬ IsOpenRun work }
-    ensures ok { IfOk result (λ text. MakesText work input.now text.items) }
-    ensures refused { (fault : ALineFault) → result ≡ Err (WorkFault.Refused fault) →
-        FailsAt work input.now fault.line fault.cause }
-    ensures not_legal { (line : ℕ) → result ≡ Err (WorkFault.NotLegal line) →
-        IsIllegalAt work input.now line }
+/// What a work comes to of which nothing is left but its text.
+fn text_alone(text: Vec<u8>) -> Made
+    ensures text { result.text.items ≡ text.items }
+    ensures closed { result.closed ≡ None }
 {
-    match work {
-        Work::Play { pace: None, brief } => played_text(alloc, input, None, brief),
-        Work::Play {
-            pace: Some(PaceName::Steady),
-            brief,
-        } => played_text(alloc, input, Some(paces.steady), brief),
-        Work::Run {
-            pace: PaceName::Steady,
-            patience,
-            ..
-        } => run_text(rt, alloc, input, paces.steady, patience, gate),
-        Work::Check => verdict(alloc, input),
-        Work::Make {
-            start,
-            seats,
-            lines,
-        } => Ok(made_script_text(alloc, start, seats, lines)?),
-    }
+    Made { text, closed: None }
 }
 
-/// The text that the work makes of the input, and the table that it closes where it is a run without the lock.
+/// The text that the work makes of the input, and the table that it closes where it is a run without the lock. Only a run may wait, and only its work is handed the runtime.
 pub fn made_work<G: Gate, R: Threads + Wait + Sync>(
     rt: &R,
     alloc: Global,
@@ -131,18 +102,48 @@ pub fn made_work<G: Gate, R: Threads + Wait + Sync>(
     ensures not_legal { (line : ℕ) → result ≡ Err (WorkFault.NotLegal line) →
         IsIllegalAt work input.now line }
 {
-    if let Work::Run {
-        locked: false,
-        pace: PaceName::Steady,
-        patience,
-    } = work
-    {
-        let run = run_on_table(rt, alloc, input, paces.steady, patience, gate)?;
-        return Ok(Made {
-            text: run.text,
-            closed: Some(run.closed),
-        });
+    match work {
+        Work::Play { pace: None, brief } => {
+            let text = played_text(alloc, input, None, brief)?;
+            Ok(text_alone(text))
+        }
+        Work::Play {
+            pace: Some(PaceName::Steady),
+            brief,
+        } => {
+            let text = played_text(alloc, input, Some(paces.steady), brief)?;
+            Ok(text_alone(text))
+        }
+        Work::Run {
+            locked: false,
+            pace: PaceName::Steady,
+            patience,
+        } => {
+            let run = run_on_table(rt, alloc, input, paces.steady, patience, gate)?;
+            Ok(Made {
+                text: run.text,
+                closed: Some(run.closed),
+            })
+        }
+        Work::Run {
+            locked: true,
+            pace: PaceName::Steady,
+            patience,
+        } => {
+            let text = run_text(rt, alloc, input, paces.steady, patience, gate)?;
+            Ok(text_alone(text))
+        }
+        Work::Check => {
+            let text = verdict(alloc, input)?;
+            Ok(text_alone(text))
+        }
+        Work::Make {
+            start,
+            seats,
+            lines,
+        } => {
+            let text = made_script_text(alloc, start, seats, lines)?;
+            Ok(text_alone(text))
+        }
     }
-    let text = text_alone(rt, alloc, work, input, paces, gate)?;
-    Ok(Made { text, closed: None })
 }

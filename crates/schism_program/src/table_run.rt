@@ -1,8 +1,6 @@
-ghost use Rattle.std.specs.Prelude.{◌≡◌, ◌≤◌, ℕ, Err, IfOk, IfSome, All};
+ghost use Rattle.std.specs.Prelude.{◌≡◌, ◌≤◌, ℕ, Err, IfOk};
 ghost use Rattle.script_text.specs.declared.cause.LineFault.{LineFault as ALineFault};
 ghost use Rattle.script_text.specs.declared.script.Form.TheVariants.{Run};
-ghost use Rattle.heap_table.specs.SeatHeld.{SeatHeld};
-ghost use Rattle.mutator_seat.specs.Resting.{IsBetweenCalls};
 ghost use Rattle.schism_program.specs.Running.{merged_history, RunsOnTable};
 ghost use Rattle.schism_program.specs.Serving.{FailsAsScript};
 
@@ -11,11 +9,10 @@ use crate::running::scripts_of;
 use crate::serving::script_of;
 use collector_turns::Collector;
 use core_machine::Log;
-use heap_model::{Entry, Gate, Heap, Memory};
-use heap_runs::{Ran, run_seats};
-use heap_table::{Closed, HeapTable, Holder};
+use heap_model::{Entry, Gate, Heap};
+use heap_runs::{Ran, run_seats, seats_of};
+use heap_table::{Closed, HeapTable};
 use log_merge::merge;
-use mutator_seat::Seat;
 use reply_text::{History, render_history};
 use script_text::{Form, Sequence};
 use slack_pace::Pace;
@@ -28,18 +25,6 @@ use std::thread::Threads;
 pub struct TableRun {
     pub text: Vec<u8>,
     pub closed: Closed,
-}
-
-/// The seats of these holders, in their order.
-fn seats_of(alloc: Global, holders: Vec<Holder>) -> Result<Vec<Seat>, Memory>
-    requires { All IsBetweenCalls holders.items }
-    ensures { IfOk result (λ seats. seats.items ≡ holders.items) }
-{
-    let mut seats = Vec::new(alloc);
-    for holder in holders {
-        seats.push(Seat::make(holder))?;
-    }
-    Ok(seats)
 }
 
 /// The history that tells a run of these entries, at whose end nothing is in use.

@@ -65,17 +65,16 @@ fn steady(alloc: Global) -> Result<Paces, AllocError> {
     })
 }
 
-// What comes of the words at the steady pace.
-fn status_of<S: Source, K: Sink, G: Gate>(
+// What comes of the words at the steady pace, where no seat is held back.
+fn status_of<S: Source, K: Sink>(
     rt: &(impl Threads + Wait + Sync),
     alloc: Global,
     words: &[&str],
     source: &mut S,
     sink: &mut K,
-    gate: &G,
 ) -> Result<Status, AllocError> {
     let paces = steady(alloc)?;
-    Ok(ended_with(rt, alloc, words, source, sink, gate, paces, &mut None))
+    Ok(ended_with(rt, alloc, words, source, sink, &OpenGate, paces, &mut None))
 }
 
 // What comes of it, and what was written; reads give 5 bytes a call and writes take 8.
@@ -91,7 +90,7 @@ fn ended(
     let mut source = MemSource::new(text, 5, Vec::from_slice(alloc, source_fails)?);
     let room = Vec::with_capacity(alloc, 8192)?;
     let mut sink = MemSink::new(room, 8, Vec::from_slice(alloc, sink_fails)?);
-    let status = status_of(rt, alloc, words, &mut source, &mut sink, &OpenGate)?;
+    let status = status_of(rt, alloc, words, &mut source, &mut sink)?;
     Ok((status, Vec::from_slice(alloc, sink.bytes())?))
 }
 
@@ -105,53 +104,35 @@ fn told_at<G: Gate>(
     paces: Paces,
 ) -> Result<(Status, Vec<u8>), AllocError> {
     let words: Vec<&str> = line.split(' ').collect(alloc)?;
-    let mut source = NeverSource::new(Vec::from_slice(alloc, text)?);
-    let mut sink = NeverSink::new(Vec::with_capacity(alloc, 262_144)?);
-    let status = ended_with(
-        rt,
-        alloc,
-        &words,
-        &mut source,
-        &mut sink,
-        gate,
-        paces,
-        &mut None,
-    );
+    let source = &mut NeverSource::new(Vec::from_slice(alloc, text)?);
+    let sink = &mut NeverSink::new(Vec::with_capacity(alloc, 262_144)?);
+    let status = ended_with(rt, alloc, &words, source, sink, gate, paces, &mut None);
     Ok((status, Vec::from_slice(alloc, sink.bytes().unwrap_or(&[]))?))
 }
 
-// The same at the steady pace.
-fn told<G: Gate>(
+// The same at the steady pace, where no seat is held back.
+fn told(
     rt: &(impl Threads + Wait + Sync),
     alloc: Global,
     line: &str,
     text: &[u8],
-    gate: &G,
 ) -> Result<(Status, Vec<u8>), AllocError> {
-    told_at(rt, alloc, line, text, gate, steady(alloc)?)
+    told_at(rt, alloc, line, text, &OpenGate, steady(alloc)?)
+}
+
+// What was written, where the words in the line are done.
+fn when_done(rt: &impl Abort, told: (Status, Vec<u8>), line: &str) -> Vec<u8> {
+    let (end, written) = told;
+    holds(rt, end == Status::Done, &line);
+    written
 }
 
 // What the words in the line write, where they are done with the text.
-fn written_at<G: Gate>(
+fn written(
     rt: &(impl Abort + Threads + Wait + Sync),
     alloc: Global,
     line: &str,
     text: &[u8],
-    gate: &G,
-    paces: Paces,
 ) -> Result<Vec<u8>, AllocError> {
-    let (end, written) = told_at(rt, alloc, line, text, gate, paces)?;
-    holds(rt, end == Status::Done, &line);
-    Ok(written)
-}
-
-// The same at the steady pace.
-fn written<G: Gate>(
-    rt: &(impl Abort + Threads + Wait + Sync),
-    alloc: Global,
-    line: &str,
-    text: &[u8],
-    gate: &G,
-) -> Result<Vec<u8>, AllocError> {
-    written_at(rt, alloc, line, text, gate, steady(alloc)?)
+    Ok(when_done(rt, told(rt, alloc, line, text)?, line))
 }

@@ -1,5 +1,5 @@
 -- The number that a word is.
-use Rattle.std.proofs.Common.{◌≡◌, ◌≢◌, ℕ, zero, suc, ◌<◌, ◌≤◌, ◌^◌, List, [], ◌∷◌, length, get_or, Option, Some, None, Result, Ok, Err, bytes_eq, decimal, true, nat_lt, arith, rules, refl, sym, ap, ◌∙◌}
+use Rattle.std.proofs.Common.{◌≡◌, ◌≢◌, ℕ, zero, suc, ◌+◌, ◌-◌, ◌<◌, ◌≤◌, ◌^◌, List, [], ◌∷◌, length, get_or, Option, Some, None, Result, Ok, Err, bytes_eq, decimal, true, nat_lt, arith, rules, refl, sym, ap, subst, ◌∙◌}
 use Rattle.std.specs.Result.{OkIff, result_ok}
 use Rattle.std.specs.Str.Parse.{AllDigits, ParsesUnsigned, digits_value}
 use Rattle.std.proofs.lemmas.Option.{cond_some}
@@ -32,6 +32,15 @@ number_below-None limit word apart =
     let P : Option ℕ → Type 0 = λ o. number_below limit word ≡ o → o ≡ None in
     let cases : (o : Option ℕ) → P o = λ o. elim o as P [ None ↦ λ e. refl | Some n ↦ λ e. let said = number_below-Some limit n word e in absurd (apart n said.1 said.0) ] in
     cases (number_below limit word) refl
+
+-- a word of one digit is that digit
+pub number_below-digit : (word : List ℕ) → length word ≡ 1 → 48 ≤ get_or word 0 0 → get_or word 0 0 ≤ 57 → number_below (2 ^ 64) word ≡ Some (get_or word 0 0 - 48)
+number_below-digit [] one low high = absurd (omega arith)
+number_below-digit (digit ∷ c ∷ cs) one low high = absurd (omega arith)
+number_below-digit (digit ∷ []) one low high =
+    let same : 48 + (digit - 48) ≡ digit = omega arith in
+    let spelled : decimal (digit - 48) ≡ digit ∷ [] = decimal_digit (digit - 48) (omega arith) ∙ ap (λ (b : ℕ). b ∷ []) same in
+    subst (λ (word : List ℕ). number_below (2 ^ 64) word ≡ Some (digit - 48)) spelled (number_below-decimal (2 ^ 64) (digit - 48) (omega arith) (omega arith))
 
 -- the digits of a number begin as a number does
 pub decimal-BeginsNumber : (n : ℕ) → n < 2 ^ 64 → BeginsNumber (decimal n)

@@ -21,6 +21,10 @@ fn begins_number(word: &[u8]) -> bool
 pub fn read_number(word: &[u8]) -> Option<u64>
     ensures { result ≡ number_below (2 ^ 64) word.now }
 {
+    // (most numbers have one digit, whose word is text without a look at it)
+    if let [digit @ b'0'..=b'9'] = word {
+        return Some(u64::from(*digit - b'0'));
+    }
     if !begins_number(word) {
         return None;
     }

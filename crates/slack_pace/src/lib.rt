@@ -2,11 +2,9 @@
 #![tactic(auto)]
 
 mod pace;
-mod room;
 mod steady;
 mod turning;
 
 pub use pace::{MOST_SLACK_TURNS, Pace, Paces};
-pub use room::RoomCalls;
 pub use steady::Steady;
 pub use turning::{SlackDone, slack};

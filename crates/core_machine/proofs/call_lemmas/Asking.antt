@@ -1,19 +1,9 @@
 -- The words of a table while a call has asked for its spine words, and that taking them back leaves them as they were.
 use Rattle.std.proofs.Common.{◌≡◌, ◌≢◌, ℕ, ◌+◌, ◌-◌, ◌%◌, ◌^◌, ◌<◌, ◌≤◌, List, length, refl, sym, ap, subst, ◌∙◌, arith}
-use Rattle.heap_model.specs.declared.heap.Heap.{Heap}
-use Rattle.heap_model.specs.declared.command.Command.{Command}
-use Rattle.heap_model.specs.declared.command.Command.TheVariants.{New, Array}
+use Rattle.core_machine.proofs.Terms.{Heap, Command, New, Array, spine_need_of, Address, Phase, Answer, Budget, Control, Word, free_count, LacksSpineWords, State, MakesObject}
+use Rattle.core_machine.proofs.Terms.{IsArrayCall, clear_in, at, put, InTable, table_length, SameTable, address_of, word_after, refusal_step}
 use Rattle.heap_model.specs.Command.{IsCommand}
-use Rattle.heap_model.specs.Needs.{spine_need_of}
-use Rattle.core_machine.specs.declared.table.address.Address.{Address}
-use Rattle.core_machine.specs.declared.table.address.Address.TheVariants.{Phase, Answer, Budget, Spot, Control, Word, Spine}
-use Rattle.core_machine.specs.machine.Calls.{free_count, LacksSpineWords}
-use Rattle.core_machine.specs.machine.Machine.{State}
-use Rattle.core_machine.specs.seat.Commands.{MakesObject, IsArrayCall}
-use Rattle.core_machine.specs.table.Fragments.{clear_in}
-use Rattle.core_machine.specs.table.Layout.{at, put, InTable, table_length, SameTable}
-use Rattle.core_machine.specs.table.Operation.{address_of, word_after}
-use Rattle.core_machine.specs.Moves.{refusal_step}
+use Rattle.core_machine.specs.declared.table.address.Address.TheVariants.{Spot, Spine}
 use Rattle.core_machine.proofs.table_lemmas.Addresses.{at-put_same, at-put_other, put-at}
 use Rattle.core_machine.proofs.table_lemmas.Free.{sum_same}
 use Rattle.core_machine.proofs.call_lemmas.Restoring.{Claims}

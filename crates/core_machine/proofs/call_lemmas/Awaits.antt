@@ -1,11 +1,6 @@
 -- Each move leaves the seat's own list and the entry that is still awaited as the history grows.
 use Rattle.std.proofs.Common.{◌≡◌, ℕ, List, [], ◌++◌, refl, append-nil}
-use Rattle.heap_model.specs.declared.heap.Heap.{Heap}
-use Rattle.core_machine.specs.seat.Awaiting.{entries_awaited}
-use Rattle.core_machine.specs.seat.Making.{gather_next}
-use Rattle.core_machine.specs.seat.Seat.{Seat}
-use Rattle.core_machine.specs.Moves.{Move, seat_after}
-use Rattle.core_machine.specs.machine.Machine.{State, found_by, state_after_move}
+use Rattle.core_machine.proofs.Terms.{Heap, entries_awaited, gather_next, Seat, Move, seat_after, State, found_by, state_after_move}
 use Rattle.core_machine.proofs.seat_lemmas.Fitting.{goes_on_cases}
 
 -- the seat's entries are left to what the move adds, and with what is awaited they are the history's

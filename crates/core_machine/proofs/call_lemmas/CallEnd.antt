@@ -1,37 +1,20 @@
 -- What a call that is over comes to.
-use Rattle.std.proofs.Common.{◌≡◌, ℕ, ◌+◌, ◌-◌, ◌^◌, ◌<◌, ◌≤◌, ◌⊎◌, List, [], ◌∷◌, ◌++◌, length, Option, Some, None, refl, sym, ap, subst, ◌∙◌, inl, inr, length-append, append_assoc, append-nil, arith}
+use Rattle.std.proofs.Common.{◌≡◌, ℕ, ◌+◌, ◌-◌, ◌^◌, ◌<◌, ◌≤◌, ◌⊎◌, List, [], ◌∷◌, ◌++◌, length, drop, get_or, Option, Some, None, refl, sym, ap, subst, ◌∙◌, inl, inr, length-append, append_assoc, append-nil, arith}
 use Rattle.std.specs.Prelude.{IsSome, option_and_then, option_map}
-use Rattle.core_machine.specs.declared.step.Step.{Step}
-use Rattle.core_machine.specs.declared.table.address.Address.{Address}
-use Rattle.core_machine.specs.declared.table.address.Address.TheVariants.{Phase}
-use Rattle.core_machine.specs.table.Layout.{at, InTable}
+use Rattle.core_machine.proofs.Terms.{Step, Address, Phase, at, InTable, Heap, Command, Entry, Said, Reply, Place, Seat, Move, move_at, next_move, due_step, State, seat_at, Steps}
+use Rattle.core_machine.proofs.Terms.{state_after, Leave, IsBeside, IsPhaseNear, PlaysCall, CountsCall, TellsLeave, AnswersNew, AnswersArray, reply_of, last_reply_of}
+use Rattle.core_machine.proofs.Terms.{IsPlaceRefusal, LeavesAll, MachineValue, IsMachine, log_of, recent_of, spare_of, forgotten_of, SpendsRoom, kept_of, tells_nothing, ComesFirst}
+use Rattle.core_machine.proofs.Terms.{IsAnswered, entries_awaited_at, IsRecordCall, IsArrayCall, owes, steps_left}
 use Rattle.std.specs.List.{AllByRecursion}
-use Rattle.std.proofs.lemmas.List.{append_cancel_left}
+use Rattle.std.proofs.lemmas.List.{append_cancel_left, drop-append-le}
 use Rattle.std.proofs.lemmas.Option.{slice_get-get_or}
 use Rattle.std.proofs.Math.Seq.{get_or-append_seam}
-use Rattle.heap_model.specs.declared.heap.Heap.{Heap}
-use Rattle.heap_model.specs.declared.command.Command.{Command}
-use Rattle.heap_model.specs.declared.entry.Entry.{Entry}
-use Rattle.heap_model.specs.declared.entry.Entry.TheVariants.{Said}
-use Rattle.heap_model.specs.declared.reply.Reply.{Reply}
 use Rattle.heap_model.specs.calls.SeatCalls.{leave_entries}
-use Rattle.core_machine.specs.declared.place.Place.{Place}
 use Rattle.core_machine.specs.declared.place.Place.TheVariants as places
-use Rattle.core_machine.specs.seat.Seat.{Seat}
-use Rattle.core_machine.specs.Moves.{Move, move_at, next_move, due_step}
-use Rattle.core_machine.specs.machine.Machine.{State, seat_at, Steps, state_after}
-use Rattle.heap_model.specs.declared.command.Command.TheVariants.{Leave}
-use Rattle.core_machine.specs.machine.Calls.{IsBeside, IsPhaseNear, PlaysCall, CountsCall, TellsLeave, AnswersNew, AnswersArray, reply_of, last_reply_of, IsPlaceRefusal, LeavesAll}
-use Rattle.core_machine.specs.machine.Value.{MachineValue, IsMachine, log_of, spare_of, SpendsRoom}
-use Rattle.core_machine.specs.calls.Kept.{kept_of, tells_nothing}
-use Rattle.core_machine.specs.calls.Replies.{ComesFirst, IsAnswered}
 use Rattle.core_machine.proofs.call_lemmas.Stages.{Answered, AloneStage}
 use Rattle.core_machine.proofs.own_stages.End.{comes_before, own_answered, counts_by, leave_told}
-use Rattle.core_machine.specs.seat.Awaiting.{entries_awaited_at}
-use Rattle.core_machine.specs.seat.Commands.{IsRecordCall, IsArrayCall}
 use Rattle.core_machine.proofs.call_lemmas.Calling.{Playing, playing_more}
 use Rattle.core_machine.proofs.call_lemmas.CallRoom.{log_of_seat, step_room, spends_on}
-use Rattle.core_machine.specs.calls.Owes.{owes, steps_left}
 
 -- a call that has no step due is over
 idle_at : (heap : Heap) (number : ℕ) (seat : Seat) (place : Place) → option_map (λ m. m.step) (move_at heap number seat place) ≡ None → place ≡ places.Idle
@@ -74,7 +57,7 @@ all_mine : (heap : Heap) (old now : State) (number : ℕ) (command : Command) (p
     → due_step heap number (seat_at now number) ≡ None → (seat_at now number).mine ≡ (seat_at old number).mine ++ playing.told
 all_mine heap old now number command playing none =
     let idle = idle_from heap number (seat_at now number) none in
-    let mine = playing.mine in
+    let mine = playing.under.mine in
     sym (append-nil (seat_at now number).mine) ∙ ap (λ (l : List Entry). (seat_at now number).mine ++ l) (sym (ap (entries_awaited_at heap now.words number (seat_at now number)) idle)) ∙ mine
 
 -- by the seat's own view it was answered too, with this reply
@@ -113,12 +96,12 @@ plays_call heap old now number command playing none =
     let answer = answered heap old now number command playing none in
     let own = own_end heap old now number command playing none in
     record {
-      steps = playing.steps;
-      can = playing.can;
-      ends = playing.ends;
+      steps = playing.under.steps;
+      can = playing.under.can;
+      ends = playing.under.ends;
       idle = idle_from heap number (seat_at now number) none;
       before = own.first;
-      shown = playing.shows ∙ own.last;
+      shown = playing.under.shows ∙ own.last;
       mine = all_mine heap old now number command playing none ∙ ap (λ (l : List Entry). (seat_at old number).mine ++ l) own.last;
       comes = λ near. comes_before number (kept_of (seat_at old number)) command answer.reply own.first own.comes (λ polls p is. near_told p (answer.phase polls p is) (near polls));
       beside = own.beside;
@@ -128,14 +111,18 @@ plays_call heap old now number command playing none =
     near_told p is (inl same) = inl (is ∙ same)
     near_told p is (inr next) = inr (is ∙ next)
 
--- the reply that its last entry tells
+-- the reply that its last entry tells, whatever was forgotten before the call
 pub replied : (heap : Heap) (old now : State) (number : ℕ) (command : Command) (playing : Playing heap old now number command)
-    (none : due_step heap number (seat_at now number) ≡ None) → last_reply_of (seat_at now number).mine ≡ Some (answered heap old now number command playing none).reply
-replied heap old now number command playing none =
+    (none : due_step heap number (seat_at now number) ≡ None) (gone : ℕ) → gone ≤ length (seat_at old number).mine
+    → last_reply_of (drop gone (seat_at now number).mine) ≡ Some (answered heap old now number command playing none).reply
+replied heap old now number command playing none gone few =
     let over = answered heap old now number command playing none in
-    let whole : (seat_at now number).mine ≡ ((seat_at old number).mine ++ over.before) ++ Said number command over.reply ∷ [] =
-    all_mine heap old now number command playing none ∙ ap (λ (l : List Entry). (seat_at old number).mine ++ l) over.last ∙ sym (append_assoc (seat_at old number).mine over.before (Said number command over.reply ∷ [])) in
-    ap last_reply_of whole ∙ last_reply-said ((seat_at old number).mine ++ over.before) number command over.reply
+    let said = Said number command over.reply in
+    let front : List Entry = (seat_at old number).mine ++ over.before in
+    let whole : (seat_at now number).mine ≡ front ++ said ∷ [] =
+    all_mine heap old now number command playing none ∙ ap (λ (l : List Entry). (seat_at old number).mine ++ l) over.last ∙ sym (append_assoc (seat_at old number).mine over.before (said ∷ [])) in
+    ap last_reply_of (ap (drop gone) whole ∙ drop-append-le gone front (said ∷ []) (omega (arith, few, length-append (seat_at old number).mine over.before)))
+    ∙ last_reply-said (drop gone front) number command over.reply
 
 -- a step that is due is a move
 pub some_due : (heap : Heap) (number : ℕ) (seat : Seat) (step : Step) → due_step heap number seat ≡ Some step → IsSome (next_move heap number seat)
@@ -182,6 +169,7 @@ steps_on {first} {old} {new} {number} {step} machine within same due heap state 
 -- a call is under way that no other step came into, with room for the rest of it
 pub record CallGoes (first now : MachineValue) (number : ℕ) (command : Command) : Type 0 where
   pub small : (a : Address) → InTable first.heap a → at first.heap first.state.words a < 2 ^ 64
+  pub gone : forgotten_of first number ≤ length (log_of first number)
   pub playing : Playing first.heap first.state now.state number command
   pub room : owes (seat_at now.state number) + 2 ≤ spare_of now number
 
@@ -190,15 +178,23 @@ pub call_steps : {first old new : MachineValue} {number : ℕ} {command : Comman
     → due_step old.heap number (seat_at old.state number) ≡ Some step → new.heap ≡ old.heap → new.state ≡ state_after old.heap old.state (Steps number) → SpendsRoom old new number
     → StepsOn first old new number × CallGoes first new number command
 call_steps {first} {old} {new} {number} {command} goes same spent due heap state spends =
-    let on = steps_on goes.playing.machine goes.playing.within same due heap state spends goes.room spent in (
+    let on = steps_on goes.playing.under.machine goes.playing.under.within same due heap state spends goes.room spent in (
       on,
       record {
         small = goes.small;
+        gone = goes.gone;
         playing = subst (λ (s : State). Playing first.heap first.state s number command) (sym on.state_is)
             (playing_more first.heap first.state old.state number command goes.small goes.playing on.some);
         room = on.room;
       },
     )
+
+-- the reply that the last entry of its seat tells
+recent_reply : {heap : Heap} {old : State} (now : MachineValue) {number : ℕ} {command : Command} (gone : ℕ) (playing : Playing heap old now.state number command)
+    (none : due_step heap number (seat_at now.state number) ≡ None) → gone ≤ length (seat_at old number).mine
+    → last_reply_of (drop gone (log_of now number)) ≡ Some (answered heap old now.state number command playing none).reply
+recent_reply {heap} {old} now {number} {command} gone playing none few =
+    ap (λ (l : List Entry). last_reply_of (drop gone l)) (log_of_seat now number playing.under.within) ∙ replied heap old now.state number command playing none gone few
 
 -- a call that is over was made whole, and its last entry tells the answer
 pub record CallOver (heap : Heap) (old now : State) (number : ℕ) (command : Command) (reply : Reply) : Type 0 where
@@ -209,12 +205,13 @@ pub record CallOver (heap : Heap) (old now : State) (number : ℕ) (command : Co
   pub array : IsArrayCall command → AnswersArray heap old now number command reply
   pub refused : IsPlaceRefusal reply → LeavesAll heap old now number reply
 
-pub call_over : {heap : Heap} {old : State} (now : MachineValue) {number : ℕ} {command : Command} {reply : Reply} → Playing heap old now.state number command
-    → due_step heap number (seat_at now.state number) ≡ None → last_reply_of (log_of now number) ≡ Some reply → CallOver heap old now.state number command reply
-call_over {heap} {old} now {number} {command} {reply} playing none last =
+pub call_over : {heap : Heap} {old : State} (now : MachineValue) {number : ℕ} {command : Command} {reply : Reply} (gone : ℕ) → Playing heap old now.state number command
+    → due_step heap number (seat_at now.state number) ≡ None → gone ≤ length (seat_at old number).mine → last_reply_of (drop gone (log_of now number)) ≡ Some reply
+    → CallOver heap old now.state number command reply
+call_over {heap} {old} now {number} {command} {reply} gone playing none few last =
     let answer = answered heap old now.state number command playing none in
     let ended = own_end heap old now.state number command playing none in
-    let told = ap last_reply_of (log_of_seat now number playing.within) ∙ replied heap old now.state number command playing none in
+    let told = recent_reply now gone playing none few in
     let same : answer.reply ≡ reply = some_same answer.reply reply (sym told ∙ last) in
     record {
       steps = subst (PlaysCall heap old now.state number command) same (plays_call heap old now.state number command playing none);
@@ -228,19 +225,24 @@ call_over {heap} {old} now {number} {command} {reply} playing none last =
     some_same : (a b : Reply) → Some a ≡ Some b → a ≡ b
     some_same a b e = cc
 
+-- nothing is forgotten by the call, so its seat's entries so far are kept
+gone_before : {first now : MachineValue} {number : ℕ} {command : Command} → CallGoes first now number command → SpendsRoom first now number → forgotten_of now number ≤ length (seat_at first.state number).mine
+gone_before {first} {now} {number} goes spent =
+    let same = ap (λ (l : List ℕ). get_or l number 0) spent.forgotten in
+    omega (arith, same, goes.gone, ap (length {A = Entry}) (log_of_seat first number goes.playing.under.can.0.0))
+
 -- so it is where a loop of its steps has none left
-pub call_ends : {heap : Heap} {old : State} (now : MachineValue) {number : ℕ} {command : Command} {reply : Reply} {due : Option Step} {told : List Entry} {last : Option Reply}
-    → Playing heap old now.state number command → now.heap ≡ heap → due ≡ due_step now.heap number (seat_at now.state number) → ((step : Step) → due ≡ Some step → ⊥)
-    → told ≡ log_of now number → last ≡ last_reply_of told → last ≡ Some reply → CallOver heap old now.state number command reply
-call_ends now {number} playing same due not_ told last is =
-    call_over now playing (none_left now number same due not_) (ap last_reply_of (sym told) ∙ sym last ∙ is)
+pub call_ends : {first now : MachineValue} {number : ℕ} {command : Command} {reply : Reply} {due : Option Step} {told : List Entry} {last : Option Reply}
+    → CallGoes first now number command → SpendsRoom first now number → now.heap ≡ first.heap → due ≡ due_step now.heap number (seat_at now.state number) → ((step : Step) → due ≡ Some step → ⊥)
+    → told ≡ recent_of now number → last ≡ last_reply_of told → last ≡ Some reply → CallOver first.heap first.state now.state number command reply
+call_ends {first} {now} {number} goes spent same due not_ told last is =
+    call_over now (forgotten_of now number) goes.playing (none_left now number same due not_) (gone_before goes spent) (ap last_reply_of (sym told) ∙ sym last ∙ is)
 
 -- and so it tells some reply
-pub call_replies : {heap : Heap} {old : State} (now : MachineValue) {number : ℕ} {command : Command} → Playing heap old now.state number command
-    → due_step heap number (seat_at now.state number) ≡ None → last_reply_of (log_of now number) ≡ None → ⊥
-call_replies {heap} {old} now {number} {command} playing none last =
-    no_reply (answered heap old now.state number command playing none).reply
-    (sym (ap last_reply_of (log_of_seat now number playing.within) ∙ replied heap old now.state number command playing none) ∙ last)
+pub call_replies : {first now : MachineValue} {number : ℕ} {command : Command} → CallGoes first now number command → SpendsRoom first now number
+    → due_step first.heap number (seat_at now.state number) ≡ None → last_reply_of (recent_of now number) ≡ None → ⊥
+call_replies {first} {now} {number} goes spent none last =
+    no_reply _ (sym (recent_reply now (forgotten_of now number) goes.playing none (gone_before goes spent)) ∙ last)
   where
     no_reply : (a : Reply) → Some a ≡ None → ⊥
     no_reply a e = cc

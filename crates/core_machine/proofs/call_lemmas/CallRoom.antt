@@ -1,18 +1,11 @@
 -- A call that is made by itself has room for its entries, and comes to an end.
 use Rattle.std.proofs.Common.{◌≡◌, ℕ, ◌+◌, ◌*◌, ◌<◌, ◌≤◌, eqb, false, length, Option, Some, None, refl, sym, ap, subst, ◌∙◌, length-append, arith}
 use Rattle.std.specs.Prelude.{IsSome, IfSome, option_map}
-use Rattle.core_machine.specs.declared.step.Step.{Step}
+use Rattle.core_machine.proofs.Terms.{Step, Heap, Command, Entry, Seat, need, Move, next_move, due_step, seat_after, State, seat_at, found_by, after_begin, Begins, Steps, Can}
+use Rattle.core_machine.proofs.Terms.{state_after, state_after_due, MachineValue, IsMachine, log_of, spare_of, SpendsRoom, owes, steps_left}
 use Rattle.std.proofs.lemmas.Bool.{ne_eqb}
 use Rattle.std.proofs.lemmas.List.{length-set}
-use Rattle.heap_model.specs.declared.heap.Heap.{Heap}
-use Rattle.heap_model.specs.declared.command.Command.{Command}
-use Rattle.heap_model.specs.declared.entry.Entry.{Entry}
 use Rattle.heap_model.specs.account.Space.{need_of}
-use Rattle.core_machine.specs.seat.Seat.{Seat, need}
-use Rattle.core_machine.specs.Moves.{Move, next_move, due_step, seat_after}
-use Rattle.core_machine.specs.machine.Machine.{State, seat_at, found_by, after_begin, Begins, Steps, Can, state_after, state_after_due}
-use Rattle.core_machine.specs.machine.Value.{MachineValue, IsMachine, log_of, spare_of, SpendsRoom}
-use Rattle.core_machine.specs.calls.Owes.{owes, steps_left}
 use Rattle.core_machine.proofs.moves.Standing.{MoveStands}
 use Rattle.core_machine.proofs.machine_lemmas.Runs.{seat_at-set, machine_after, moves_stand}
 use Rattle.core_machine.proofs.moves.{begin_stands}
@@ -59,6 +52,7 @@ step_room old new number step machine within due is spends room =
 -- room that is spent step by step
 pub spends_on : (first second third : MachineValue) (number : ℕ) → SpendsRoom first second number → SpendsRoom second third number → SpendsRoom first third number
 spends_on first second third number one two = record {
+  forgotten = two.forgotten ∙ one.forgotten;
   own = omega (arith, one.own, two.own);
   others = λ other apart. two.others other apart ∙ one.others other apart;
 }
@@ -75,7 +69,7 @@ spends_begun old new number command machine can is =
     let still : number < length now.state.seats = omega (arith, within, length-set old.state.seats number begun_) in
     let same : (log_of now number) ≡ (log_of old number) =
     log_of_seat now number still ∙ ap (λ (s : Seat). s.mine) here ∙ (begin_stands old.heap number seat command machine.limits (machine.fit number within) can.1).kept ∙ sym (log_of_seat old number within) in
-    subst (λ (m : MachineValue). SpendsRoom old m number) (sym is) (record { own = omega (arith, ap (length {A = Entry}) same); others = λ other apart. refl })
+    subst (λ (m : MachineValue). SpendsRoom old m number) (sym is) (record { forgotten = refl; own = omega (arith, ap (length {A = Entry}) same); others = λ other apart. refl })
 
 -- a call owes no more than twice its need and two when it is begun
 pub room_begun : (heap : Heap) (old : State) (number : ℕ) (command : Command) → IsMachine heap old → Can heap old (Begins number command)

@@ -7,15 +7,12 @@ use Rattle.std.proofs.lemmas.List.{map-append, append_cancel_right, nil_from_len
 use Rattle.std.proofs.lemmas.List.Elements.{filter-append, All-nil, All-cons, All-head, All-tail}
 use Rattle.std.proofs.lemmas.List.Filters.{length-filter_both}
 use Rattle.std.proofs.lemmas.List.Sums.{sum_by-cons}
-use Rattle.heap_model.specs.declared.entry.Entry.{Entry}
-use Rattle.heap_model.specs.declared.entry.Entry.TheVariants.{Takes, GivesBack}
+use Rattle.core_machine.proofs.Terms.{Entry, Takes, GivesBack, in_group, out_of_group, part_in, part_out, clear_in, first_group_of}
 use Rattle.heap_model.specs.declared.id.Id.{Id}
 use Rattle.heap_model.specs.declared.reply.Reply.TheVariants as replies
 use Rattle.heap_model.specs.calls.SeatCalls.{takes_of, gives_of, IsGroupCount, ClaimsBefore}
 use Rattle.heap_model.proofs.account_lemmas.Snoc.{same_last}
 use Rattle.core_machine.specs.calls.Claims.{AreGroupsOf, HasTaken, GivesBackAll}
-use Rattle.core_machine.specs.table.Fragments.{in_group, out_of_group, part_in, part_out, clear_in}
-use Rattle.core_machine.specs.seat.Making.{first_group_of}
 use Rattle.core_machine.specs.seat.MakingMoves.{takes_some}
 use Rattle.core_machine.proofs.table_lemmas.Clear.{length-clear_among}
 use Rattle.core_machine.proofs.table_lemmas.Owned.{clear_in-group}

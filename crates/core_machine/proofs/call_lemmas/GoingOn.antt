@@ -2,23 +2,10 @@
 use Rattle.std.proofs.Common.{◌≡◌, ℕ, ◌+◌, ◌-◌, ◌%◌, ◌^◌, ◌<◌, ◌≤◌, List, [], length, refl, sym, ap, subst, ◌∙◌, inl, inr, length-append, append-nil, arith}
 use Rattle.std.proofs.lemmas.Bool.Decides.{leb_tells}
 use Rattle.std.proofs.Math.Nat.{mod-eq_of_lt, add-mod_right}
-use Rattle.heap_model.specs.declared.heap.Heap.{Heap}
-use Rattle.heap_model.specs.declared.command.Command.{Command}
-use Rattle.heap_model.specs.declared.command.Command.TheVariants.{New, Array}
-use Rattle.heap_model.specs.Needs.{spine_need_of}
-use Rattle.heap_model.specs.declared.entry.Entry.{Entry}
+use Rattle.core_machine.proofs.Terms.{Heap, Command, New, Array, spine_need_of, Entry, IsRecordCall, IsArrayCall, Budget, Control, clear_in, at, Seat, with_entries, gather_next}
+use Rattle.core_machine.proofs.Terms.{after_gather, State, seat_at, IsAtRest, FitsPlace, Fits, free_count, KeepsOwn, Kept, kept_of}
 use Rattle.heap_model.specs.account.Space.{need_of}
-use Rattle.core_machine.specs.seat.Commands.{IsRecordCall, IsArrayCall}
-use Rattle.core_machine.specs.declared.table.address.Address.TheVariants.{Budget, Control}
 use Rattle.core_machine.specs.declared.place.Place.TheVariants as places
-use Rattle.core_machine.specs.table.Fragments.{clear_in}
-use Rattle.core_machine.specs.table.Layout.{at}
-use Rattle.core_machine.specs.seat.Seat.{Seat, with_entries}
-use Rattle.core_machine.specs.seat.Making.{gather_next, after_gather}
-use Rattle.core_machine.specs.machine.Machine.{State, seat_at}
-use Rattle.core_machine.specs.seat.Fits.{IsAtRest, FitsPlace, Fits}
-use Rattle.core_machine.specs.machine.Calls.{free_count, KeepsOwn}
-use Rattle.core_machine.specs.calls.Kept.{Kept, kept_of}
 use Rattle.core_machine.proofs.table_lemmas.Free.{sum_zero}
 use Rattle.core_machine.proofs.seat_lemmas.Fitting.{goes_on_cases, returning_cases, settled_cases}
 use Rattle.core_machine.proofs.call_lemmas.Asking.{AsksWords, asks_none}

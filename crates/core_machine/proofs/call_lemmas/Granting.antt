@@ -1,22 +1,8 @@
 -- A call that makes an array by itself asks for its spine words.
 use Rattle.std.proofs.Common.{◌≡◌, ℕ, ◌%◌, ◌^◌, ◌<◌, List, [], ◌∷◌, ◌++◌, length, refl, sym, ap, subst, arith}
-use Rattle.heap_model.specs.declared.heap.Heap.{Heap}
-use Rattle.heap_model.specs.declared.command.Command.{Command}
-use Rattle.heap_model.specs.Needs.{spine_need_of}
-use Rattle.heap_model.specs.declared.entry.Entry.{Entry}
-use Rattle.heap_model.specs.declared.entry.Entry.TheVariants.{Said}
+use Rattle.core_machine.proofs.Terms.{Heap, Command, spine_need_of, Entry, Said, IsArrayCall, Address, Budget, at, InTable, Seat, spine_need, with_entries, Move, seat_after}
+use Rattle.core_machine.proofs.Terms.{grant_move, withdraw_move, State, seat_at, found_by, state_after_move, SeatIsGranting, SeatIsWithdrawing, KeepsOwn, IsMachine, Kept, kept_of}
 use Rattle.heap_model.specs.declared.reply.Reply.TheVariants as replies
-use Rattle.core_machine.specs.seat.Commands.{IsArrayCall}
-use Rattle.core_machine.specs.declared.table.address.Address.{Address}
-use Rattle.core_machine.specs.declared.table.address.Address.TheVariants.{Budget}
-use Rattle.core_machine.specs.table.Layout.{at, InTable}
-use Rattle.core_machine.specs.seat.Seat.{Seat, spine_need, with_entries}
-use Rattle.core_machine.specs.Moves.{Move, seat_after, grant_move, withdraw_move}
-use Rattle.core_machine.specs.machine.Machine.{State, seat_at, found_by, state_after_move}
-use Rattle.core_machine.specs.seat.Fits.{SeatIsGranting, SeatIsWithdrawing}
-use Rattle.core_machine.specs.machine.Calls.{KeepsOwn}
-use Rattle.core_machine.specs.machine.Value.{IsMachine}
-use Rattle.core_machine.specs.calls.Kept.{Kept, kept_of}
 use Rattle.core_machine.proofs.seat_lemmas.Fitting.{budget_cases, words_of_array}
 use Rattle.core_machine.proofs.call_lemmas.Asking.{AsksWords, asks_some, asks_free, taken_back}
 use Rattle.core_machine.proofs.call_lemmas.Restoring.{claims_none}

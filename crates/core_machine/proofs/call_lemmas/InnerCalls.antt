@@ -5,29 +5,19 @@ use Rattle.std.proofs.lemmas.Bool.{ne_eqb}
 use Rattle.std.proofs.lemmas.Bool.Decides.{eqb_tells}
 use Rattle.heap_model.specs.declared.calls.collect.Inner.{Inner}
 use Rattle.heap_model.specs.declared.calls.collect.Inner.TheVariants as inners
-use Rattle.heap_model.specs.declared.command.Command.{Command}
+use Rattle.core_machine.proofs.Terms.{Command, Entry, Answers, Heap, Kept, kept_of, Place, Step, PollLoad, Turning, Move, move_at, seat_after, Seat, with_seen, call_over, at, put}
+use Rattle.core_machine.proofs.Terms.{address_of, word_after}
 use Rattle.heap_model.specs.declared.command.Command.TheVariants as commands
-use Rattle.heap_model.specs.declared.entry.Entry.{Entry}
-use Rattle.heap_model.specs.declared.entry.Entry.TheVariants.{Answers}
-use Rattle.heap_model.specs.declared.heap.Heap.{Heap}
 use Rattle.core_machine.specs.calls.InnerStage.{IsInnerOver, InnerStageAt}
-use Rattle.core_machine.specs.calls.Kept.{Kept, kept_of}
 use Rattle.core_machine.specs.declared.place.Collecting.TheVariants.{Looking, Asking, Comparing, Noting}
-use Rattle.core_machine.specs.declared.place.Place.{Place}
 use Rattle.core_machine.specs.declared.place.Place.TheVariants as places
 use Rattle.core_machine.specs.declared.place.Polling.TheVariants as polling
-use Rattle.core_machine.specs.declared.step.Step.{Step}
-use Rattle.core_machine.specs.declared.step.Step.TheVariants.{PollLoad, Turning}
 use Rattle.core_machine.specs.declared.step.TurningStep.TheVariants.{LookLoad}
 use Rattle.core_machine.specs.declared.table.address.Address.TheVariants as addresses
 use Rattle.core_machine.specs.machine.InnerCalls.{inner_entries, seat_after_inner}
-use Rattle.core_machine.specs.Moves.{Move, move_at, seat_after}
 use Rattle.core_machine.specs.seat.Collecting.{inner_place}
 use Rattle.core_machine.specs.seat.Handshake.{roots, answer_next, after_phase_load}
 use Rattle.core_machine.specs.seat.Looks.{compared, forgotten, looked, seen_phase}
-use Rattle.core_machine.specs.seat.Seat.{Seat, with_seen, call_over}
-use Rattle.core_machine.specs.table.Layout.{at, put}
-use Rattle.core_machine.specs.table.Operation.{address_of, word_after}
 use Rattle.core_machine.proofs.seat_lemmas.PollingOver.{over_cases}
 use Rattle.core_machine.proofs.table_lemmas.Addresses.{put-at}
 use Rattle.core_machine.proofs.table_lemmas.Bits.{bool_tells}

@@ -2,30 +2,16 @@
 use Rattle.std.proofs.Common.{◌≡◌, ℕ, ◌+◌, ◌*◌, ◌%◌, ◌^◌, ◌<◌, List, [], ◌∷◌, ◌++◌, length, refl, sym, ap, subst, inl, inr, length-append, bit_or, arith}
 use Rattle.std.proofs.lemmas.Bool.Decides.{eqb_tells}
 use Rattle.std.proofs.lemmas.List.Filters.{length-filter_both}
-use Rattle.heap_model.specs.declared.heap.Heap.{Heap}
-use Rattle.heap_model.specs.declared.command.Command.{Command}
-use Rattle.heap_model.specs.Needs.{spine_need_of}
-use Rattle.heap_model.specs.declared.entry.Entry.{Entry}
-use Rattle.heap_model.specs.declared.entry.Entry.TheVariants.{Said, GivesBack}
+use Rattle.core_machine.proofs.Terms.{Heap, Command, spine_need_of, Entry, Said, GivesBack, Address, Control, Granting, Withdrawing, Gathering, Returning, Refusing, Placing}
+use Rattle.core_machine.proofs.Terms.{Listing, Storing, Bearing, clear_in, part_in, part_out, in_group, out_of_group, at, put, InTable, table_length, all_taken, Seat, need}
+use Rattle.core_machine.proofs.Terms.{spine_need, with_entries, next_group_of, first_group_of, after_give_back, after_listing, after_store, store_place, next_object_id, Move}
+use Rattle.core_machine.proofs.Terms.{seat_after, listing_move, bearing_move, is_last_birth, making_move, State, seat_at, found_by, state_after_move, SeatIsGathering}
+use Rattle.core_machine.proofs.Terms.{SeatIsRefusing, FitsMaking, free_count, within_reach, KeepsOwn, IsRefused, IsMachine, Kept, kept_of, tells_nothing, MakingStage}
 use Rattle.heap_model.specs.declared.reply.Reply.TheVariants as replies
 use Rattle.heap_model.specs.account.Space.{need_of}
-use Rattle.core_machine.specs.declared.table.address.Address.{Address}
-use Rattle.core_machine.specs.declared.table.address.Address.TheVariants.{Control}
 use Rattle.core_machine.specs.declared.place.Place.TheVariants as places
 use Rattle.core_machine.specs.declared.place.Making.{Making}
-use Rattle.core_machine.specs.declared.place.Making.TheVariants.{Granting, Withdrawing, Gathering, Returning, Refusing, Placing, Listing, Storing, Bearing}
-use Rattle.core_machine.specs.table.Fragments.{clear_in, part_in, part_out, in_group, out_of_group}
-use Rattle.core_machine.specs.table.Layout.{at, put, InTable, table_length}
-use Rattle.core_machine.specs.table.Operation.{all_taken}
-use Rattle.core_machine.specs.seat.Seat.{Seat, need, spine_need, with_entries}
-use Rattle.core_machine.specs.seat.Making.{next_group_of, first_group_of, after_give_back, after_listing, after_store, store_place, next_object_id}
-use Rattle.core_machine.specs.Moves.{Move, seat_after, listing_move, claim_move, give_back_move, refusal_move, store_move, bearing_move, is_last_birth, takes_some, making_move}
-use Rattle.core_machine.specs.machine.Machine.{State, seat_at, found_by, state_after_move}
-use Rattle.core_machine.specs.seat.Fits.{SeatIsGathering, SeatIsRefusing, FitsMaking}
-use Rattle.core_machine.specs.machine.Calls.{free_count, within_reach, KeepsOwn, IsRefused}
-use Rattle.core_machine.specs.machine.Value.{IsMachine}
-use Rattle.core_machine.specs.calls.Kept.{Kept, kept_of, tells_nothing}
-use Rattle.core_machine.specs.calls.OwnStage.{MakingStage}
+use Rattle.core_machine.specs.Moves.{claim_move, give_back_move, refusal_move, store_move, takes_some}
 use Rattle.core_machine.proofs.table_lemmas.Addresses.{at-put_other, at-put_same}
 use Rattle.core_machine.proofs.table_lemmas.Bits.{bool_tells}
 use Rattle.core_machine.proofs.table_lemmas.Free.{free-claimed, clear_in-claimed}

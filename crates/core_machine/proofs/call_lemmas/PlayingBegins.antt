@@ -1,18 +1,8 @@
 -- A call that is made by itself, at its begin.
 use Rattle.std.proofs.Common.{◌≡◌, ℕ, ◌^◌, ◌<◌, []}
-use Rattle.heap_model.specs.declared.heap.Heap.{Heap}
-use Rattle.heap_model.specs.declared.command.Command.{Command}
+use Rattle.core_machine.proofs.Terms.{Heap, Command, Budget, at, Register, Nil, Number, Object, IsServed, register_in, access_start, State, seat_at, after_begin, Fits}
 use Rattle.heap_model.specs.declared.command.Command.TheVariants as commands
 use Rattle.core_machine.specs.declared.place.Place.TheVariants as places
-use Rattle.core_machine.specs.declared.table.address.Address.TheVariants.{Budget}
-use Rattle.core_machine.specs.table.Layout.{at}
-use Rattle.core_machine.specs.declared.seat.register.Register.{Register}
-use Rattle.core_machine.specs.declared.seat.register.Register.TheVariants.{Nil, Number, Object}
-use Rattle.core_machine.specs.seat.Commands.{IsServed}
-use Rattle.core_machine.specs.seat.Registers.{register_in}
-use Rattle.core_machine.specs.seat.Access.{access_start}
-use Rattle.core_machine.specs.machine.Machine.{State, seat_at, after_begin}
-use Rattle.core_machine.specs.seat.Fits.{Fits}
 use Rattle.core_machine.proofs.call_lemmas.GoingOn.{alone_begun_new}
 use Rattle.core_machine.proofs.call_lemmas.Stages.{AloneStage}
 

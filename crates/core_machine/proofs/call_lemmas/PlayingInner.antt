@@ -1,48 +1,30 @@
 -- An inner call of a collect that is made by itself, from its begin to its end.
-use Rattle.std.proofs.Common.{◌≡◌, ℕ, ◌+◌, ◌<◌, ◌≤◌, List, [], ◌∷◌, ◌++◌, length, Option, Some, None, refl, sym, ap, subst, ◌∙◌, append-nil, arith}
+use Rattle.std.proofs.Common.{◌≡◌, ℕ, ◌+◌, ◌<◌, ◌≤◌, List, [], ◌++◌, length, Option, Some, None, refl, sym, ap, subst, ◌∙◌, append-nil, arith}
 use Rattle.std.specs.Prelude.{IsSome, IfSome}
 use Rattle.std.proofs.lemmas.List.{length-set, append_cancel_left}
-use Rattle.std.proofs.lemmas.Grind.{replicate_next}
 use Rattle.heap_model.specs.declared.calls.collect.Inner.{Inner}
-use Rattle.heap_model.specs.declared.entry.Entry.{Entry}
-use Rattle.heap_model.specs.declared.heap.Heap.{Heap}
-use Rattle.core_machine.specs.declared.step.Step.{Step}
-use Rattle.core_machine.specs.machine.InnerCalls.{inner_events, PlaysInner}
-use Rattle.core_machine.specs.machine.Machine.{State, seat_at, found_by, state_after_move, state_after_due, entries_shown, after_inner_begin, Event, BeginsInner, Steps, Can, state_after, entries, Run, state_after_all, history}
-use Rattle.core_machine.specs.machine.Value.{MachineValue, IsMachine, spare_of, SpendsRoom}
-use Rattle.core_machine.specs.Moves.{Move, next_move, due_step, seat_after}
-use Rattle.core_machine.specs.seat.Seat.{Seat, call_over}
+use Rattle.core_machine.proofs.Terms.{Entry, Heap, Step, State, seat_at, found_by, state_after_move, state_after_due, after_inner_begin, BeginsInner, Steps, Can, state_after}
+use Rattle.core_machine.proofs.Terms.{entries, MachineValue, IsMachine, spare_of, SpendsRoom, Move, next_move, due_step, seat_after, Seat, call_over, kept_of, entries_awaited}
+use Rattle.core_machine.proofs.Terms.{entries_awaited_at, owes}
+use Rattle.core_machine.specs.machine.InnerCalls.{PlaysInner}
 use Rattle.core_machine.proofs.call_lemmas.CallEnd.{StepsOn, steps_on, idle_from}
 use Rattle.core_machine.proofs.call_lemmas.CallRoom.{log_of_seat}
 use Rattle.core_machine.specs.calls.InnerStage.{OwnInnerStage}
-use Rattle.core_machine.specs.calls.Kept.{kept_of}
-use Rattle.core_machine.specs.seat.Awaiting.{entries_awaited, entries_awaited_at}
-use Rattle.core_machine.proofs.call_lemmas.Calling.{mine_by, more_listed, found_due}
+use Rattle.core_machine.proofs.call_lemmas.Underway.{Underway, underway_begun, underway_more, more_listed, found_due}
 use Rattle.core_machine.proofs.call_lemmas.InnerCalls.{IsOfStart, InnerAlone, InnerLeads, inner_alone, first_alone, inner_comes}
-use Rattle.core_machine.proofs.moves.Standing.{MoveStands}
 use Rattle.core_machine.proofs.own_stages.Inner.{inner_leads, inner_begins, inner_ended}
-use Rattle.core_machine.specs.calls.Owes.{owes}
-use Rattle.core_machine.proofs.machine_lemmas.Runs.{runs_on, seat_at-set, machine_after, moves_stand}
+use Rattle.core_machine.proofs.machine_lemmas.Runs.{seat_at-set}
 use Rattle.core_machine.proofs.moves.Collect.{inner_stands}
 use Rattle.core_machine.proofs.seat_lemmas.Aside.{over_idle}
 
 -- an inner call is under way, and no other party made a step since its begin
 pub record PlayingInner (heap : Heap) (old now : State) (number : ℕ) (inner : Inner) : Type 0 where
-  pub steps : ℕ
-  pub can : Run heap old (inner_events number inner steps)
-  pub ends : now ≡ state_after_all heap old (inner_events number inner steps)
-  pub machine : IsMachine heap now
-  pub within : number < length now.seats
   pub told : List Entry
-  pub shows : history heap old (inner_events number inner steps) ≡ told
-  pub mine : (seat_at now number).mine ++ entries_awaited heap now.words number (seat_at now number) ≡ (seat_at old number).mine ++ told
+  pub under : Underway heap old now number (BeginsInner number inner) told
   pub listed : List Entry
   pub own : OwnInnerStage (IsOfStart heap old.words) number inner (seat_at old number) (seat_at now number) listed
   pub alone : InnerAlone old.words now.words (seat_at now number).place
   pub resting : call_over (seat_at old number) ≡ seat_at old number
-
-inner_events-more : (number : ℕ) (inner : Inner) (n : ℕ) → inner_events number inner (n + 1) ≡ inner_events number inner n ++ Steps number ∷ []
-inner_events-more number inner n = ap (λ (l : List Event). BeginsInner number inner ∷ l) (replicate_next n (Steps number))
 
 pub inner_begun : (heap : Heap) (old : State) (number : ℕ) (inner : Inner) → IsMachine heap old → Can heap old (BeginsInner number inner)
     → PlayingInner heap old (state_after heap old (BeginsInner number inner)) number inner
@@ -52,61 +34,46 @@ inner_begun heap old number inner machine can =
     let here : seat_at (state_after heap old (BeginsInner number inner)) number ≡ begun_ = seat_at-set old.seats number begun_ can.0 in
     let stands = inner_stands heap number seat inner (machine.fit number can.0) can.1 in
     record {
-      steps = 0;
-      can = (can, tt);
-      ends = refl;
-      machine = machine_after heap old (BeginsInner number inner) machine can;
-      within = omega (arith, can.0, length-set old.seats number begun_);
       told = [];
-      shows = refl;
-      mine = subst (λ (s : Seat). s.mine ++ entries_awaited heap old.words number s ≡ seat.mine ++ []) (sym here) (rw (stands.kept, stands.awaits old.words) refl);
+      under = underway_begun heap old number (BeginsInner number inner) begun_ machine can can.0 refl refl stands.kept (stands.awaits old.words);
       listed = [];
       own = subst (λ (s : Seat). OwnInnerStage (IsOfStart heap old.words) number inner seat s []) (sym here) (inner_begins (IsOfStart heap old.words) number seat inner);
       alone = subst (λ (s : Seat). InnerAlone old.words old.words s.place) (sym here) (first_alone heap old.words number inner);
       resting = over_idle heap seat (machine.fit number can.0) can.1.idle;
     }
 
--- what a due move leaves: the entries and the stages
-record InnerBy (heap : Heap) (old now next : State) (number : ℕ) (inner : Inner) (told listed : List Entry) : Type 0 where
-  mine : (seat_at next number).mine ++ entries_awaited heap next.words number (seat_at next number) ≡ (seat_at old number).mine ++ told
+-- the stages that a due move leaves
+record InnerBy (heap : Heap) (old now next : State) (number : ℕ) (inner : Inner) (listed : List Entry) : Type 0 where
   own : OwnInnerStage (IsOfStart heap old.words) number inner (seat_at old number) (seat_at next number) listed
   alone : InnerAlone old.words next.words (seat_at next number).place
 
 inner_by : (heap : Heap) (old now : State) (number : ℕ) (inner : Inner) (playing : PlayingInner heap old now number inner) (move : Option Move) → next_move heap number (seat_at now number) ≡ move → IsSome move
-    → IfSome move (MoveStands heap number (seat_at now number) (seat_at now number).place) → IfSome move (InnerLeads heap old.words number now.words (seat_at now number))
-    → InnerBy heap old now (state_after_due heap now number move) number inner (playing.told ++ entries_shown heap now move) (playing.listed ++ more_listed move (found_due heap now move))
-inner_by heap old now number inner playing None is some stands leads = cc
-inner_by heap old now number inner playing (Some m) is some stands leads =
+    → IfSome move (InnerLeads heap old.words number now.words (seat_at now number))
+    → InnerBy heap old now (state_after_due heap now number move) number inner (playing.listed ++ more_listed move (found_due heap now move))
+inner_by heap old now number inner playing None is some leads = cc
+inner_by heap old now number inner playing (Some m) is some leads =
     let found = found_by heap now m.step in
-    let machine = playing.machine in
-    let here : seat_at (state_after_move heap now number m) number ≡ seat_after m found = seat_at-set now.seats number (seat_after m found) playing.within in
+    let machine = playing.under.machine in
+    let within = playing.under.within in
+    let here : seat_at (state_after_move heap now number m) number ≡ seat_after m found = seat_at-set now.seats number (seat_after m found) within in
     record {
-      mine = mine_by heap (seat_at old number) now number playing.told m playing.within (stands.adds now) playing.mine;
       own = subst (λ (s : Seat). OwnInnerStage (IsOfStart heap old.words) number inner (seat_at old number) s (playing.listed ++ m.adds found)) (sym here)
           (inner_leads (IsOfStart heap old.words) heap number inner (seat_at old number) (seat_at now number) playing.listed m found machine.limits
-          (omega (arith, playing.within, machine.seated, machine.limits.seats_fit)) (machine.fit number playing.within) is leads.0 playing.own);
+          (omega (arith, within, machine.seated, machine.limits.seats_fit)) (machine.fit number within) is leads.0 playing.own);
       alone = subst (λ (s : Seat). InnerAlone old.words (state_after_move heap now number m).words s.place) (sym here) leads.1;
     }
 
 pub inner_more : (heap : Heap) (old now : State) (number : ℕ) (inner : Inner) → PlayingInner heap old now number inner → IsSome (next_move heap number (seat_at now number))
     → PlayingInner heap old (state_after heap now (Steps number)) number inner
 inner_more heap old now number inner playing some =
-    let events = inner_events number inner playing.steps in
-    let runs = runs_on heap old now events _ (Steps number) playing.told (inner_events-more number inner playing.steps) (record { can = playing.can; ends = playing.ends; shows = playing.shows }) some in
-    let machine = machine_after heap now (Steps number) playing.machine some in
     let seat = seat_at now number in
-    let left = inner_by heap old now number inner playing (next_move heap number seat) refl some (moves_stand heap now number playing.machine playing.within)
+    let move = next_move heap number seat in
+    let left = inner_by heap old now number inner playing move refl some
     (inner_alone heap old.words number now.words inner (kept_of (seat_at old number)) seat playing.listed seat.place playing.own.stage playing.alone) in
     record {
-      steps = playing.steps + 1;
-      can = runs.can;
-      ends = runs.ends;
-      machine = machine;
-      within = omega (arith, playing.within, machine.seated, playing.machine.seated);
       told = playing.told ++ entries heap now (Steps number);
-      shows = runs.shows;
-      mine = left.mine;
-      listed = playing.listed ++ more_listed (next_move heap number seat) (found_due heap now (next_move heap number seat));
+      under = underway_more heap old now number (BeginsInner number inner) playing.told playing.under some;
+      listed = playing.listed ++ more_listed move (found_due heap now move);
       own = left.own;
       alone = left.alone;
       resting = playing.resting;
@@ -120,10 +87,10 @@ inner_over heap old now number inner playing none =
     let idle = idle_from heap number seat none in
     let awaited : entries_awaited heap now.words number seat ≡ [] = ap (entries_awaited_at heap now.words number seat) idle in
     let told : playing.listed ≡ playing.told = append_cancel_left (seat_at old number).mine playing.listed playing.told
-    (sym playing.own.mine ∙ sym (append-nil seat.mine) ∙ ap (λ (l : List Entry). seat.mine ++ l) (sym awaited) ∙ playing.mine) in
+    (sym playing.own.mine ∙ sym (append-nil seat.mine) ∙ ap (λ (l : List Entry). seat.mine ++ l) (sym awaited) ∙ playing.under.mine) in
     let over = inner_ended (IsOfStart heap old.words) number inner (seat_at old number) seat playing.listed playing.own idle in
-    let comes = inner_comes heap old.words number (seat_at old number) seat playing.listed playing.resting (over_idle heap seat (playing.machine.fit number playing.within) idle) playing.own.same playing.own.mine inner over in
-    record { steps = playing.steps; can = playing.can; ends = playing.ends; shown = playing.shows ∙ sym told ∙ comes.1; seat = comes.0 }
+    let comes = inner_comes heap old.words number (seat_at old number) seat playing.listed playing.resting (over_idle heap seat (playing.under.machine.fit number playing.under.within) idle) playing.own.same playing.own.mine inner over in
+    record { steps = playing.under.steps; can = playing.under.can; ends = playing.under.ends; shown = playing.under.shows ∙ sym told ∙ comes.1; seat = comes.0 }
 
 -- a begin spends no room
 pub inner_spends : (old new : MachineValue) (number : ℕ) (inner : Inner) → Can old.heap old.state (BeginsInner number inner)
@@ -136,7 +103,7 @@ inner_spends old new number inner can is =
     let still : number < length now.state.seats = omega (arith, can.0, length-set old.state.seats number begun_) in
     let before_log = ap (length {A = Entry}) (log_of_seat old number can.0) in
     let after_log = ap (length {A = Entry}) (log_of_seat now number still ∙ ap (λ (s : Seat). s.mine) here) in
-    subst (λ (v : MachineValue). SpendsRoom old v number) (sym is) (record { own = omega (arith, before_log, after_log); others = λ other apart. refl })
+    subst (λ (v : MachineValue). SpendsRoom old v number) (sym is) (record { forgotten = refl; own = omega (arith, before_log, after_log); others = λ other apart. refl })
 
 -- and leaves room for the call
 pub inner_room : (old new : MachineValue) (number : ℕ) (inner : Inner) → IsMachine old.heap old.state → Can old.heap old.state (BeginsInner number inner)
@@ -157,6 +124,6 @@ pub inner_steps : {first old new : MachineValue} {number : ℕ} {inner : Inner} 
     → due_step old.heap number (seat_at old.state number) ≡ Some step → new.heap ≡ old.heap → new.state ≡ state_after old.heap old.state (Steps number) → SpendsRoom old new number
     → StepsOn first old new number × InnerGoes first new number inner
 inner_steps {first} {old} {new} {number} {inner} goes same spent due heap state spends =
-    let on = steps_on goes.playing.machine goes.playing.within same due heap state spends goes.room spent in
+    let on = steps_on goes.playing.under.machine goes.playing.under.within same due heap state spends goes.room spent in
     let playing = inner_more first.heap first.state old.state number inner goes.playing on.some in
     (on, record { playing = subst (λ (s : State). PlayingInner first.heap first.state s number inner) (sym on.state_is) playing; room = on.room })

@@ -2,51 +2,32 @@
 use Rattle.std.proofs.Common.{◌≡◌, ℕ, ◌+◌, ◌^◌, ◌<◌, length, eqb, List, [], ◌∷◌, ◌++◌, Option, Some, None, inl, inr, refl, sym, ap, subst, ◌∙◌, append-nil, append_assoc}
 use Rattle.std.specs.Prelude.{IfSome, nat_lt}
 use Rattle.std.proofs.lemmas.Bool.Decides.{eqb_tells}
-use Rattle.heap_model.specs.declared.heap.Heap.{Heap}
+use Rattle.core_machine.proofs.Terms.{Heap, Command, Entry, Said, Answers, Reply, Address, Phase, Word, Place, LoadingMeta, Walking, Locating, Indexing, Getting, Naming}
+use Rattle.core_machine.proofs.Terms.{LoadingOld, ShadingOld, ShadingNew, Swapping, Register, IsPlaceRefusal, looks_refused, LeavesAll, MakesObject, IsRecordCall, IsArrayCall}
+use Rattle.core_machine.proofs.Terms.{source_of, at, put, InTable, address_of, word_after, head_of, array_length_of, stamp_of, id_of, register_in, register_head, at_access}
+use Rattle.core_machine.proofs.Terms.{with_field_place, field_place_of, way_place_of, after_link, after_walk, after_length, at_payload, meta_reply_of, after_meta, after_get}
+use Rattle.core_machine.proofs.Terms.{new_place_of, after_old, after_old_load, Seat, with_seen, with_entries, call_over, Move, move_at, local_move, access_move, polling_move}
+use Rattle.core_machine.proofs.Terms.{leaving_move, next_move, seat_after, State, seat_at, found_by, state_after_move, NamesObject, FitsAccess, FitsPlace, FitsWay, IsMachine, Kept}
+use Rattle.core_machine.proofs.Terms.{kept_of, tells_nothing, StageAt}
 use Rattle.heap_model.specs.declared.id.Value.TheVariants as values
-use Rattle.heap_model.specs.declared.command.Command.{Command}
 use Rattle.heap_model.specs.declared.command.Command.TheVariants as commands
-use Rattle.heap_model.specs.declared.entry.Entry.{Entry}
-use Rattle.heap_model.specs.declared.entry.Entry.TheVariants.{Said, Answers}
-use Rattle.heap_model.specs.declared.reply.Reply.{Reply}
 use Rattle.heap_model.specs.declared.reply.Reply.TheVariants as replies
-use Rattle.core_machine.specs.declared.table.address.Address.{Address}
-use Rattle.core_machine.specs.declared.table.address.Address.TheVariants.{Phase, Word}
-use Rattle.core_machine.specs.declared.place.Place.{Place}
 use Rattle.core_machine.specs.declared.place.Place.TheVariants as places
 use Rattle.core_machine.specs.declared.place.Access.{Access}
-use Rattle.core_machine.specs.declared.place.Access.TheVariants.{LoadingMeta, Walking, Locating, Indexing, Getting, Naming, LoadingOld, ShadingOld, ShadingNew, Swapping}
 use Rattle.core_machine.specs.declared.place.Polling.{Polling}
 use Rattle.core_machine.specs.declared.place.Polling.TheVariants.{Asking, Shading, Answering}
 use Rattle.core_machine.specs.declared.place.Leaving.{Leaving}
 use Rattle.core_machine.specs.declared.place.Leaving.TheVariants.{Emptying, Parting}
-use Rattle.core_machine.specs.declared.seat.register.Register.{Register}
-use Rattle.core_machine.specs.machine.Calls.{IsPlaceRefusal, looks_refused, LeavesAll}
-use Rattle.core_machine.specs.seat.Commands.{MakesObject, IsRecordCall, IsArrayCall, source_of}
-use Rattle.core_machine.specs.table.Layout.{at, put, InTable}
-use Rattle.core_machine.specs.table.Operation.{address_of, word_after}
-use Rattle.heap_words.specs.Loaded.{head_of, array_length_of, stamp_of}
-use Rattle.core_machine.specs.table.Decode.{id_of}
-use Rattle.core_machine.specs.seat.Registers.{register_in, register_head}
-use Rattle.core_machine.specs.seat.Access.{at_access, with_field_place, field_place_of, way_place_of, after_link, after_walk, after_length, at_payload, meta_reply_of, after_meta, after_get, new_place_of, after_old, after_old_load}
 use Rattle.core_machine.specs.seat.AccessMoves.{reply_entries_if, got_adds, got_shows}
 use Rattle.core_machine.specs.seat.HandshakeMoves.{poll_move, poll_adds}
 use Rattle.core_machine.specs.seat.Local.{local_reply_of}
 use Rattle.core_machine.specs.seat.Handshake.{roots, answer_next, after_phase_load}
 use Rattle.core_machine.specs.seat.Looks.{Looks, forgotten, seen_phase}
-use Rattle.core_machine.specs.seat.Seat.{Seat, with_seen, with_entries, call_over}
 use Rattle.core_machine.proofs.seat_lemmas.PollingOver.{over_cases}
-use Rattle.core_machine.specs.Moves.{Move, move_at, local_move, access_move, polling_move, leaving_move, next_move, seat_after}
-use Rattle.core_machine.specs.machine.Machine.{State, seat_at, found_by, state_after_move}
-use Rattle.core_machine.specs.seat.FitsAccess.{NamesObject, FitsAccess}
-use Rattle.core_machine.specs.seat.Fits.{FitsPlace, FitsWay}
-use Rattle.core_machine.specs.machine.Value.{IsMachine}
 use Rattle.core_machine.proofs.table_lemmas.Addresses.{put-at}
 use Rattle.core_machine.proofs.table_lemmas.Bits.{bool_tells}
 use Rattle.core_machine.proofs.seat_lemmas.FieldPlaces.{field_cases}
 use Rattle.core_machine.proofs.seat_lemmas.Fitting.{array_makes, record_makes}
-use Rattle.core_machine.specs.calls.Kept.{Kept, kept_of, tells_nothing}
-use Rattle.core_machine.specs.calls.OwnStage.{StageAt}
 use Rattle.core_machine.proofs.call_lemmas.Playing.{alone_making}
 use Rattle.core_machine.proofs.call_lemmas.Stages.{Answered, AccessAlone, PollingAlone, AloneStage, Stage, AloneAfter}
 use Rattle.core_machine.proofs.machine_lemmas.Runs.{seat_at-set}

@@ -1,19 +1,11 @@
 -- Commands whose calls tell their reply alone, and refusals that leave the registers.
 use Rattle.std.specs.Prelude.{nat_lt, if◌then◌else◌}
 use Rattle.std.proofs.Common.{◌≡◌, ℕ, Bool, true, false, List, Option, Some, None, refl}
-use Rattle.heap_model.specs.declared.command.Command.{Command}
+use Rattle.core_machine.proofs.Terms.{Command, Reply, Register, IsPlaceRefusal, MakesObject, field_reply_of, meta_reply_of, register_in, value_of, is_same_value, length_of, IsGet}
+use Rattle.core_machine.proofs.Terms.{IsSet, NamesObject, IsLocal}
 use Rattle.heap_model.specs.declared.command.Command.TheVariants as commands
-use Rattle.heap_model.specs.declared.reply.Reply.{Reply}
 use Rattle.heap_model.specs.declared.reply.Reply.TheVariants.{NoObject, NoField}
-use Rattle.core_machine.specs.declared.seat.register.Register.{Register}
-use Rattle.core_machine.specs.machine.Calls.{IsPlaceRefusal}
-use Rattle.core_machine.specs.seat.Commands.{MakesObject}
-use Rattle.core_machine.specs.seat.Access.{field_reply_of, meta_reply_of}
 use Rattle.core_machine.specs.seat.Local.{answer_of, local_reply_of, local_registers}
-use Rattle.core_machine.specs.seat.Registers.{register_in, value_of, is_same_value}
-use Rattle.heap_words.specs.Loaded.{length_of}
-use Rattle.core_machine.specs.seat.FitsAccess.{IsGet, IsSet, NamesObject}
-use Rattle.core_machine.specs.seat.Fits.{IsLocal}
 
 -- the command makes no object, asks for no phase, isn't a leave, and is a single call
 abbrev pub RepliesAlone : Command → Type 0

@@ -5,12 +5,9 @@ use Rattle.std.proofs.lemmas.Bool.{ne_eqb}
 use Rattle.std.proofs.lemmas.List.{nil_from_length}
 use Rattle.std.proofs.lemmas.Bool.Decides.{eqb_tells}
 use Rattle.std.proofs.lemmas.List.Elements.{filter-append, All-head, All-tail}
-use Rattle.heap_model.specs.declared.heap.Heap.{Heap}
-use Rattle.core_machine.specs.declared.table.address.Address.{Address}
-use Rattle.core_machine.specs.declared.table.address.Address.TheVariants.{Phase, Answer, Budget, Spot, Control, Word, Spine}
-use Rattle.core_machine.specs.table.Fragments.{clear_in, part_in, part_out, in_group, mask_of}
-use Rattle.core_machine.specs.table.Layout.{at, put, InTable, table_length, SameTable}
-use Rattle.core_machine.specs.table.Operation.{all_taken, word_without_taken}
+use Rattle.core_machine.proofs.Terms.{Heap, Address, Phase, Answer, Budget, Control, Word, clear_in, part_in, part_out, in_group, mask_of, at, put, InTable, table_length}
+use Rattle.core_machine.proofs.Terms.{SameTable, all_taken, word_without_taken}
+use Rattle.core_machine.specs.declared.table.address.Address.TheVariants.{Spot, Spine}
 use Rattle.core_machine.proofs.table_lemmas.Addresses.{at-put_same, at-put_other}
 use Rattle.core_machine.proofs.table_lemmas.Masks.{or_full, untaken-claimed}
 use Rattle.core_machine.proofs.table_lemmas.Free.{clear_in-claimed}

@@ -1,33 +1,17 @@
 -- How the words stand, while a call is made by itself, to those of its begin, beside where it stands by the seat's own data.
 use Rattle.std.proofs.Common.{◌≡◌, ℕ, ◌+◌, ◌%◌, ◌<◌, ◌≤◌, List, [], ◌∷◌, ◌++◌, length}
-use Rattle.heap_model.specs.declared.heap.Heap.{Heap}
-use Rattle.heap_model.specs.declared.command.Command.{Command}
-use Rattle.heap_model.specs.declared.command.Command.TheVariants.{Poll}
-use Rattle.heap_model.specs.declared.entry.Entry.{Entry}
-use Rattle.heap_model.specs.declared.entry.Entry.TheVariants.{Said}
-use Rattle.heap_model.specs.declared.reply.Reply.{Reply}
+use Rattle.core_machine.proofs.Terms.{Heap, Command, Poll, Entry, Said, Reply, spine_need_of, tells_nothing, OwnStage, Phase, Budget, Control, Place, Granting, Withdrawing}
+use Rattle.core_machine.proofs.Terms.{Gathering, Returning, Refusing, Placing, Listing, Storing, Bearing, clear_in, at, Seat, Move, seat_after, State, seat_at, found_by}
+use Rattle.core_machine.proofs.Terms.{state_after_move, LoadingMeta, Naming, IsRecordCall, IsArrayCall, free_count, within_reach, AnswersNew, LacksSpineWords, AnswersArray}
+use Rattle.core_machine.proofs.Terms.{IsPlaceRefusal, LeavesAll}
 use Rattle.heap_model.specs.declared.reply.Reply.TheVariants as replies
 use Rattle.heap_model.specs.account.Space.{need_of}
-use Rattle.heap_model.specs.Needs.{spine_need_of}
-use Rattle.core_machine.specs.calls.Kept.{tells_nothing}
-use Rattle.core_machine.specs.calls.OwnStage.{OwnStage}
-use Rattle.core_machine.specs.declared.table.address.Address.TheVariants.{Phase, Budget, Control}
-use Rattle.core_machine.specs.declared.place.Place.{Place}
 use Rattle.core_machine.specs.declared.place.Place.TheVariants as places
 use Rattle.core_machine.specs.declared.place.Making.{Making}
-use Rattle.core_machine.specs.declared.place.Making.TheVariants.{Granting, Withdrawing, Gathering, Returning, Refusing, Placing, Listing, Storing, Bearing}
-use Rattle.core_machine.specs.table.Fragments.{clear_in}
-use Rattle.core_machine.specs.table.Layout.{at}
-use Rattle.core_machine.specs.seat.Seat.{Seat}
-use Rattle.core_machine.specs.Moves.{Move, seat_after}
-use Rattle.core_machine.specs.machine.Machine.{State, seat_at, found_by, state_after_move}
 use Rattle.heap_model.specs.declared.id.Value.{Value}
 use Rattle.core_machine.specs.declared.place.Access.{Access}
-use Rattle.core_machine.specs.declared.place.Access.TheVariants.{LoadingMeta, Naming}
 use Rattle.core_machine.specs.declared.place.Polling.{Polling}
 use Rattle.core_machine.specs.declared.place.Polling.TheVariants.{Asking, Shading, Answering}
-use Rattle.core_machine.specs.seat.Commands.{IsRecordCall, IsArrayCall}
-use Rattle.core_machine.specs.machine.Calls.{free_count, within_reach, AnswersNew, LacksSpineWords, AnswersArray, IsPlaceRefusal, LeavesAll}
 use Rattle.core_machine.proofs.call_lemmas.Asking.{AsksWords, HasClaimed}
 
 -- while the spine words are taken back that are too many

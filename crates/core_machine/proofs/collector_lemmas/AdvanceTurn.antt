@@ -1,6 +1,6 @@
 -- The next phase of a cycle begins.
 use Rattle.std.proofs.Common.{◌+◌, arith}
-use Rattle.heap_model.specs.declared.entry.Entry.TheVariants.{Advance}
+use Rattle.core_machine.proofs.Terms.{Advance}
 use Rattle.core_machine.specs.declared.collector.stage.Stage.TheVariants as stages
 use Rattle.core_machine.proofs.collector_lemmas.Standing.{StageStands, begin_fits}
 

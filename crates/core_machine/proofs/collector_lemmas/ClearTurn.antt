@@ -1,9 +1,8 @@
 -- A group's marks are cleared.
 use Rattle.std.proofs.Common.{suc, ℕ, ◌+◌, ◌≤◌, inl, inr, arith}
 use Rattle.std.proofs.lemmas.Bool.Decides.{leb_tells}
-use Rattle.heap_model.specs.declared.heap.Heap.{Heap}
+use Rattle.core_machine.proofs.Terms.{Heap, Turning}
 use Rattle.core_machine.specs.declared.collector.stage.Stage.TheVariants as stages
-use Rattle.core_machine.specs.declared.step.Step.TheVariants.{Turning}
 use Rattle.core_machine.specs.declared.step.TurningStep.TheVariants as turning
 use Rattle.core_machine.specs.collector.Sweeping.{taken_count_of, after_cleared}
 use Rattle.core_machine.specs.collector.FitsTurns.{FitsStage, IsClearing}

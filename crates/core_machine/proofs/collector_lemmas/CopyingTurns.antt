@@ -6,8 +6,7 @@ use Rattle.std.proofs.lemmas.Bool.Decides.{eqb_tells, leb_tells}
 use Rattle.heap_words.specs.declared.spot.Spot.{Spot}
 use Rattle.heap_words.specs.Control.{marked_bits_of, next_place_of}
 use Rattle.heap_words.specs.Spot.{spot_in}
-use Rattle.heap_model.specs.declared.heap.Heap.{Heap}
-use Rattle.heap_model.specs.Heap.{IsHeap}
+use Rattle.core_machine.proofs.Terms.{Heap, IsHeap, array_length_of, FoundPointsWithin, FitsSpot, address_of}
 use Rattle.core_machine.specs.declared.collector.stage.ArrayAt.{ArrayAt}
 use Rattle.core_machine.specs.declared.collector.stage.Copying.{Copying}
 use Rattle.core_machine.specs.declared.collector.stage.Copying.TheVariants as copying
@@ -19,10 +18,6 @@ use Rattle.core_machine.specs.declared.step.Step.TheVariants as steps
 use Rattle.core_machine.specs.collector.Copying.{next_half, after_visited, after_seen, after_visit, visit_on, after_inspected, after_located, copy_at}
 use Rattle.core_machine.specs.collector.CopyingTurns.{visited, copying_step, after_copying, copying_adds}
 use Rattle.core_machine.specs.collector.FitsTurns.{IsCopying, FitsVisit, FitsArrayAt, FitsCopy, FitsCopying, FitsStage}
-use Rattle.heap_words.specs.Loaded.{array_length_of}
-use Rattle.core_machine.specs.table.Decode.{FoundPointsWithin}
-use Rattle.core_machine.specs.table.Layout.{FitsSpot}
-use Rattle.core_machine.specs.table.Operation.{address_of}
 use Rattle.core_machine.proofs.collector_lemmas.SpineTurns.{told_spot}
 use Rattle.core_machine.proofs.collector_lemmas.Standing.{StageStands, work_stands, stage_fits}
 use Rattle.core_machine.proofs.table_lemmas.DeadBits.{place_stands}

@@ -1,6 +1,6 @@
 -- A cycle ends, and the next phase begins.
 use Rattle.std.proofs.Common.{ℕ, ◌/◌, arith}
-use Rattle.heap_model.specs.declared.entry.Entry.TheVariants.{Ends}
+use Rattle.core_machine.proofs.Terms.{Ends}
 use Rattle.core_machine.specs.declared.collector.stage.Stage.TheVariants as stages
 use Rattle.core_machine.proofs.collector_lemmas.Standing.{StageStands, begin_fits}
 

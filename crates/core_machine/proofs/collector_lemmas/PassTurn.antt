@@ -2,10 +2,8 @@
 use Rattle.std.proofs.Common.{suc, ℕ, ◌+◌, ◌<◌, Bool, true, false, Option, Some, None, refl, inl, inr, arith}
 use Rattle.std.specs.Prelude.{IfSome}
 use Rattle.std.proofs.lemmas.Bool.Decides.{leb_tells}
-use Rattle.heap_model.specs.declared.heap.Heap.{Heap}
-use Rattle.heap_model.specs.Heap.{IsHeap}
+use Rattle.core_machine.proofs.Terms.{Heap, IsHeap, Turning}
 use Rattle.core_machine.specs.declared.collector.stage.Stage.TheVariants as stages
-use Rattle.core_machine.specs.declared.step.Step.TheVariants.{Turning}
 use Rattle.core_machine.specs.declared.step.TurningStep.TheVariants as turning
 use Rattle.core_machine.specs.collector.Marking.{lowest_grey_of, after_last_group, after_group, after_pass}
 use Rattle.core_machine.specs.collector.FitsTurns.{FitsStage, IsMarking}

@@ -2,7 +2,7 @@
 use Rattle.std.proofs.Common.{ℕ, arith}
 use Rattle.core_machine.specs.declared.collector.stage.Scan.{Scan}
 use Rattle.core_machine.specs.declared.collector.stage.Stage.TheVariants as stages
-use Rattle.core_machine.specs.declared.step.Step.TheVariants.{Turning}
+use Rattle.core_machine.proofs.Terms.{Turning}
 use Rattle.core_machine.specs.declared.step.TurningStep.TheVariants as turning
 use Rattle.core_machine.specs.collector.Marking.{scan_step, scan_at}
 use Rattle.core_machine.proofs.collector_lemmas.ScanTurn.{fits_at}

@@ -2,18 +2,16 @@
 use Rattle.std.proofs.Common.{suc, ◌≡◌, ℕ, ◌+◌, ◌*◌, ◌<◌, ◌≤◌, refl, inl, inr, arith}
 use Rattle.std.proofs.lemmas.Bool.Decides.{leb_tells}
 use Rattle.heap_words.specs.Spot.{spot_in}
-use Rattle.heap_model.specs.declared.heap.Heap.{Heap}
+use Rattle.core_machine.proofs.Terms.{Heap, Turning, payload_in, FitsSpot}
 use Rattle.core_machine.specs.declared.collector.stage.Scan.{Scan}
 use Rattle.core_machine.specs.declared.collector.stage.SpineScan.{SpineScan}
 use Rattle.core_machine.specs.declared.collector.stage.Stage.{Stage}
 use Rattle.core_machine.specs.declared.collector.stage.Stage.TheVariants as stages
-use Rattle.core_machine.specs.declared.step.Step.TheVariants.{Turning, Spine}
+use Rattle.core_machine.specs.declared.step.Step.TheVariants.{Spine}
 use Rattle.core_machine.specs.declared.step.SpineStep.TheVariants.{AddressLoad, WordLoad}
 use Rattle.core_machine.specs.declared.step.TurningStep.TheVariants as turning
 use Rattle.core_machine.specs.collector.Marking.{spine_step, spine_scan_at, after_address, after_spread}
 use Rattle.core_machine.specs.collector.FitsTurns.{FitsStage, IsMarking}
-use Rattle.heap_words.specs.Loaded.{payload_in}
-use Rattle.core_machine.specs.table.Layout.{FitsSpot}
 use Rattle.core_machine.proofs.collector_lemmas.Standing.{StageStands, work_stands, stage_fits}
 use Rattle.core_machine.proofs.table_lemmas.StepStands.{load_stands}
 use Rattle.core_machine.proofs.table_lemmas.Wide.{shade_wide}
@@ -34,7 +32,7 @@ fits_spine : (heap : Heap) (phase looked : ℕ) (s : SpineScan) → IsMarking he
     → s.scan.steps ≡ 2 + 2 * s.index → FitsStage heap phase looked (spine_scan_at s)
 fits_spine heap phase looked s marks within few below spot made =
     spine_cases (FitsStage heap phase looked) s
-    (λ more. record { marks = marks; fragment_within = within; words_few = few; index_within = more; spine_within = spot; steps_made = made })
+    (λ more. record { on = record { marks = marks; fragment_within = within; words_few = few; index_within = more; spine_within = spot }; steps_made = made })
     (λ done. record { marks = marks; fragment_within = within; few_steps = omega (arith, made, below, few) })
 
 pub locate_stands : (scan : Scan) (words : ℕ) → StageStands (stages.Locating scan words)
@@ -47,13 +45,9 @@ locate_stands scan words heap collector limits fits locating here =
 pub index_stands : (s : SpineScan) → StageStands (stages.Indexing s)
 index_stands s heap collector limits fits indexing here =
     work_stands heap (Spine (WordLoad s.spine.half (s.spine.offset + s.index))) (λ word. record collector { stage = stages.Spreading (spine_step s) (payload_in word) })
-    (load_stands heap (Spine (WordLoad s.spine.half (s.spine.offset + s.index))) refl here.spine_within.half_within)
+    (load_stands heap (Spine (WordLoad s.spine.half (s.spine.offset + s.index))) refl here.on.spine_within.half_within)
     (λ word small led. stage_fits heap collector (stages.Spreading (spine_step s) (payload_in word)) fits (record {
-      marks = here.marks;
-      fragment_within = here.fragment_within;
-      words_few = here.words_few;
-      index_within = here.index_within;
-      spine_within = here.spine_within;
+      on = record { marks = here.on.marks; fragment_within = here.on.fragment_within; words_few = here.on.words_few; index_within = here.on.index_within; spine_within = here.on.spine_within };
       target_within = led;
       steps_made = omega (arith, here.steps_made);
     }))
@@ -63,4 +57,4 @@ spread_stands s target heap collector limits fits spreading here =
     work_stands heap (Turning (turning.MarkShade target)) (λ word. record collector { stage = after_spread s })
     record { in_table = omega (arith, here.target_within); wide = λ found small. shade_wide target found small; leads = λ found led. tt }
     (λ word small led. stage_fits heap collector (after_spread s) fits
-    (fits_spine heap collector.phase collector.looked _ here.marks here.fragment_within here.words_few (omega (arith, here.index_within)) here.spine_within (omega (arith, here.steps_made))))
+    (fits_spine heap collector.phase collector.looked _ here.on.marks here.on.fragment_within here.on.words_few (omega (arith, here.on.index_within)) here.on.spine_within (omega (arith, here.steps_made))))

@@ -2,15 +2,10 @@
 use Rattle.std.proofs.Common.{◌≡◌, ℕ, ◌-◌, ◌<◌, ◌^◌, [], ◌∷◌, ◌++◌, length-append, arith}
 use Rattle.heap_model.specs.declared.calls.collector_calls.Turn.{Turn as TurnAnswer}
 use Rattle.heap_model.specs.declared.calls.collector_calls.Turn.TheVariants.{Stepped}
-use Rattle.heap_model.specs.declared.entry.Entry.{Entry}
-use Rattle.heap_model.specs.declared.heap.Heap.{Heap}
-use Rattle.heap_model.specs.Heap.{IsHeap}
+use Rattle.core_machine.proofs.Terms.{Entry, Heap, IsHeap, Step, FoundPointsWithin, address_of}
 use Rattle.core_machine.specs.declared.collector.stage.Stage.{Stage}
-use Rattle.core_machine.specs.declared.step.Step.{Step}
 use Rattle.core_machine.specs.collector.Collector.{Collector, Turn, after_advance, quiet_turn, work_turn, turn_at, collector_after}
 use Rattle.core_machine.specs.collector.FitsTurns.{FitsStage, CollectorFits}
-use Rattle.core_machine.specs.table.Decode.{FoundPointsWithin}
-use Rattle.core_machine.specs.table.Operation.{address_of}
 use Rattle.core_machine.proofs.table_lemmas.StepStands.{StepStands}
 
 pub record TurnStands (heap : Heap) (turn : Turn) : Type 0 where

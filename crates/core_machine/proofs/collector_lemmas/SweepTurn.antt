@@ -3,14 +3,11 @@ use Rattle.std.proofs.Common.{suc, ◌≡◌, ℕ, ◌+◌, ◌*◌, ◌^◌, �
 use Rattle.std.specs.Int.{bit_at}
 use Rattle.std.specs.Prelude.{IfSome}
 use Rattle.std.proofs.lemmas.Bool.Decides.{eqb_tells, leb_tells}
-use Rattle.heap_model.specs.declared.entry.Entry.TheVariants.{Frees, Returns}
-use Rattle.heap_model.specs.declared.heap.Heap.{Heap}
+use Rattle.core_machine.proofs.Terms.{Frees, Returns, Heap, Turning, spine_words_in}
 use Rattle.core_machine.specs.declared.collector.stage.Stage.TheVariants as stages
-use Rattle.core_machine.specs.declared.step.Step.TheVariants.{Turning}
 use Rattle.core_machine.specs.declared.step.TurningStep.TheVariants as turning
 use Rattle.core_machine.specs.collector.Sweeping.{dead_bits_of, next_place_of, after_swept, after_examined, after_freed}
 use Rattle.core_machine.specs.collector.FitsTurns.{FitsStage, IsSweeping}
-use Rattle.core_machine.specs.table.Decode.{spine_words_in}
 use Rattle.core_machine.proofs.collector_lemmas.Standing.{StageStands, work_stands, stage_fits}
 use Rattle.core_machine.proofs.table_lemmas.DeadBits.{dead_few, place_stands, place_from}
 use Rattle.core_machine.proofs.table_lemmas.Lengths.{spine_words_few}

@@ -1,19 +1,13 @@
 -- A machine after a turn of the collector.
 use Rattle.std.proofs.Common.{◌≡◌, ℕ, List, refl, subst, sym}
-use Rattle.heap_model.specs.declared.heap.Heap.{Heap}
-use Rattle.core_machine.specs.declared.step.Step.{Step}
+use Rattle.core_machine.proofs.Terms.{Heap, Step, FoundPointsWithin, put, InTable, address_of, word_after, found_by, state_after, Turns, SeatWithRoom, MachineValue, IsMachine}
 use Rattle.core_machine.specs.collector.Collector.{Collector, next_turn, collector_after}
-use Rattle.core_machine.specs.table.Decode.{FoundPointsWithin}
-use Rattle.core_machine.specs.table.Layout.{put, InTable}
-use Rattle.core_machine.specs.table.Operation.{address_of, word_after}
-use Rattle.core_machine.specs.machine.Machine.{found_by, state_after, Turns}
-use Rattle.core_machine.specs.machine.Value.{SeatWithRoom, MachineValue, IsMachine}
 use Rattle.core_machine.proofs.collector_lemmas.{turn_stands}
 use Rattle.core_machine.proofs.machine_lemmas.Parties.{state_of, value_of}
 use Rattle.core_machine.proofs.machine_lemmas.Runs.{machine_after}
 
-module _ (heap : Heap) (words : List ℕ) (parties : List SeatWithRoom) (collector : Collector) (room : ℕ) (value : MachineValue) (step : Step)
-    (view : value_of heap words parties collector room ≡ value) (by_value : (next_turn value.heap value.state.collector).step ≡ step) where
+module _ (heap : Heap) (words : List ℕ) (parties : List SeatWithRoom) (collector : Collector) (room gone : ℕ) (value : MachineValue) (step : Step)
+    (view : value_of heap words parties collector room gone ≡ value) (by_value : (next_turn value.heap value.state.collector).step ≡ step) where
   due : (next_turn heap collector).step ≡ step
   due = subst (λ (v : MachineValue). (next_turn v.heap v.state.collector).step ≡ step) (sym view) by_value
 

@@ -8,22 +8,15 @@ use Rattle.heap_words.specs.Spot.{spot_word}
 use Rattle.std.specs.List.{range_with_len, All}
 use Rattle.std.proofs.lemmas.List.FromFn.{get_or-map-range_with_len, length-map-range_with_len}
 use Rattle.std.proofs.lemmas.List.Elements.{All-nil, All-cons, All-replicate}
-use Rattle.heap_model.specs.declared.heap.Heap.{Heap}
-use Rattle.heap_model.specs.Heap.{IsHeap}
-use Rattle.core_machine.specs.declared.table.address.Address.{Address}
-use Rattle.core_machine.specs.declared.table.address.Address.TheVariants.{Phase, Answer, Budget, Spot, Control, Word, Spine}
-use Rattle.core_machine.specs.table.Layout.{table_length, index_of, InTable, at, put}
+use Rattle.core_machine.proofs.Terms.{Heap, IsHeap, Address, Phase, Answer, Budget, Control, Word, table_length, index_of, InTable, at, put, Seat, absent_seat, Nil, Object}
+use Rattle.core_machine.proofs.Terms.{pointer_in, IsWithinHeap, FoundPointsWithin, AreFragments, FitsRegister, Fits, IsMachine}
+use Rattle.core_machine.specs.declared.table.address.Address.TheVariants.{Spot, Spine}
 use Rattle.core_machine.specs.machine.Opening.{board, board_name, board_word, board_group, opening_word, opening_seat, with_left, with_board}
-use Rattle.core_machine.specs.seat.Seat.{Seat, absent_seat}
-use Rattle.core_machine.specs.declared.seat.register.Register.TheVariants.{Nil, Object}
 use Rattle.heap_model.specs.declared.id.Id.TheVariants.{Board}
 use Rattle.core_machine.specs.collector.Collector.{Collector, opening_collector}
-use Rattle.heap_words.specs.Loaded.{pointer_in}
-use Rattle.core_machine.specs.table.Decode.{IsWithinHeap, FoundPointsWithin}
-use Rattle.core_machine.specs.seat.Fits.{AreFragments, FitsRegister, CollectorFits, Fits}
+use Rattle.core_machine.specs.seat.Fits.{CollectorFits}
 use Rattle.core_machine.proofs.seat_lemmas.Aside.{gone_aside, no_hand_fits, no_way_fits}
 use Rattle.core_machine.proofs.table_lemmas.Leading.{record_leads, zero_leads}
-use Rattle.core_machine.specs.machine.Value.{IsMachine}
 use Rattle.core_machine.proofs.table_lemmas.Addresses.{length-put, at-put_same, at-put_other}
 
 -- another number hasn't

@@ -1,24 +1,14 @@
 -- Runs with one event more, and what every run keeps.
-use Rattle.std.proofs.Common.{suc, ◌≡◌, ℕ, ◌+◌, ◌<◌, ◌^◌, List, [], ◌∷◌, ◌++◌, length, get_or, set, Option, Some, None, refl, sym, ap, subst, ◌∙◌, inl, inr, append_assoc, append-nil, arith}
+use Rattle.std.proofs.Common.{suc, ◌≡◌, ℕ, ◌+◌, ◌<◌, ◌^◌, List, [], ◌∷◌, ◌++◌, length, replicate, get_or, set, Option, Some, None, refl, sym, ap, subst, ◌∙◌, inl, inr, append_assoc, append-nil, arith}
 use Rattle.std.specs.Prelude.{IsSome, IfSome, option_map}
 use Rattle.std.specs.List.{All}
 use Rattle.std.proofs.lemmas.Bool.Decides.{eqb_tells, leb_tells}
 use Rattle.std.proofs.lemmas.List.{length-set, get_or-set_same, get_or-set_other, get_or_past}
 use Rattle.std.proofs.lemmas.Grind.{replicate_next}
-use Rattle.heap_model.specs.declared.heap.Heap.{Heap}
-use Rattle.heap_model.specs.declared.command.Command.{Command}
-use Rattle.heap_model.specs.declared.entry.Entry.{Entry}
-use Rattle.core_machine.specs.table.Layout.{put, InTable}
-use Rattle.core_machine.specs.table.Decode.{PointersWithin, FoundPointsWithin}
+use Rattle.core_machine.proofs.Terms.{Heap, Entry, put, InTable, PointersWithin, FoundPointsWithin, address_of, word_after, Seat, absent_seat, Step, Move, next_move, due_step}
+use Rattle.core_machine.proofs.Terms.{seat_after, State, seat_at, found_by, Event, Begins, BeginsInner, Steps, Turns, state_after_turn, Can, state_after, state_after_due, entries}
+use Rattle.core_machine.proofs.Terms.{Run, state_after_all, history, after_begin, after_inner_begin, Fits, IsMachine}
 use Rattle.core_machine.specs.collector.Collector.{next_turn}
-use Rattle.core_machine.specs.table.Operation.{address_of, word_after}
-use Rattle.core_machine.specs.seat.Seat.{Seat, absent_seat}
-use Rattle.core_machine.specs.declared.step.Step.{Step}
-use Rattle.core_machine.specs.Moves.{Move, next_move, due_step, seat_after}
-use Rattle.core_machine.specs.machine.Machine.{State, seat_at, found_by, Event, Begins, BeginsInner, Steps, Turns, state_after_turn, Can, state_after, state_after_due, entries, Run, state_after_all, history, after_begin, after_inner_begin}
-use Rattle.core_machine.specs.seat.Fits.{Fits}
-use Rattle.core_machine.specs.machine.Value.{IsMachine}
-use Rattle.core_machine.specs.machine.Calls.{call_events}
 use Rattle.core_machine.proofs.moves.Standing.{MoveStands}
 use Rattle.core_machine.proofs.moves.{move_stands, begin_stands}
 use Rattle.core_machine.proofs.moves.Collect.{inner_stands}
@@ -61,8 +51,9 @@ runs_on heap old now events more event told is runs can = record {
       ∙ ap (λ (s : State). told ++ entries heap s event) (sym runs.ends);
 }
 
-pub call_events-more : (number : ℕ) (command : Command) (n : ℕ) → call_events number command (n + 1) ≡ call_events number command n ++ Steps number ∷ []
-call_events-more number command n = ap (λ (l : List Event). Begins number command ∷ l) (replicate_next n (Steps number))
+-- a begin with one step more
+pub begun-more : (first : Event) (number n : ℕ) → first ∷ replicate (n + 1) (Steps number) ≡ (first ∷ replicate n (Steps number)) ++ Steps number ∷ []
+begun-more first number n = ap (λ (l : List Event). first ∷ l) (replicate_next n (Steps number))
 
 -- a seat that was put in its place, and one beside it
 pub seat_at-set : (seats : List Seat) (number : ℕ) (seat : Seat) → number < length seats → get_or (set seats number seat) number absent_seat ≡ seat

@@ -1,21 +1,14 @@
 -- A machine at the step of a seat: what is known before it, and what it leaves. The machine is given by its parts, and the step is due by its value.
 use Rattle.std.proofs.Common.{◌≡◌, ℕ, ◌+◌, ◌<◌, ◌≤◌, List, length, get_or, set, Some, subst, sym}
 use Rattle.std.specs.Prelude.{IfSome}
-use Rattle.heap_model.specs.declared.heap.Heap.{Heap}
-use Rattle.core_machine.specs.declared.step.Step.{Step}
-use Rattle.core_machine.specs.table.Layout.{put, InTable}
-use Rattle.core_machine.specs.table.Decode.{FoundPointsWithin}
-use Rattle.core_machine.specs.table.Operation.{address_of, word_after}
+use Rattle.core_machine.proofs.Terms.{Heap, Step, put, InTable, FoundPointsWithin, address_of, word_after, Fits, next_move, due_step, seat_after_due, seat_at, found_by, Steps}
+use Rattle.core_machine.proofs.Terms.{state_after, SeatWithRoom, MachineValue, SpendsRoom, IsMachine}
 use Rattle.core_machine.specs.collector.Collector.{Collector}
-use Rattle.core_machine.specs.seat.Fits.{Fits}
-use Rattle.core_machine.specs.Moves.{next_move, due_step, seat_after_due}
-use Rattle.core_machine.specs.machine.Machine.{seat_at, found_by, Steps, state_after}
-use Rattle.core_machine.specs.machine.Value.{SeatWithRoom, MachineValue, SpendsRoom, IsMachine}
 use Rattle.core_machine.proofs.machine_lemmas.Parties.{state_of, value_of, fits_of}
 use Rattle.core_machine.proofs.machine_lemmas.Stepping.{due_within, step_in_table, step_found, step_machine, step_state_of, step_spends}
 
-module _ (heap : Heap) (words : List ℕ) (parties : List SeatWithRoom) (collector : Collector) (room : ℕ) (value : MachineValue) (number : ℕ) (step : Step)
-    (view : value_of heap words parties collector room ≡ value) (by_value : due_step value.heap number (seat_at value.state number) ≡ Some step) where
+module _ (heap : Heap) (words : List ℕ) (parties : List SeatWithRoom) (collector : Collector) (room gone : ℕ) (value : MachineValue) (number : ℕ) (step : Step)
+    (view : value_of heap words parties collector room gone ≡ value) (by_value : due_step value.heap number (seat_at value.state number) ≡ Some step) where
   due : due_step heap number (seat_at (state_of words parties collector) number) ≡ Some step
   due = subst (λ (v : MachineValue). due_step v.heap number (seat_at v.state number) ≡ Some step) (sym view) by_value
 
@@ -34,19 +27,19 @@ module _ (heap : Heap) (words : List ℕ) (parties : List SeatWithRoom) (collect
   pub seat_finds : (party : SeatWithRoom) (found : ℕ) → party ≡ get_or parties number party → IsMachine heap (state_of words parties collector)
       → found ≡ found_by heap (state_of words parties collector) step → IfSome (next_move heap number party.seat) (λ m. FoundPointsWithin heap (address_of m.step) found)
   seat_finds party found here machine is =
-      step_found heap words parties collector room number party party within here step found machine due is
+      step_found heap words parties collector room gone number party party within here step found machine due is
 
   -- the party that got room loses no more than its new entries take
   pub seat_spends : (party next : SeatWithRoom) (now : List ℕ) → party ≡ get_or parties number party
-      → party.spare + length party.seat.mine ≤ next.spare + length next.seat.mine → SpendsRoom value (value_of heap now (set parties number next) collector room) number
-  seat_spends party next now here own =
-      subst (λ (v : MachineValue). SpendsRoom v (value_of heap now (set parties number next) collector room) number) view
-      (step_spends heap words parties collector room number party next within here now own)
+      → next.forgotten ≡ party.forgotten → party.spare + length party.seat.mine ≤ next.spare + length next.seat.mine → SpendsRoom value (value_of heap now (set parties number next) collector room gone) number
+  seat_spends party next now here same own =
+      subst (λ (v : MachineValue). SpendsRoom v (value_of heap now (set parties number next) collector room gone) number) view
+      (step_spends heap words parties collector room gone number party next within here now same own)
 
   module _ (party next : SeatWithRoom) (found : ℕ) (now : List ℕ) (here : party ≡ get_or parties number party) (is : found ≡ found_by heap (state_of words parties collector) step)
       (now_is : now ≡ put heap words (address_of step) (word_after step found)) (moved_ : next.seat ≡ seat_after_due party.seat (next_move heap number party.seat) found) where
     step_leaves : state_of now (set parties number next) collector ≡ state_after heap (state_of words parties collector) (Steps number)
-    step_leaves = step_state_of heap words parties collector room number party next within here step found now due is now_is moved_
+    step_leaves = step_state_of heap words parties collector room gone number party next within here step found now due is now_is moved_
 
     -- it leaves the state after it
     pub seat_leaves : state_of now (set parties number next) collector ≡ state_after value.heap value.state (Steps number)
@@ -54,4 +47,4 @@ module _ (heap : Heap) (words : List ℕ) (parties : List SeatWithRoom) (collect
 
     -- and a machine
     pub seat_machine : IsMachine heap (state_of words parties collector) → IsMachine heap (state_of now (set parties number next) collector)
-    seat_machine machine = step_machine heap words parties collector room number party next within here step now due step_leaves machine
+    seat_machine machine = step_machine heap words parties collector room gone number party next within here step now due step_leaves machine

@@ -3,22 +3,15 @@ use Rattle.std.proofs.Common.{suc, ◌≡◌, ◌≢◌, ℕ, ◌+◌, ◌<◌, 
 use Rattle.std.specs.Prelude.{option_map, IsSome, IfSome}
 use Rattle.std.proofs.lemmas.Bool.{ne_eqb}
 use Rattle.std.proofs.lemmas.Bool.Decides.{leb_tells}
-use Rattle.std.proofs.lemmas.List.{length-set, length-map, map-set, get_or-set_same, get_or-set_other, set-append_left, get_or_past}
+use Rattle.std.proofs.lemmas.List.{length-set, length-map, get_or-set_same, get_or_past}
 use Rattle.std.proofs.Math.Seq.{map-set_same}
-use Rattle.heap_model.specs.declared.heap.Heap.{Heap}
+use Rattle.core_machine.proofs.Terms.{Heap, Command, Step, put, InTable, FoundPointsWithin, address_of, word_after, Seat, absent_seat, Move, next_move, due_step, seat_after_due}
+use Rattle.core_machine.proofs.Terms.{seat_at, found_by, MayBegin, MayBeginInner, after_begin, after_inner_begin, Begins, BeginsInner, Steps, state_after, state_after_due}
+use Rattle.core_machine.proofs.Terms.{SeatWithRoom, spare_of, forgotten_of, log_of, SpendsRoom, IsMachine}
 use Rattle.heap_model.specs.declared.calls.collect.Inner.{Inner}
-use Rattle.heap_model.specs.declared.command.Command.{Command}
-use Rattle.core_machine.specs.declared.step.Step.{Step}
-use Rattle.core_machine.specs.table.Layout.{put, InTable}
-use Rattle.core_machine.specs.table.Decode.{FoundPointsWithin}
-use Rattle.core_machine.specs.table.Operation.{address_of, word_after}
 use Rattle.core_machine.specs.collector.Collector.{Collector}
-use Rattle.core_machine.specs.seat.Seat.{Seat, absent_seat}
-use Rattle.core_machine.specs.Moves.{Move, next_move, due_step, seat_after_due}
-use Rattle.core_machine.specs.machine.Machine.{seat_at, found_by, MayBegin, MayBeginInner, after_begin, after_inner_begin, Begins, BeginsInner, Steps, state_after, state_after_due}
-use Rattle.core_machine.specs.machine.Value.{SeatWithRoom, spare_of, log_of, SpendsRoom, IsMachine}
 use Rattle.core_machine.proofs.machine_lemmas.Runs.{machine_after, due_within_table}
-use Rattle.core_machine.proofs.machine_lemmas.Parties.{state_of, value_of, seat_of, seats_set, spares_same, spare_at}
+use Rattle.core_machine.proofs.machine_lemmas.Parties.{state_of, value_of, seat_of, seats_set, each_same, each_at, each_here, each_other}
 
 -- a party with a step due is a seat
 pub due_within : (heap : Heap) (words : List ℕ) (parties : List SeatWithRoom) (collector : Collector) (number : ℕ) (step : Step)
@@ -48,7 +41,7 @@ due_some (Some move) step due = refl
 pub seated : (parties : List SeatWithRoom) {number : ℕ} → number < length (map (λ (s : SeatWithRoom). s.seat) parties) → number < length parties
 seated parties within = omega (arith, within, length-map parties (λ (s : SeatWithRoom). s.seat))
 
-module _ (heap : Heap) (words : List ℕ) (parties : List SeatWithRoom) (collector : Collector) (room number : ℕ) (party next : SeatWithRoom)
+module _ (heap : Heap) (words : List ℕ) (parties : List SeatWithRoom) (collector : Collector) (room gone number : ℕ) (party next : SeatWithRoom)
     (within : number < length parties) (here : party ≡ get_or parties number party) where
   -- the seat that acts
   the_seat : seat_at (state_of words parties collector) number ≡ party.seat
@@ -69,13 +62,14 @@ module _ (heap : Heap) (words : List ℕ) (parties : List SeatWithRoom) (collect
       let state = begin_state command is in
       subst (IsMachine heap) (sym state) (machine_after heap (state_of words parties collector) (Begins number command) machine (seat_within, may))
 
-  pub begin_value : (command : Command) → next.seat ≡ after_begin heap party.seat command → next.spare ≡ party.spare
-      → value_of heap words (set parties number next) collector room
-      ≡ record (value_of heap words parties collector room) { state = state_after heap (state_of words parties collector) (Begins number command) }
-  begin_value command is same =
+  pub begin_value : (command : Command) → next.seat ≡ after_begin heap party.seat command → next.spare ≡ party.spare → next.forgotten ≡ party.forgotten
+      → value_of heap words (set parties number next) collector room gone
+      ≡ record (value_of heap words parties collector room gone) { state = state_after heap (state_of words parties collector) (Begins number command) }
+  begin_value command is same still =
       let seats = seats_set parties number next (after_begin heap (seat_at (state_of words parties collector) number) command) (is ∙ ap (λ (s : Seat). after_begin heap s command) (sym the_seat)) in
-      let spares = spares_same parties number next party (same ∙ ap (λ (s : SeatWithRoom). s.spare) here) in
-      rw (seats, spares) refl
+      let spares = each_same (λ s. s.spare) parties number next party (same ∙ ap (λ (s : SeatWithRoom). s.spare) here) in
+      let forgot = each_same (λ s. s.forgotten) parties number next party (still ∙ ap (λ (s : SeatWithRoom). s.forgotten) here) in
+      rw (seats, spares, forgot) refl
 
   inner_state : (inner : Inner) → next.seat ≡ after_inner_begin party.seat inner
       → state_of words (set parties number next) collector ≡ state_after heap (state_of words parties collector) (BeginsInner number inner)
@@ -89,13 +83,14 @@ module _ (heap : Heap) (words : List ℕ) (parties : List SeatWithRoom) (collect
       let state = inner_state inner is in
       subst (IsMachine heap) (sym state) (machine_after heap (state_of words parties collector) (BeginsInner number inner) machine (seat_within, may))
 
-  pub inner_value : (inner : Inner) → next.seat ≡ after_inner_begin party.seat inner → next.spare ≡ party.spare
-      → value_of heap words (set parties number next) collector room
-      ≡ record (value_of heap words parties collector room) { state = state_after heap (state_of words parties collector) (BeginsInner number inner) }
-  inner_value inner is same =
+  pub inner_value : (inner : Inner) → next.seat ≡ after_inner_begin party.seat inner → next.spare ≡ party.spare → next.forgotten ≡ party.forgotten
+      → value_of heap words (set parties number next) collector room gone
+      ≡ record (value_of heap words parties collector room gone) { state = state_after heap (state_of words parties collector) (BeginsInner number inner) }
+  inner_value inner is same still =
       let seats = seats_set parties number next (after_inner_begin (seat_at (state_of words parties collector) number) inner) (is ∙ ap (λ (s : Seat). after_inner_begin s inner) (sym the_seat)) in
-      let spares = spares_same parties number next party (same ∙ ap (λ (s : SeatWithRoom). s.spare) here) in
-      rw (seats, spares) refl
+      let spares = each_same (λ s. s.spare) parties number next party (same ∙ ap (λ (s : SeatWithRoom). s.spare) here) in
+      let forgot = each_same (λ s. s.forgotten) parties number next party (still ∙ ap (λ (s : SeatWithRoom). s.forgotten) here) in
+      rw (seats, spares, forgot) refl
 
   step_state_by : (step : Step) (seat : Seat) (move : Option Move) → option_map (λ m. m.step) move ≡ Some step
       → next.seat ≡ seat_after_due seat move (found_by heap (state_of words parties collector) step)
@@ -140,36 +135,37 @@ module _ (heap : Heap) (words : List ℕ) (parties : List SeatWithRoom) (collect
 
   -- another party's room stays
   pub spare_other : (now : List ℕ) (other : ℕ) → other ≢ number
-      → spare_of (value_of heap now (set parties number next) collector room) other ≡ spare_of (value_of heap words parties collector room) other
-  spare_other now other apart =
-      let long = length-map parties (λ (s : SeatWithRoom). s.spare) in
-      rw (map-set (λ s. s.spare) parties number next, ← set-append_left (map (λ s. s.spare) parties) (room ∷ []) number next.spare (omega arith))
-      (get_or-set_other (map (λ s. s.spare) parties ++ room ∷ []) number other next.spare 0 apart)
+      → spare_of (value_of heap now (set parties number next) collector room gone) other ≡ spare_of (value_of heap words parties collector room gone) other
+  spare_other now other apart = each_other (λ s. s.spare) parties room number next other within apart
 
   -- the party's own room
-  pub spare_here : (now : List ℕ) → spare_of (value_of heap now (set parties number next) collector room) number ≡ next.spare
-  spare_here now =
-      spare_at heap now (set parties number next) collector room number party (omega (arith, length-set parties number next)) ∙ ap (λ (s : SeatWithRoom). s.spare) (get_or-set_same parties number next party within)
+  pub spare_here : (now : List ℕ) → spare_of (value_of heap now (set parties number next) collector room gone) number ≡ next.spare
+  spare_here now = each_here (λ s. s.spare) parties room number next within
 
-  pub spare_before : spare_of (value_of heap words parties collector room) number ≡ party.spare
-  spare_before = spare_at heap words parties collector room number party within ∙ sym (ap (λ (s : SeatWithRoom). s.spare) here)
+  pub spare_before : spare_of (value_of heap words parties collector room gone) number ≡ party.spare
+  spare_before = each_at (λ s. s.spare) parties room number party within ∙ sym (ap (λ (s : SeatWithRoom). s.spare) here)
 
-  log_before : log_of (value_of heap words parties collector room) number ≡ party.seat.mine
+  -- and what was forgotten of its entries
+  pub forgotten_before : forgotten_of (value_of heap words parties collector room gone) number ≡ party.forgotten
+  forgotten_before = each_at (λ s. s.forgotten) parties gone number party within ∙ sym (ap (λ (s : SeatWithRoom). s.forgotten) here)
+
+  pub log_before : log_of (value_of heap words parties collector room gone) number ≡ party.seat.mine
   log_before =
       let long = length-map parties (λ (s : SeatWithRoom). s.seat) in
       let seat_ : eqb number (length (map (λ s. s.seat) parties)) ≡ false = ne_eqb number (length (map (λ s. s.seat) parties)) (λ e. absurd (omega arith)) in
       rw seat_ (ap (λ (s : Seat). s.mine) the_seat)
 
-  log_here : (now : List ℕ) → log_of (value_of heap now (set parties number next) collector room) number ≡ next.seat.mine
+  log_here : (now : List ℕ) → log_of (value_of heap now (set parties number next) collector room gone) number ≡ next.seat.mine
   log_here now =
       let long = length-map (set parties number next) (λ (s : SeatWithRoom). s.seat) in
       let same = length-set parties number next in
       let seat_ : eqb number (length (map (λ s. s.seat) (set parties number next))) ≡ false = ne_eqb number (length (map (λ s. s.seat) (set parties number next))) (λ e. absurd (omega arith)) in
       rw seat_ (ap (λ (s : Seat). s.mine) (seat_of now (set parties number next) collector number party (omega arith) ∙ ap (λ (s : SeatWithRoom). s.seat) (get_or-set_same parties number next party within)))
 
-  pub step_spends : (now : List ℕ) → party.spare + length party.seat.mine ≤ next.spare + length next.seat.mine
-      → SpendsRoom (value_of heap words parties collector room) (value_of heap now (set parties number next) collector room) number
-  step_spends now own = record {
+  pub step_spends : (now : List ℕ) → next.forgotten ≡ party.forgotten → party.spare + length party.seat.mine ≤ next.spare + length next.seat.mine
+      → SpendsRoom (value_of heap words parties collector room gone) (value_of heap now (set parties number next) collector room gone) number
+  step_spends now same own = record {
+    forgotten = ap (λ (l : List ℕ). l ++ gone ∷ []) (each_same (λ s. s.forgotten) parties number next party (same ∙ ap (λ (s : SeatWithRoom). s.forgotten) here));
     own = rw (spare_before, log_before, spare_here now, log_here now) own;
     others = λ other apart. spare_other now other apart;
   }

@@ -1,18 +1,11 @@
 -- How an array asks for its spine words, and how its spine is made.
 use Rattle.std.proofs.Common.{◌≡◌, ℕ, ◌+◌, ◌<◌, [], length, refl, ap, arith}
 use Rattle.heap_words.specs.Spot.{spot_in}
-use Rattle.heap_model.specs.declared.command.Command.TheVariants.{Array}
-use Rattle.heap_model.specs.declared.heap.Heap.{Heap}
-use Rattle.core_machine.specs.Moves.{grant_move, withdraw_move, placing_move, listing_move}
-use Rattle.core_machine.specs.declared.place.Making.TheVariants.{Granting, Withdrawing, Placing, Listing}
+use Rattle.core_machine.proofs.Terms.{Array, Heap, grant_move, withdraw_move, placing_move, listing_move, Granting, Withdrawing, Placing, Listing, found_by, entries_awaited, Fits}
+use Rattle.core_machine.proofs.Terms.{FitsMaking, HasArrayBody, SeatIsGranting, after_budget, after_listing, list_place, Seat, spine_need, with_entries, owes_making, making_steps}
+use Rattle.core_machine.proofs.Terms.{Nears}
 use Rattle.core_machine.specs.declared.place.Place.TheVariants as places
-use Rattle.core_machine.specs.machine.Machine.{found_by}
-use Rattle.core_machine.specs.seat.Awaiting.{entries_awaited}
-use Rattle.core_machine.specs.seat.Fits.{Fits, FitsMaking, HasArrayBody, SeatIsGranting}
-use Rattle.core_machine.specs.seat.Making.{after_budget, after_listing, list_place}
-use Rattle.core_machine.specs.seat.Seat.{Seat, spine_need, with_entries}
 use Rattle.core_machine.proofs.call_lemmas.Awaits.{plain, after_words, goes_on_mine}
-use Rattle.core_machine.specs.calls.Owes.{owes_making, making_steps, Nears}
 use Rattle.core_machine.proofs.moves.Gather.{nears_gathered, goes_on_awaits}
 use Rattle.core_machine.proofs.moves.Standing.{PlaceStands, CommandStands, present_at, aside_at, aside_ready, rest_ready, resting_begins}
 use Rattle.core_machine.proofs.seat_lemmas.Aside.{IsAside, gone_aside, fits_over, fits_spine}

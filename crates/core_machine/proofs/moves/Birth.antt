@@ -3,20 +3,12 @@ use Rattle.std.proofs.Common.{◌≡◌, ℕ, ◌+◌, ◌-◌, ◌*◌, ◌/◌
 use Rattle.std.proofs.lemmas.Bool.Decides.{eqb_tells}
 use Rattle.std.proofs.lemmas.List.{length-set}
 use Rattle.std.proofs.lemmas.List.Elements.{All-take, All-set}
-use Rattle.heap_model.specs.declared.heap.Heap.{Heap}
-use Rattle.core_machine.specs.Moves.{bearing_move, is_last_birth, birth_move, last_birth_move, bears_black_of}
-use Rattle.core_machine.specs.declared.place.Making.TheVariants.{Storing, Bearing}
+use Rattle.core_machine.proofs.Terms.{Heap, bearing_move, is_last_birth, birth_move, last_birth_move, bears_black_of, Storing, Bearing, Object, target_of, HasBody, SpineIsListed}
+use Rattle.core_machine.proofs.Terms.{FitsMaking, Fits, FitsRegister, after_store, after_birth, after_last_birth, last_group_of, last_run, before_run, store_place, next_object_id}
+use Rattle.core_machine.proofs.Terms.{next_name, Seat, with_entries, mask_of, birth_bits_of, Nears}
 use Rattle.core_machine.specs.declared.place.Place.TheVariants as places
-use Rattle.core_machine.specs.declared.seat.register.Register.TheVariants.{Object}
-use Rattle.core_machine.specs.seat.Commands.{target_of}
-use Rattle.core_machine.specs.seat.Fits.{HasBody, SpineIsListed, FitsMaking, Fits, FitsRegister}
-use Rattle.core_machine.specs.seat.Making.{after_store, after_birth, after_last_birth, last_group_of, last_run, before_run, store_place, next_object_id, next_name}
 use Rattle.core_machine.specs.seat.MakingMoves.{store_move, last_part}
-use Rattle.core_machine.specs.seat.Seat.{Seat, with_entries}
-use Rattle.core_machine.specs.table.Fragments.{mask_of}
-use Rattle.core_machine.specs.table.Operation.{birth_bits_of}
 use Rattle.core_machine.proofs.call_lemmas.Awaits.{plain}
-use Rattle.core_machine.specs.calls.Owes.{Nears}
 use Rattle.core_machine.proofs.moves.Standing.{IsAt, MoveStands, PlaceStands, aside_at}
 use Rattle.core_machine.proofs.seat_lemmas.Aside.{IsAside, gone_aside, fits_over, fits_hand}
 use Rattle.core_machine.proofs.seat_lemmas.Fitting.{need_of_object}

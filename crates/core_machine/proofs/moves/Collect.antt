@@ -4,22 +4,16 @@ use Rattle.heap_model.specs.declared.calls.collect.CollectReply.{CollectReply}
 use Rattle.heap_model.specs.declared.calls.collect.Inner.{Inner}
 use Rattle.heap_model.specs.declared.calls.collect.Inner.TheVariants as inners
 use Rattle.heap_model.specs.declared.command.Command.TheVariants as commands
-use Rattle.heap_model.specs.declared.heap.Heap.{Heap}
+use Rattle.core_machine.proofs.Terms.{Heap, Place, PollLoad, Turning, MayBeginInner, after_inner_begin, entries_awaited, entries_awaited_at, Fits, FitsPlace, FitsWay, FitsAnswer}
+use Rattle.core_machine.proofs.Terms.{IsAtRest, Seat, call_over, after_call, owes, owes_at}
 use Rattle.core_machine.specs.declared.place.Collecting.{Collecting}
 use Rattle.core_machine.specs.declared.place.Collecting.TheVariants.{Looking, Asking, Comparing, Noting}
-use Rattle.core_machine.specs.declared.place.Place.{Place}
 use Rattle.core_machine.specs.declared.place.Place.TheVariants as places
 use Rattle.core_machine.specs.declared.place.Polling.TheVariants as polling
-use Rattle.core_machine.specs.declared.step.Step.TheVariants.{PollLoad, Turning}
 use Rattle.core_machine.specs.declared.step.TurningStep.TheVariants.{LookLoad}
-use Rattle.core_machine.specs.machine.Machine.{MayBeginInner, after_inner_begin}
-use Rattle.core_machine.specs.seat.Awaiting.{entries_awaited, entries_awaited_at}
 use Rattle.core_machine.specs.seat.Collecting.{after_asking, look_move, asking_move, comparing_move, note_move}
-use Rattle.core_machine.specs.seat.Fits.{Fits, FitsPlace, FitsWay, FitsAnswer, IsAtRest}
 use Rattle.core_machine.specs.seat.Looks.{Looks, MayMake, looked, seen_phase, compared}
-use Rattle.core_machine.specs.seat.Seat.{Seat, call_over, after_call}
 use Rattle.core_machine.proofs.call_lemmas.Awaits.{plain}
-use Rattle.core_machine.specs.calls.Owes.{owes, owes_at}
 use Rattle.core_machine.proofs.moves.Standing.{IsAt, PlaceStands, present_at}
 use Rattle.core_machine.proofs.seat_lemmas.Aside.{IsAside, gone_aside, aside_idle, fits_over, fits_ended}
 use Rattle.core_machine.proofs.table_lemmas.StepStands.{load_stands}

@@ -7,25 +7,15 @@ use Rattle.std.proofs.lemmas.List.Filters.{length-filter_both}
 use Rattle.std.proofs.lemmas.Nat.{and_le_r, or_lt}
 use Rattle.std.specs.List.{All}
 use Rattle.heap_model.specs.account.Space.{need_of}
-use Rattle.heap_model.specs.declared.command.Command.{Command}
-use Rattle.heap_model.specs.declared.command.Command.TheVariants.{New}
+use Rattle.core_machine.proofs.Terms.{Command, New, Entry, Heap, refusal_step, Gathering, Returning, Refusing, PollLoad, found_by, MayBegin, after_begin, entries_awaited, Fits}
+use Rattle.core_machine.proofs.Terms.{MakesNext, SeatIsGathering, SeatIsRefusing, FitsPlace, after_gather, after_claim, after_give_back, next_group_of, first_group_of}
+use Rattle.core_machine.proofs.Terms.{refusal_place, fragments_gathered, gather_next, Seat, need, spine_need, with_entries, clear_in, part_out, in_group, out_of_group, part_in}
+use Rattle.core_machine.proofs.Terms.{mask_of, all_taken, owes_making, making_steps, Nears, owes}
 use Rattle.heap_model.specs.declared.command.Command.TheVariants as commands
-use Rattle.heap_model.specs.declared.entry.Entry.{Entry}
-use Rattle.heap_model.specs.declared.heap.Heap.{Heap}
-use Rattle.core_machine.specs.Moves.{takes_some, refusal_step}
-use Rattle.core_machine.specs.declared.place.Making.TheVariants.{Gathering, Returning, Refusing}
+use Rattle.core_machine.specs.Moves.{takes_some}
 use Rattle.core_machine.specs.declared.place.Place.TheVariants as places
-use Rattle.core_machine.specs.declared.step.Step.TheVariants.{PollLoad}
-use Rattle.core_machine.specs.machine.Machine.{found_by, MayBegin, after_begin}
-use Rattle.core_machine.specs.seat.Awaiting.{entries_awaited}
-use Rattle.core_machine.specs.seat.Fits.{Fits, MakesNext, SeatIsGathering, SeatIsRefusing, FitsPlace}
-use Rattle.core_machine.specs.seat.Making.{after_gather, after_claim, after_give_back, next_group_of, first_group_of, refusal_place, fragments_gathered, gather_next}
 use Rattle.core_machine.specs.seat.MakingMoves.{claim_move, first_part, give_back_move, refusal_looks, refusal_move}
-use Rattle.core_machine.specs.seat.Seat.{Seat, need, spine_need, with_entries}
-use Rattle.core_machine.specs.table.Fragments.{clear_in, part_out, in_group, out_of_group, part_in, mask_of}
-use Rattle.core_machine.specs.table.Operation.{all_taken}
 use Rattle.core_machine.proofs.call_lemmas.Awaits.{plain, after_words, goes_on_mine}
-use Rattle.core_machine.specs.calls.Owes.{owes_making, making_steps, Nears, owes}
 use Rattle.core_machine.proofs.moves.Standing.{PlaceStands, present_at, aside_at, CommandStands, rest_ready}
 use Rattle.core_machine.proofs.seat_lemmas.Aside.{IsAside, gone_aside, fits_over, fits_hand, aside_idle}
 use Rattle.core_machine.proofs.seat_lemmas.Fitting.{need_of_object, fits_goes_on, fits_returning, goes_on_cases, returning_cases, settled_cases, gathers_at_rest, next_within}

@@ -4,22 +4,11 @@ use Rattle.std.specs.Prelude.{IsSome}
 use Rattle.heap_words.specs.Cell.{cell_of}
 use Rattle.heap_words.specs.declared.kind.Kind.{Kind}
 use Rattle.heap_words.specs.declared.kind.Kind.TheVariants as kinds
-use Rattle.heap_model.specs.declared.heap.Heap.{Heap}
+use Rattle.core_machine.proofs.Terms.{Heap, Getting, Naming, Object, Word, found_by, entries_awaited, Fits, FitsRegister, SeatIsAtGet, after_get, Seat, with_entries, head_of}
+use Rattle.core_machine.proofs.Terms.{id_of, plain_of, plain_register, IsWithinHeap, Nears}
 use Rattle.core_machine.specs.declared.place.Place.TheVariants as places
-use Rattle.core_machine.specs.declared.place.Access.TheVariants.{Getting, Naming}
-use Rattle.core_machine.specs.declared.seat.register.Register.TheVariants.{Object}
-use Rattle.core_machine.specs.declared.table.address.Address.TheVariants.{Word}
-use Rattle.core_machine.specs.machine.Machine.{found_by}
-use Rattle.core_machine.specs.seat.Awaiting.{entries_awaited}
-use Rattle.core_machine.specs.seat.Fits.{Fits, FitsRegister}
-use Rattle.core_machine.specs.seat.FitsAccess.{SeatIsAtGet}
-use Rattle.core_machine.specs.seat.Access.{after_get}
 use Rattle.core_machine.specs.seat.AccessMoves.{loaded_head_of, got_adds, got_shows, get_move, name_move}
-use Rattle.core_machine.specs.seat.Seat.{Seat, with_entries}
-use Rattle.heap_words.specs.Loaded.{head_of}
-use Rattle.core_machine.specs.table.Decode.{id_of, plain_of, plain_register, IsWithinHeap}
 use Rattle.core_machine.proofs.call_lemmas.Awaits.{after_words}
-use Rattle.core_machine.specs.calls.Owes.{Nears}
 use Rattle.core_machine.proofs.moves.Standing.{PlaceStands, rests_at}
 use Rattle.core_machine.proofs.seat_lemmas.FittingAccess.{Rests, fits_access, fits_filled}
 use Rattle.core_machine.proofs.table_lemmas.Addresses.{put-at}

@@ -4,17 +4,9 @@ use Rattle.std.proofs.lemmas.List.{length-set}
 use Rattle.std.proofs.lemmas.List.Elements.{All-set}
 use Rattle.std.specs.List.{All}
 use Rattle.heap_model.specs.Command.{IsCommand}
-use Rattle.heap_model.specs.declared.command.Command.{Command}
+use Rattle.core_machine.proofs.Terms.{Command, Heap, local_move, Register, Nil, Number, PollLoad, Fits, FitsRegister, IsLocal, register_in, Seat, with_seen}
 use Rattle.heap_model.specs.declared.command.Command.TheVariants as commands
-use Rattle.heap_model.specs.declared.heap.Heap.{Heap}
-use Rattle.core_machine.specs.Moves.{local_move}
 use Rattle.core_machine.specs.declared.place.Place.TheVariants as places
-use Rattle.core_machine.specs.declared.seat.register.Register.{Register}
-use Rattle.core_machine.specs.declared.seat.register.Register.TheVariants.{Nil, Number}
-use Rattle.core_machine.specs.declared.step.Step.TheVariants.{PollLoad}
-use Rattle.core_machine.specs.seat.Fits.{Fits, FitsRegister, IsLocal}
-use Rattle.core_machine.specs.seat.Registers.{register_in}
-use Rattle.core_machine.specs.seat.Seat.{Seat, with_seen}
 use Rattle.core_machine.specs.seat.Local.{after_local, local_registers}
 use Rattle.core_machine.proofs.call_lemmas.Awaits.{plain}
 use Rattle.core_machine.proofs.moves.Standing.{PlaceStands, present_at, BeginStands, IsReady, aside_ready, rest_ready, resting_begins}

@@ -1,28 +1,13 @@
 -- A call opens an object, by its meta.
 use Rattle.std.proofs.Common.{◌≡◌, ℕ, ◌+◌, ◌%◌, [], length, inl, refl, arith, List, subst, sym, Option, Some, None, ap}
 use Rattle.std.specs.Prelude.{IsSome}
-use Rattle.heap_model.specs.declared.command.Command.{Command}
-use Rattle.heap_model.specs.declared.command.Command.TheVariants.{Get, Set, Len}
+use Rattle.core_machine.proofs.Terms.{Command, Get, Set, Len, Heap, Reply, LoadingMeta, Locating, Register, Nil, Number, Object, found_by, entries_awaited, object_of, field_of}
+use Rattle.core_machine.proofs.Terms.{Fits, FitsRegister, IsLocal, NamesObject, NamesField, SeatIsAtHead, row_of, part_of, with_field_place, after_length, meta_reply_of}
+use Rattle.core_machine.proofs.Terms.{after_meta, access_start, register_head, register_in, Seat, with_entries, pointer_in, array_length_of, IsWithinHeap, Nears}
 use Rattle.heap_model.specs.declared.command.Command.TheVariants as commands
-use Rattle.heap_model.specs.declared.heap.Heap.{Heap}
-use Rattle.heap_model.specs.declared.reply.Reply.{Reply}
 use Rattle.core_machine.specs.declared.place.Place.TheVariants as places
-use Rattle.core_machine.specs.declared.place.Access.TheVariants.{LoadingMeta, Locating}
-use Rattle.core_machine.specs.declared.seat.register.Register.{Register}
-use Rattle.core_machine.specs.declared.seat.register.Register.TheVariants.{Nil, Number, Object}
-use Rattle.core_machine.specs.machine.Machine.{found_by}
-use Rattle.core_machine.specs.seat.Awaiting.{entries_awaited}
-use Rattle.core_machine.specs.seat.Commands.{object_of, field_of}
-use Rattle.core_machine.specs.seat.Fits.{Fits, FitsRegister, IsLocal}
-use Rattle.core_machine.specs.seat.FitsAccess.{NamesObject, NamesField, SeatIsAtHead}
-use Rattle.core_machine.specs.seat.Access.{row_of, part_of, with_field_place, after_length, meta_reply_of, after_meta, access_start}
 use Rattle.core_machine.specs.seat.AccessMoves.{reply_entries_if, open_move}
-use Rattle.core_machine.specs.seat.Registers.{register_head, register_in}
-use Rattle.core_machine.specs.seat.Seat.{Seat, with_entries}
-use Rattle.heap_words.specs.Loaded.{pointer_in, array_length_of}
-use Rattle.core_machine.specs.table.Decode.{IsWithinHeap}
 use Rattle.core_machine.proofs.call_lemmas.Awaits.{plain, after_words}
-use Rattle.core_machine.specs.calls.Owes.{Nears}
 use Rattle.core_machine.proofs.moves.Standing.{PlaceStands, rests_at, BeginStands, IsReady, aside_ready, rest_ready}
 use Rattle.core_machine.proofs.moves.Local.{tell_begins}
 use Rattle.core_machine.proofs.moves.Walk.{fits_onward, nears_onward, onward_awaits, onward_mine}

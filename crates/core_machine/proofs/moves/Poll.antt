@@ -2,25 +2,15 @@
 use Rattle.std.proofs.Common.{◌≡◌, ℕ, ◌+◌, ◌-◌, ◌^◌, ◌<◌, ◌≤◌, false, [], length, inl, inr, refl, sym, subst, arith, List, ◌∷◌, get_or, suc, ◌≢◌}
 use Rattle.std.proofs.lemmas.Bool.Decides.{eqb_tells, leb_tells}
 use Rattle.heap_model.specs.declared.command.Command.TheVariants as commands
-use Rattle.heap_model.specs.declared.entry.Entry.{Entry}
-use Rattle.heap_model.specs.declared.entry.Entry.TheVariants.{Answers}
-use Rattle.heap_model.specs.declared.heap.Heap.{Heap}
-use Rattle.core_machine.specs.Moves.{seat_after}
-use Rattle.core_machine.specs.declared.place.Place.{Place}
+use Rattle.core_machine.proofs.Terms.{Entry, Answers, Heap, seat_after, Place, PollLoad, found_by, entries_awaited, FitsPlace, FitsWay, FitsAnswer, IsAtRest, AnswersThePhase, Fits}
+use Rattle.core_machine.proofs.Terms.{IsNowhere, Seat, with_seen, after_call, with_entries, Nears}
 use Rattle.core_machine.specs.declared.place.Place.TheVariants as places
 use Rattle.core_machine.specs.declared.place.Polling.{Polling}
 use Rattle.core_machine.specs.declared.place.Polling.TheVariants.{Asking, Shading, Answering}
-use Rattle.core_machine.specs.declared.step.Step.TheVariants.{PollLoad}
-use Rattle.core_machine.specs.machine.Machine.{found_by}
 use Rattle.core_machine.specs.seat.HandshakeMoves.{poll_move, root_move, answer_move}
-use Rattle.core_machine.specs.seat.Awaiting.{entries_awaited}
-use Rattle.core_machine.specs.seat.Fits.{FitsPlace, FitsWay, FitsAnswer, IsAtRest, AnswersThePhase, Fits}
-use Rattle.core_machine.specs.seat.FitsAccess.{IsNowhere}
 use Rattle.core_machine.proofs.seat_lemmas.PollingOver.{over_cases}
 use Rattle.core_machine.specs.seat.Handshake.{polling_over, after_phase_load, after_root_shade, after_answer, roots, answer_next}
-use Rattle.core_machine.specs.seat.Seat.{Seat, with_seen, after_call, with_entries}
 use Rattle.core_machine.proofs.call_lemmas.Awaits.{plain, after_words}
-use Rattle.core_machine.specs.calls.Owes.{Nears}
 use Rattle.core_machine.proofs.moves.Standing.{IsAt, PlaceStands, present_at, CommandStands, aside_ready, rest_ready, resting_begins}
 use Rattle.core_machine.proofs.seat_lemmas.Aside.{gone_aside, fits_over, fits_ended}
 use Rattle.core_machine.proofs.table_lemmas.StepStands.{load_stands, shade_stands}

@@ -1,24 +1,12 @@
 -- A set, with the barrier on or off.
 use Rattle.std.proofs.Common.{◌≡◌, ℕ, ◌+◌, ◌*◌, ◌^◌, ◌<◌, ◌≤◌, [], refl, arith, List, subst, sym, true, Option, Some, None}
 use Rattle.std.specs.Prelude.{IsSome, unwrap_or}
-use Rattle.heap_model.specs.declared.entry.Entry.{Entry}
-use Rattle.heap_model.specs.declared.heap.Heap.{Heap}
+use Rattle.core_machine.proofs.Terms.{Entry, Heap, LoadingOld, ShadingOld, ShadingNew, Swapping, found_by, entries_awaited, source_of, Fits, FitsRegister, SeatIsAtSet, after_old}
+use Rattle.core_machine.proofs.Terms.{after_old_load, at_access, has_barrier_of, new_place_of, register_in, register_head, Seat, with_entries, head_of, IsWithinHeap, Nears}
 use Rattle.heap_model.specs.graph.Growth.{set_stamp}
 use Rattle.core_machine.specs.declared.place.Place.TheVariants as places
-use Rattle.core_machine.specs.declared.place.Access.TheVariants.{LoadingOld, ShadingOld, ShadingNew, Swapping}
-use Rattle.core_machine.specs.machine.Machine.{found_by}
-use Rattle.core_machine.specs.seat.Awaiting.{entries_awaited}
-use Rattle.core_machine.specs.seat.Commands.{source_of}
-use Rattle.core_machine.specs.seat.Fits.{Fits, FitsRegister}
-use Rattle.core_machine.specs.seat.FitsAccess.{SeatIsAtSet}
-use Rattle.core_machine.specs.seat.Access.{after_old, after_old_load, at_access, has_barrier_of, new_place_of}
 use Rattle.core_machine.specs.seat.AccessMoves.{loaded_head_of, new_register_of, old_move, shade_old_move, shade_new_move, swap_move}
-use Rattle.core_machine.specs.seat.Registers.{register_in, register_head}
-use Rattle.core_machine.specs.seat.Seat.{Seat, with_entries}
-use Rattle.heap_words.specs.Loaded.{head_of}
-use Rattle.core_machine.specs.table.Decode.{IsWithinHeap}
 use Rattle.core_machine.proofs.call_lemmas.Awaits.{plain, after_words}
-use Rattle.core_machine.specs.calls.Owes.{Nears}
 use Rattle.core_machine.proofs.moves.Standing.{PlaceStands, rests_at}
 use Rattle.core_machine.proofs.seat_lemmas.Aside.{gone_aside}
 use Rattle.core_machine.proofs.seat_lemmas.FittingAccess.{Rests, fits_access, fits_closed}

@@ -1,20 +1,11 @@
 -- The way to a cell of an array, by its spine.
 use Rattle.std.proofs.Common.{ℕ, ◌*◌, ◌<◌, [], refl, arith}
-use Rattle.heap_model.specs.declared.heap.Heap.{Heap}
-use Rattle.core_machine.specs.declared.place.Access.TheVariants.{Locating, Indexing}
+use Rattle.core_machine.proofs.Terms.{Heap, Locating, Indexing, found_by, after_index, field_place_of, row_of, field_of, Fits, SeatIsAtSentinel, Seat, with_entries, payload_in}
+use Rattle.core_machine.proofs.Terms.{Nears}
 use Rattle.core_machine.specs.declared.place.Place.TheVariants as places
-use Rattle.core_machine.specs.machine.Machine.{found_by}
 use Rattle.heap_words.specs.Spot.{spot_in}
-use Rattle.core_machine.specs.seat.Access.{after_index, field_place_of}
 use Rattle.core_machine.specs.seat.AccessMoves.{locate_move, index_move}
-use Rattle.core_machine.specs.seat.Commands.{field_of}
-use Rattle.core_machine.specs.seat.Access.{row_of}
-use Rattle.core_machine.specs.seat.Fits.{Fits}
-use Rattle.core_machine.specs.seat.FitsAccess.{SeatIsAtSentinel}
-use Rattle.core_machine.specs.seat.Seat.{Seat, with_entries}
-use Rattle.heap_words.specs.Loaded.{payload_in}
 use Rattle.core_machine.proofs.call_lemmas.Awaits.{plain, after_words}
-use Rattle.core_machine.specs.calls.Owes.{Nears}
 use Rattle.core_machine.proofs.moves.Standing.{PlaceStands, rests_at}
 use Rattle.core_machine.proofs.moves.Walk.{field_fits, field_few, field_awaits}
 use Rattle.core_machine.proofs.seat_lemmas.FittingAccess.{Rests, fits_access, fits_addressed}

@@ -1,23 +1,12 @@
 -- What is asked of each move of a seat, and of each begin.
 use Rattle.std.proofs.Common.{◌≡◌, ℕ, ◌<◌, ◌^◌, false, List, length, refl, subst, ◌+◌, ◌*◌, ◌≤◌, []}
 use Rattle.std.specs.Prelude.{IfSome}
-use Rattle.heap_model.specs.Heap.{IsHeap}
+use Rattle.core_machine.proofs.Terms.{IsHeap, Command, Heap, Move, move_at, seat_after, Place, State, MayBegin, after_begin, entries_awaited, entries_awaited_at, Fits, FitsPlace}
+use Rattle.core_machine.proofs.Terms.{FitsWay, FitsAnswer, IsSilent, IsAtRest, IsNowhere, Seat, FoundPointsWithin, address_of, owes_at, steps_at, Nears, owes}
 use Rattle.heap_model.specs.account.Space.{need_of}
-use Rattle.heap_model.specs.declared.command.Command.{Command}
-use Rattle.heap_model.specs.declared.heap.Heap.{Heap}
-use Rattle.core_machine.specs.Moves.{Move, move_at, seat_after}
-use Rattle.core_machine.specs.declared.place.Place.{Place}
 use Rattle.core_machine.specs.declared.place.Place.TheVariants as places
 use Rattle.core_machine.specs.declared.place.Access.{Access}
-use Rattle.core_machine.specs.machine.Machine.{State, MayBegin, after_begin}
-use Rattle.core_machine.specs.seat.Awaiting.{entries_awaited, entries_awaited_at}
-use Rattle.core_machine.specs.seat.Fits.{Fits, FitsPlace, FitsWay, FitsAnswer, IsSilent, IsAtRest}
-use Rattle.core_machine.specs.seat.FitsAccess.{IsNowhere}
-use Rattle.core_machine.specs.seat.Seat.{Seat}
-use Rattle.core_machine.specs.table.Decode.{FoundPointsWithin}
-use Rattle.core_machine.specs.table.Operation.{address_of}
 use Rattle.core_machine.proofs.call_lemmas.Awaits.{Adds}
-use Rattle.core_machine.specs.calls.Owes.{owes_at, steps_at, Nears, owes}
 use Rattle.core_machine.proofs.seat_lemmas.Aside.{IsAside, present_busy, aside_idle, gone_aside}
 use Rattle.core_machine.proofs.seat_lemmas.FittingAccess.{Rests}
 use Rattle.core_machine.proofs.table_lemmas.StepStands.{StepStands}

@@ -2,24 +2,12 @@
 use Rattle.std.proofs.Common.{◌≡◌, ℕ, ◌+◌, ◌-◌, ◌*◌, ◌<◌, ◌≤◌, [], inl, inr, refl, arith, List, subst, sym, Option, Some, None, ◌⊎◌}
 use Rattle.std.proofs.lemmas.Bool.Decides.{eqb_tells}
 use Rattle.std.specs.Prelude.{unwrap_or}
-use Rattle.heap_model.specs.declared.command.Command.{Command}
-use Rattle.heap_model.specs.declared.command.Command.TheVariants.{Get, Set}
-use Rattle.heap_model.specs.declared.entry.Entry.{Entry}
-use Rattle.heap_model.specs.declared.heap.Heap.{Heap}
+use Rattle.core_machine.proofs.Terms.{Command, Get, Set, Entry, Heap, Walking, found_by, entries_awaited_at, entries_awaited, field_of, Fits, FitsAccess, IsAtField, IsGet, IsSet}
+use Rattle.core_machine.proofs.Terms.{NamesField, WorksOnObject, after_walk, at_access, row_of, has_barrier_of, field_place_of, way_place_of, after_link, Seat, with_entries}
+use Rattle.core_machine.proofs.Terms.{pointer_in, link_of, IsWithinHeap, access_steps, Nears}
 use Rattle.core_machine.specs.declared.place.Place.TheVariants as places
-use Rattle.core_machine.specs.declared.place.Access.TheVariants.{Walking}
-use Rattle.core_machine.specs.machine.Machine.{found_by}
-use Rattle.core_machine.specs.seat.Awaiting.{entries_awaited_at, entries_awaited}
-use Rattle.core_machine.specs.seat.Commands.{field_of}
-use Rattle.core_machine.specs.seat.Fits.{Fits}
-use Rattle.core_machine.specs.seat.FitsAccess.{FitsAccess, IsAtField, IsGet, IsSet, NamesField, WorksOnObject}
-use Rattle.core_machine.specs.seat.Access.{after_walk, at_access, row_of, has_barrier_of, field_place_of, way_place_of, after_link}
 use Rattle.core_machine.specs.seat.AccessMoves.{walk_move}
-use Rattle.core_machine.specs.seat.Seat.{Seat, with_entries}
-use Rattle.heap_words.specs.Loaded.{pointer_in, link_of}
-use Rattle.core_machine.specs.table.Decode.{IsWithinHeap}
 use Rattle.core_machine.proofs.call_lemmas.Awaits.{plain, after_words}
-use Rattle.core_machine.specs.calls.Owes.{access_steps, Nears}
 use Rattle.core_machine.proofs.moves.Standing.{PlaceStands, rests_at}
 use Rattle.core_machine.proofs.seat_lemmas.FieldPlaces.{field_cases}
 use Rattle.core_machine.proofs.seat_lemmas.FittingAccess.{Rests, fits_access}

@@ -5,30 +5,19 @@ use Rattle.std.specs.Prelude.{nat_lt}
 use Rattle.std.proofs.lemmas.Bool.Decides.{eqb_tells}
 use Rattle.heap_model.specs.Limits.{register_count}
 use Rattle.heap_model.specs.calls.SeatCalls.{last_gives}
-use Rattle.heap_model.specs.declared.command.Command.{Command}
+use Rattle.core_machine.proofs.Terms.{Command, Entry, Said, GivesBack, Answers, Heap, Kept, kept_of, kept_replied, StageAt, HasAsked, HasEmptied, AnswersLocally, HasLeft, IsDoneBy}
+use Rattle.core_machine.proofs.Terms.{StandsOn, AnswersFirst, ComesFirst, IsAnswered, Nil, Step, IsBeside, local_move, IsLocal, register_in, value_of, is_same_value, Seat}
+use Rattle.core_machine.proofs.Terms.{with_seen, after_call, with_entries}
 use Rattle.heap_model.specs.declared.command.Command.TheVariants as commands
-use Rattle.heap_model.specs.declared.entry.Entry.{Entry}
-use Rattle.heap_model.specs.declared.entry.Entry.TheVariants.{Said, GivesBack, Answers}
-use Rattle.heap_model.specs.declared.heap.Heap.{Heap}
 use Rattle.heap_model.specs.declared.reply.Reply.TheVariants as replies
-use Rattle.core_machine.specs.calls.Kept.{Kept, kept_of, kept_replied}
-use Rattle.core_machine.specs.calls.OwnStage.{StageAt, HasAsked, HasEmptied}
-use Rattle.core_machine.specs.calls.Replies.{AnswersLocally, HasLeft, IsDoneBy, StandsOn, AnswersFirst, ComesFirst, IsAnswered}
 use Rattle.core_machine.specs.declared.place.Leaving.TheVariants.{Emptying, Parting}
 use Rattle.core_machine.specs.declared.place.Place.TheVariants as places
 use Rattle.core_machine.specs.declared.place.Polling.TheVariants.{Asking, Shading, Answering}
-use Rattle.core_machine.specs.declared.seat.register.Register.TheVariants.{Nil}
-use Rattle.core_machine.specs.declared.step.Step.{Step}
 use Rattle.core_machine.specs.declared.step.Step.TheVariants as steps
-use Rattle.core_machine.specs.machine.Calls.{IsBeside}
-use Rattle.core_machine.specs.Moves.{local_move}
-use Rattle.core_machine.specs.seat.Fits.{IsLocal}
 use Rattle.core_machine.specs.seat.Handshake.{roots, answer_next, after_phase_load}
 use Rattle.core_machine.specs.seat.HandshakeMoves.{poll_adds, empty_move, leave_move}
 use Rattle.core_machine.specs.seat.Local.{answer_of, local_reply_of}
 use Rattle.core_machine.specs.seat.Looks.{forgotten}
-use Rattle.core_machine.specs.seat.Registers.{register_in, value_of, is_same_value}
-use Rattle.core_machine.specs.seat.Seat.{Seat, with_seen, after_call, with_entries}
 use Rattle.core_machine.proofs.call_lemmas.RepliesAlone.{local_alone}
 use Rattle.core_machine.proofs.own_stages.Leading.{PlaceLeads, quiet, from_untold, answered_alone}
 use Rattle.core_machine.proofs.seat_lemmas.PollingOver.{over_cases}

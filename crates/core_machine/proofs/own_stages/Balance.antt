@@ -1,21 +1,13 @@
 -- What a call took is what it spent, or what the seat has.
 use Rattle.std.proofs.Common.{◌≡◌, ℕ, ◌+◌, ◌⊎◌, List, [], ◌∷◌, ◌++◌, length, drop, sum, refl, sym, ap, subst, ◌∙◌, inl, inr, length-append, length-drop, arith}
-use Rattle.heap_model.specs.Needs.{need_of, made_by}
+use Rattle.core_machine.proofs.Terms.{made_by, Command, Entry, Said, Answers, Heap, Reply, Kept, AnswersLocally, HasLeft, IsDoneBy, IsFull, IsMade, HasPhase, AnswersFirst}
+use Rattle.core_machine.proofs.Terms.{StandsOn, ComesFirst, IsAnswered, Step, MakesObject, IsArrayCall, NamesField}
+use Rattle.heap_model.specs.Needs.{need_of}
 use Rattle.heap_model.specs.calls.SeatCalls.{takes_of, gives_of, last_gives, ClaimsBefore}
-use Rattle.heap_model.specs.declared.command.Command.{Command}
 use Rattle.heap_model.specs.declared.command.Command.TheVariants as commands
-use Rattle.heap_model.specs.declared.entry.Entry.{Entry}
-use Rattle.heap_model.specs.declared.entry.Entry.TheVariants.{Said, Answers}
-use Rattle.heap_model.specs.declared.heap.Heap.{Heap}
 use Rattle.heap_model.specs.declared.id.Id.{Id}
-use Rattle.heap_model.specs.declared.reply.Reply.{Reply}
 use Rattle.heap_model.specs.declared.reply.Reply.TheVariants as replies
 use Rattle.core_machine.specs.calls.Balance.{IsBalanced, CountsAnswers}
-use Rattle.core_machine.specs.calls.Kept.{Kept}
-use Rattle.core_machine.specs.calls.Replies.{AnswersLocally, HasLeft, IsDoneBy, IsFull, IsMade, HasPhase, AnswersFirst, StandsOn, ComesFirst, IsAnswered}
-use Rattle.core_machine.specs.declared.step.Step.{Step}
-use Rattle.core_machine.specs.seat.Commands.{MakesObject, IsArrayCall}
-use Rattle.core_machine.specs.seat.FitsAccess.{NamesField}
 use Rattle.core_machine.proofs.call_lemmas.Claiming.{sum_groups}
 use Rattle.core_machine.proofs.call_lemmas.RepliesAlone.{RepliesAlone, local_alone, get_alone, set_alone}
 use Rattle.core_machine.proofs.own_stages.Sums.{ComeTo, come_to-append, come_to-said, come_to-answers, come_to-takes, come_to-gives, come_to-last_gives}

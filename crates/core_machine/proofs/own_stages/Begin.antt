@@ -1,24 +1,10 @@
 -- A call begins, by the seat's own view.
 use Rattle.std.proofs.Common.{◌≡◌, ℕ, List, [], ◌∷◌, refl, sym, ap, subst, ◌∙◌, append-nil}
-use Rattle.heap_model.specs.Heap.{IsHeap}
-use Rattle.heap_model.specs.declared.command.Command.{Command}
+use Rattle.core_machine.proofs.Terms.{IsHeap, Command, Entry, Heap, kept_of, IsUntold, StageAt, OwnStage, Register, Nil, Number, Object, Step, MayBegin, after_begin, access_start}
+use Rattle.core_machine.proofs.Terms.{IsArrayCall, IsAtRest, FitsPlace, Fits, gather_next, register_in, Seat, with_entries}
 use Rattle.heap_model.specs.declared.command.Command.TheVariants as commands
-use Rattle.heap_model.specs.declared.entry.Entry.{Entry}
-use Rattle.heap_model.specs.declared.heap.Heap.{Heap}
-use Rattle.core_machine.specs.calls.Kept.{kept_of, IsUntold}
-use Rattle.core_machine.specs.calls.OwnStage.{StageAt, OwnStage}
 use Rattle.core_machine.specs.declared.place.Place.TheVariants as places
-use Rattle.core_machine.specs.declared.seat.register.Register.{Register}
-use Rattle.core_machine.specs.declared.seat.register.Register.TheVariants.{Nil, Number, Object}
-use Rattle.core_machine.specs.declared.step.Step.{Step}
-use Rattle.core_machine.specs.machine.Machine.{MayBegin, after_begin}
-use Rattle.core_machine.specs.seat.Access.{access_start}
-use Rattle.core_machine.specs.seat.Commands.{IsArrayCall}
-use Rattle.core_machine.specs.seat.Fits.{IsAtRest, FitsPlace, Fits}
 use Rattle.core_machine.specs.seat.Handshake.{leave_place}
-use Rattle.core_machine.specs.seat.Making.{gather_next}
-use Rattle.core_machine.specs.seat.Registers.{register_in}
-use Rattle.core_machine.specs.seat.Seat.{Seat, with_entries}
 use Rattle.core_machine.proofs.call_lemmas.Awaits.{goes_on_mine}
 use Rattle.core_machine.proofs.own_stages.Claiming.{gathers_none}
 use Rattle.core_machine.proofs.own_stages.Gather.{goes_on_same, goes_on}

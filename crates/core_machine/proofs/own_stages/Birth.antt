@@ -3,32 +3,21 @@ use Rattle.std.proofs.Common.{◌≡◌, ℕ, ◌+◌, ◌*◌, ◌/◌, ◌%◌
 use Rattle.std.proofs.lemmas.Bool.Decides.{eqb_tells}
 use Rattle.std.specs.List.{All, AllByRecursion}
 use Rattle.heap_words.specs.declared.spot.Spot.{Spot}
-use Rattle.heap_model.specs.Needs.{need_of, spine_need_of}
-use Rattle.heap_model.specs.declared.command.Command.{Command}
-use Rattle.heap_model.specs.declared.command.Command.TheVariants.{Array}
-use Rattle.core_machine.specs.machine.Calls.{IsBeside}
+use Rattle.core_machine.proofs.Terms.{spine_need_of, Command, Array, IsBeside, Entry, Heap, is_last_birth, birth_move, last_birth_move, bearing_move, bears_black_of, Kept, kept_of}
+use Rattle.core_machine.proofs.Terms.{kept_replied, WasMade, StageAt, Placing, Listing, Storing, Bearing, Object, Step, IsArrayCall, target_of, SpineIsListed, newborn_word}
+use Rattle.core_machine.proofs.Terms.{after_placing, after_listing, after_store, store_place, last_group_of, before_run, run_of, next_object_id, Seat, spine_need, with_entries}
+use Rattle.core_machine.proofs.Terms.{mask_of}
+use Rattle.heap_model.specs.Needs.{need_of}
 use Rattle.core_machine.proofs.moves.Standing.{IsAt}
-use Rattle.heap_model.specs.declared.entry.Entry.{Entry}
-use Rattle.heap_model.specs.declared.heap.Heap.{Heap}
 use Rattle.heap_model.specs.declared.id.Id.{Id}
 use Rattle.heap_model.specs.declared.id.Id.TheVariants.{Made}
 use Rattle.heap_model.specs.declared.reply.Reply.TheVariants as replies
-use Rattle.core_machine.specs.Moves.{is_last_birth, birth_move, last_birth_move, bearing_move, bears_black_of, store_move}
-use Rattle.core_machine.specs.calls.Kept.{Kept, kept_of, kept_replied, WasMade}
+use Rattle.core_machine.specs.Moves.{store_move}
 use Rattle.core_machine.specs.calls.Making.{name_after, HasSpine, HasStored, AreBorn, HasBorn}
-use Rattle.core_machine.specs.calls.OwnStage.{StageAt}
-use Rattle.core_machine.specs.declared.place.Making.TheVariants.{Placing, Listing, Storing, Bearing}
 use Rattle.core_machine.specs.declared.place.Place.TheVariants as places
-use Rattle.core_machine.specs.declared.seat.register.Register.TheVariants.{Object}
 use Rattle.core_machine.specs.declared.step.MakingStep.TheVariants.{NewbornStore, LastBirth}
 use Rattle.core_machine.specs.declared.step.SpineStep.TheVariants.{SpineStore}
-use Rattle.core_machine.specs.declared.step.Step.{Step}
 use Rattle.core_machine.specs.declared.step.Step.TheVariants as steps
-use Rattle.core_machine.specs.seat.Commands.{IsArrayCall, target_of}
-use Rattle.core_machine.specs.seat.Fits.{SpineIsListed}
-use Rattle.core_machine.specs.seat.Making.{newborn_word, after_placing, after_listing, after_store, store_place, last_group_of, before_run, run_of, next_object_id}
-use Rattle.core_machine.specs.seat.Seat.{Seat, spine_need, with_entries}
-use Rattle.core_machine.specs.table.Fragments.{mask_of}
 use Rattle.core_machine.proofs.call_lemmas.Claiming.{taken_enough}
 use Rattle.core_machine.proofs.own_stages.Claiming.{takes_beside, first_of_object}
 use Rattle.core_machine.proofs.own_stages.Leading.{Leads, LeadsOn, PlaceLeads, quiet}

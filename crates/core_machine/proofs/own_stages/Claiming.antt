@@ -5,23 +5,13 @@ use Rattle.std.proofs.lemmas.Bool.{ne_eqb}
 use Rattle.std.proofs.lemmas.Bool.Decides.{eqb_tells}
 use Rattle.std.proofs.lemmas.List.Elements.{filter-append, All-nil, All-append, All-weaker, All-head, All-tail}
 use Rattle.heap_model.specs.calls.SeatCalls.{takes_of, gives_of, ClaimsBefore}
-use Rattle.heap_model.specs.declared.command.Command.{Command}
-use Rattle.heap_model.specs.declared.command.Command.TheVariants.{New, Array}
-use Rattle.heap_model.specs.declared.entry.Entry.{Entry}
-use Rattle.heap_model.specs.declared.heap.Heap.{Heap}
-use Rattle.heap_model.specs.declared.reply.Reply.{Reply}
+use Rattle.core_machine.proofs.Terms.{Command, New, Array, Entry, Heap, Reply, Kept, ComesFirst, Step, IsBeside, MakesObject, IsArrayCall, in_group, part_in, clear_in}
 use Rattle.heap_model.specs.declared.reply.Reply.TheVariants as replies
 use Rattle.heap_model.specs.Needs.{need_of}
 use Rattle.core_machine.specs.calls.Claims.{AreOfTried, ClaimsGroup, IsGranted, Gathers}
-use Rattle.core_machine.specs.calls.Kept.{Kept}
-use Rattle.core_machine.specs.calls.Replies.{ComesFirst}
-use Rattle.core_machine.specs.declared.step.Step.{Step}
 use Rattle.core_machine.specs.declared.step.Step.TheVariants.{Making}
 use Rattle.core_machine.specs.declared.step.MakingStep.TheVariants.{Claim}
-use Rattle.core_machine.specs.machine.Calls.{IsBeside}
-use Rattle.core_machine.specs.seat.Commands.{MakesObject, IsArrayCall}
 use Rattle.core_machine.specs.seat.MakingMoves.{takes_some}
-use Rattle.core_machine.specs.table.Fragments.{in_group, part_in, clear_in}
 use Rattle.core_machine.proofs.call_lemmas.Claiming.{taken_none, taken_more}
 use Rattle.core_machine.proofs.call_lemmas.Restoring.{part_all, part_none}
 use Rattle.core_machine.proofs.own_stages.Turns.{same_turn}

@@ -1,20 +1,10 @@
 -- What a call that is over has come to by the seat's own view.
 use Rattle.std.proofs.Common.{◌≡◌, ◌≢◌, ℕ, ◌+◌, ◌≤◌, ◌⊎◌, List, [], ◌∷◌, ◌++◌, length, refl, ap, subst, ◌∙◌, inl, inr, arith}
 use Rattle.heap_model.specs.calls.SeatCalls.{ComesBefore, last_gives, leave_entries}
-use Rattle.heap_model.specs.declared.command.Command.{Command}
+use Rattle.core_machine.proofs.Terms.{Command, Entry, Said, Heap, Reply, Kept, kept_of, StageAt, OwnStage, StandsOn, ComesFirst, IsAnswered, Step, CountsCall, Seat}
 use Rattle.heap_model.specs.declared.command.Command.TheVariants as commands
-use Rattle.heap_model.specs.declared.entry.Entry.{Entry}
-use Rattle.heap_model.specs.declared.entry.Entry.TheVariants.{Said}
-use Rattle.heap_model.specs.declared.heap.Heap.{Heap}
-use Rattle.heap_model.specs.declared.reply.Reply.{Reply}
 use Rattle.heap_model.specs.declared.reply.Reply.TheVariants as replies
-use Rattle.core_machine.specs.calls.Kept.{Kept, kept_of}
-use Rattle.core_machine.specs.calls.OwnStage.{StageAt, OwnStage}
-use Rattle.core_machine.specs.calls.Replies.{StandsOn, ComesFirst, IsAnswered}
 use Rattle.core_machine.specs.declared.place.Place.TheVariants as places
-use Rattle.core_machine.specs.declared.step.Step.{Step}
-use Rattle.core_machine.specs.machine.Calls.{CountsCall}
-use Rattle.core_machine.specs.seat.Seat.{Seat}
 
 -- the entries before the reply are those that are due, where the phase that a poll tells is the one that was answered last, or the next
 pub comes_before : (number : ℕ) (before : Kept) (command : Command) (reply : Reply) (first : List Entry) → ComesFirst number before command reply first

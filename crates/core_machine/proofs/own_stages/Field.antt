@@ -1,28 +1,16 @@
 -- A call reads or writes the field that it has reached.
 use Rattle.std.proofs.Common.{◌≡◌, ℕ, List, [], ◌∷◌, ◌++◌, Option, Some, None, refl, sym, subst}
 use Rattle.std.specs.Prelude.{IsSome, unwrap_or}
-use Rattle.heap_words.specs.Loaded.{head_of, stamp_of}
-use Rattle.heap_model.specs.declared.entry.Entry.{Entry}
-use Rattle.heap_model.specs.declared.entry.Entry.TheVariants.{Said}
-use Rattle.heap_model.specs.declared.heap.Heap.{Heap}
+use Rattle.core_machine.proofs.Terms.{head_of, stamp_of, Entry, Said, Heap, Kept, kept_of, IsUntold, StageAt, IsHeldOf, IsAnswered, Getting, Naming, LoadingOld, ShadingOld}
+use Rattle.core_machine.proofs.Terms.{ShadingNew, Swapping, Object, Step, at_access, after_get, new_place_of, after_old_load, source_of, register_in, register_head, Seat}
+use Rattle.core_machine.proofs.Terms.{with_entries, id_of, plain_of}
 use Rattle.heap_model.specs.declared.id.Value.TheVariants as values
 use Rattle.heap_model.specs.declared.reply.Reply.TheVariants as replies
-use Rattle.core_machine.specs.calls.Kept.{Kept, kept_of, IsUntold}
-use Rattle.core_machine.specs.calls.OwnStage.{StageAt}
 use Rattle.core_machine.specs.calls.Reaching.{ReachesField}
-use Rattle.core_machine.specs.calls.Replies.{IsHeldOf, IsAnswered}
-use Rattle.core_machine.specs.declared.place.Access.TheVariants.{Getting, Naming, LoadingOld, ShadingOld, ShadingNew, Swapping}
 use Rattle.core_machine.specs.declared.place.Place.TheVariants as places
-use Rattle.core_machine.specs.declared.seat.register.Register.TheVariants.{Object}
 use Rattle.core_machine.specs.declared.step.AccessStep.TheVariants.{NameLoad, GetLoad}
-use Rattle.core_machine.specs.declared.step.Step.{Step}
 use Rattle.core_machine.specs.declared.step.Step.TheVariants as steps
-use Rattle.core_machine.specs.seat.Access.{at_access, after_get, new_place_of, after_old_load}
 use Rattle.core_machine.specs.seat.AccessMoves.{got_reply, got_adds, loaded_head_of, name_move, swap_move}
-use Rattle.core_machine.specs.seat.Commands.{source_of}
-use Rattle.core_machine.specs.seat.Registers.{register_in, register_head}
-use Rattle.core_machine.specs.seat.Seat.{Seat, with_entries}
-use Rattle.core_machine.specs.table.Decode.{id_of, plain_of}
 use Rattle.core_machine.proofs.call_lemmas.RepliesAlone.{get_alone, set_alone}
 use Rattle.core_machine.proofs.moves.Standing.{IsAt}
 use Rattle.core_machine.proofs.own_stages.Leading.{PlaceLeads, quiet, from_untold, answered_alone}

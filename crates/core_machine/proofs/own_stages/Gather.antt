@@ -3,26 +3,15 @@ use Rattle.std.proofs.Common.{◌≡◌, ℕ, ◌+◌, ◌%◌, ◌^◌, ◌<◌
 use Rattle.std.proofs.lemmas.List.Filters.{length-filter_both}
 use Rattle.std.specs.List.{AllByRecursion}
 use Rattle.heap_model.specs.calls.SeatCalls.{takes_of, gives_of}
-use Rattle.heap_model.specs.declared.command.Command.{Command}
-use Rattle.heap_model.specs.declared.command.Command.TheVariants.{Array}
-use Rattle.heap_model.specs.declared.entry.Entry.{Entry}
-use Rattle.heap_model.specs.declared.entry.Entry.TheVariants.{GivesBack}
-use Rattle.heap_model.specs.declared.heap.Heap.{Heap}
+use Rattle.core_machine.proofs.Terms.{Command, Array, Entry, GivesBack, Heap, grant_move, withdraw_move, Kept, kept_of, StageAt, IsAnswered, Granting, Withdrawing, Gathering}
+use Rattle.core_machine.proofs.Terms.{Returning, Refusing, Step, IsBeside, next_group_of, first_group_of, after_gather, after_give_back, gather_next, Seat, need, spine_need}
+use Rattle.core_machine.proofs.Terms.{with_entries, in_group, out_of_group, part_in, part_out, clear_in}
 use Rattle.heap_model.specs.declared.reply.Reply.TheVariants as replies
-use Rattle.core_machine.specs.Moves.{grant_move, withdraw_move, refusal_looks, refusal_move, takes_some}
+use Rattle.core_machine.specs.Moves.{refusal_looks, refusal_move, takes_some}
 use Rattle.core_machine.specs.calls.Claims.{GivesBackAll, Gathers, GivesUp}
-use Rattle.core_machine.specs.calls.Kept.{Kept, kept_of}
 use Rattle.core_machine.specs.calls.Making.{HasObject}
-use Rattle.core_machine.specs.calls.OwnStage.{StageAt}
-use Rattle.core_machine.specs.calls.Replies.{IsAnswered}
-use Rattle.core_machine.specs.declared.place.Making.TheVariants.{Granting, Withdrawing, Gathering, Returning, Refusing}
 use Rattle.core_machine.specs.declared.place.Place.TheVariants as places
-use Rattle.core_machine.specs.declared.step.Step.{Step}
-use Rattle.core_machine.specs.machine.Calls.{IsBeside}
 use Rattle.core_machine.specs.seat.Looks.{Looks, forgotten, seen_phase}
-use Rattle.core_machine.specs.seat.Making.{next_group_of, first_group_of, after_gather, after_give_back, gather_next}
-use Rattle.core_machine.specs.seat.Seat.{Seat, need, spine_need, with_entries}
-use Rattle.core_machine.specs.table.Fragments.{in_group, out_of_group, part_in, part_out, clear_in}
 use Rattle.core_machine.proofs.call_lemmas.Awaits.{goes_on_mine}
 use Rattle.core_machine.proofs.call_lemmas.Claiming.{gives_none, gives_more, gives_over}
 use Rattle.core_machine.proofs.own_stages.Claiming.{gives_beside, first_of_object, first_of_withdrawal, gathers_none, gathers_more}

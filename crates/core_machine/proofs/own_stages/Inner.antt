@@ -1,25 +1,16 @@
 -- What each step of an inner call leads to by the seat's own view, whatever word it has found.
 use Rattle.std.proofs.Common.{◌≡◌, ℕ, ◌<◌, List, [], ◌++◌, Option, Some, refl, sym, ap, subst, ◌∙◌, append-nil, append_assoc}
 use Rattle.std.specs.Prelude.{IfSome}
-use Rattle.heap_model.specs.Heap.{IsHeap}
+use Rattle.core_machine.proofs.Terms.{IsHeap, Entry, Heap, Move, next_move, seat_after, kept_of, IsUntold, Place, Step, after_inner_begin, Fits, Seat}
 use Rattle.heap_model.specs.declared.calls.collect.Inner.{Inner}
 use Rattle.heap_model.specs.declared.calls.collect.Inner.TheVariants as inners
-use Rattle.heap_model.specs.declared.entry.Entry.{Entry}
-use Rattle.heap_model.specs.declared.heap.Heap.{Heap}
-use Rattle.core_machine.specs.Moves.{Move, next_move, seat_after}
 use Rattle.core_machine.specs.calls.InnerStage.{IsInnerOver, InnerStageAt, OwnInnerStage}
-use Rattle.core_machine.specs.calls.Kept.{kept_of, IsUntold}
 use Rattle.core_machine.specs.declared.place.Collecting.{Collecting}
 use Rattle.core_machine.specs.declared.place.Collecting.TheVariants.{Looking, Asking, Comparing, Noting}
-use Rattle.core_machine.specs.declared.place.Place.{Place}
 use Rattle.core_machine.specs.declared.place.Place.TheVariants as places
 use Rattle.core_machine.specs.declared.place.Polling.{Polling}
 use Rattle.core_machine.specs.declared.place.Polling.TheVariants as polling
-use Rattle.core_machine.specs.declared.step.Step.{Step}
-use Rattle.core_machine.specs.machine.Machine.{after_inner_begin}
 use Rattle.core_machine.specs.seat.Collecting.{inner_place}
-use Rattle.core_machine.specs.seat.Fits.{Fits}
-use Rattle.core_machine.specs.seat.Seat.{Seat}
 use Rattle.core_machine.proofs.own_stages.InnerLooks.{Leads, LeadsOn, PlaceLeads, look_leads, asking_leads, comparing_leads, note_leads}
 use Rattle.core_machine.proofs.own_stages.InnerAnswer.{poll_leads, root_leads, answer_leads}
 

@@ -4,17 +4,12 @@ use Rattle.std.specs.Prelude.{nat_lt}
 use Rattle.std.proofs.lemmas.Bool.Decides.{eqb_tells}
 use Rattle.heap_model.specs.declared.calls.collect.Inner.{Inner}
 use Rattle.heap_model.specs.declared.calls.collect.Inner.TheVariants as inners
-use Rattle.heap_model.specs.declared.entry.Entry.{Entry}
-use Rattle.heap_model.specs.declared.entry.Entry.TheVariants.{Answers}
+use Rattle.core_machine.proofs.Terms.{Entry, Answers, Kept, kept_of, HasAsked, Step, Seat, with_seen, with_entries}
 use Rattle.core_machine.specs.calls.InnerStage.{IsInnerOver, InnerStageAt}
-use Rattle.core_machine.specs.calls.Kept.{Kept, kept_of}
-use Rattle.core_machine.specs.calls.OwnStage.{HasAsked}
 use Rattle.core_machine.specs.declared.place.Place.TheVariants as places
 use Rattle.core_machine.specs.declared.place.Polling.TheVariants as polling
-use Rattle.core_machine.specs.declared.step.Step.{Step}
 use Rattle.core_machine.specs.seat.Handshake.{roots, answer_next, after_phase_load}
 use Rattle.core_machine.specs.seat.HandshakeMoves.{poll_adds}
-use Rattle.core_machine.specs.seat.Seat.{Seat, with_seen, with_entries}
 use Rattle.core_machine.proofs.own_stages.Leading.{quiet, from_untold}
 use Rattle.core_machine.proofs.seat_lemmas.PollingOver.{over_cases}
 use Rattle.core_machine.proofs.table_lemmas.Bits.{bool_tells}

@@ -4,22 +4,13 @@ use Rattle.std.specs.Prelude.{IfSome}
 use Rattle.heap_model.specs.declared.calls.collect.CollectReply.{CollectReply}
 use Rattle.heap_model.specs.declared.calls.collect.Inner.{Inner}
 use Rattle.heap_model.specs.declared.calls.collect.Inner.TheVariants as inners
-use Rattle.heap_model.specs.declared.command.Command.{Command}
+use Rattle.core_machine.proofs.Terms.{Command, Entry, Said, Heap, Move, move_at, seat_after, Kept, kept_of, HasAsked, Place, Step, Seat, with_seen}
 use Rattle.heap_model.specs.declared.command.Command.TheVariants as commands
-use Rattle.heap_model.specs.declared.entry.Entry.{Entry}
-use Rattle.heap_model.specs.declared.entry.Entry.TheVariants.{Said}
-use Rattle.heap_model.specs.declared.heap.Heap.{Heap}
-use Rattle.core_machine.specs.Moves.{Move, move_at, seat_after}
 use Rattle.core_machine.specs.calls.InnerStage.{IsInnerOver, InnerStageAt}
-use Rattle.core_machine.specs.calls.Kept.{Kept, kept_of}
-use Rattle.core_machine.specs.calls.OwnStage.{HasAsked}
 use Rattle.core_machine.specs.declared.place.Collecting.TheVariants.{Looking, Asking, Comparing, Noting}
-use Rattle.core_machine.specs.declared.place.Place.{Place}
 use Rattle.core_machine.specs.declared.place.Place.TheVariants as places
-use Rattle.core_machine.specs.declared.step.Step.{Step}
 use Rattle.core_machine.specs.seat.Collecting.{look_move, comparing_move, note_move}
 use Rattle.core_machine.specs.seat.Looks.{compared, noted_reply}
-use Rattle.core_machine.specs.seat.Seat.{Seat, with_seen}
 use Rattle.core_machine.proofs.moves.Standing.{IsAt}
 use Rattle.core_machine.proofs.own_stages.Leading.{from_untold}
 

@@ -1,19 +1,8 @@
 -- What a step leads to by the seat's own view, whatever word it has found.
 use Rattle.std.proofs.Common.{◌≡◌, ℕ, List, [], ◌∷◌, ◌++◌, refl, sym, subst, append-nil}
 use Rattle.std.specs.Prelude.{IfSome}
-use Rattle.heap_model.specs.declared.command.Command.{Command}
+use Rattle.core_machine.proofs.Terms.{Command, Entry, Said, Heap, Reply, Kept, IsUntold, StageAt, StandsOn, ComesFirst, IsAnswered, Place, Step, Move, move_at, seat_after, Seat}
 use Rattle.heap_model.specs.declared.command.Command.TheVariants as commands
-use Rattle.heap_model.specs.declared.entry.Entry.{Entry}
-use Rattle.heap_model.specs.declared.entry.Entry.TheVariants.{Said}
-use Rattle.heap_model.specs.declared.heap.Heap.{Heap}
-use Rattle.heap_model.specs.declared.reply.Reply.{Reply}
-use Rattle.core_machine.specs.calls.Kept.{Kept, IsUntold}
-use Rattle.core_machine.specs.calls.OwnStage.{StageAt}
-use Rattle.core_machine.specs.calls.Replies.{StandsOn, ComesFirst, IsAnswered}
-use Rattle.core_machine.specs.declared.place.Place.{Place}
-use Rattle.core_machine.specs.declared.step.Step.{Step}
-use Rattle.core_machine.specs.Moves.{Move, move_at, seat_after}
-use Rattle.core_machine.specs.seat.Seat.{Seat}
 use Rattle.core_machine.proofs.call_lemmas.RepliesAlone.{RepliesAlone}
 use Rattle.core_machine.proofs.moves.Standing.{IsAt}
 

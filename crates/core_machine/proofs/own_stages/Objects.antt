@@ -1,21 +1,11 @@
 -- A call on an object is refused for want of it exactly where its register holds none.
 use Rattle.std.proofs.Common.{◌≡◌, ℕ, List, Option, Some, None, refl, sym, ◌∙◌, inl, inr}
-use Rattle.heap_model.specs.declared.command.Command.{Command}
+use Rattle.core_machine.proofs.Terms.{Command, Entry, Heap, Reply, Kept, AnswersLocally, IsDoneBy, StandsOn, Register, Step, MakesObject, IsArrayCall, object_of, IsLocal}
+use Rattle.core_machine.proofs.Terms.{NamesObject, register_in, register_head}
 use Rattle.heap_model.specs.declared.command.Command.TheVariants as commands
-use Rattle.heap_model.specs.declared.entry.Entry.{Entry}
-use Rattle.heap_model.specs.declared.heap.Heap.{Heap}
-use Rattle.heap_model.specs.declared.reply.Reply.{Reply}
 use Rattle.heap_model.specs.declared.reply.Reply.TheVariants as replies
-use Rattle.core_machine.specs.calls.Kept.{Kept}
 use Rattle.core_machine.specs.calls.Reaching.{HasOpened, ReachesField}
-use Rattle.core_machine.specs.calls.Replies.{AnswersLocally, IsDoneBy, StandsOn}
-use Rattle.core_machine.specs.declared.seat.register.Register.{Register}
-use Rattle.core_machine.specs.declared.step.Step.{Step}
-use Rattle.core_machine.specs.seat.Commands.{MakesObject, IsArrayCall, object_of}
-use Rattle.core_machine.specs.seat.Fits.{IsLocal}
-use Rattle.core_machine.specs.seat.FitsAccess.{NamesObject}
 use Rattle.core_machine.specs.seat.Local.{local_reply_of}
-use Rattle.core_machine.specs.seat.Registers.{register_in, register_head}
 
 -- the first fragment of the object that the command's register holds
 abbrev pub held_head : Kept → Command → Option ℕ

@@ -4,13 +4,8 @@ use Rattle.std.specs.List.{All}
 use Rattle.std.proofs.lemmas.Bool.{ne_eqb}
 use Rattle.std.proofs.lemmas.Bool.Decides.{eqb_tells}
 use Rattle.std.proofs.lemmas.List.Elements.{All-head, All-tail}
-use Rattle.heap_model.specs.declared.command.Command.{Command}
-use Rattle.heap_model.specs.declared.entry.Entry.{Entry}
-use Rattle.heap_model.specs.declared.heap.Heap.{Heap}
+use Rattle.core_machine.proofs.Terms.{Command, Entry, Heap, Kept, Step, tally, part_in, is_clear, clear_among, clear_in}
 use Rattle.core_machine.specs.calls.Claims.{Gathers}
-use Rattle.core_machine.specs.calls.Kept.{Kept}
-use Rattle.core_machine.specs.declared.step.Step.{Step}
-use Rattle.core_machine.specs.table.Fragments.{tally, part_in, is_clear, clear_among, clear_in}
 use Rattle.core_machine.proofs.table_lemmas.Bits.{bool_tells}
 use Rattle.core_machine.proofs.table_lemmas.Clear.{clear_among-zero, clear_among-clear, clear_among-taken}
 

@@ -2,16 +2,12 @@
 use Rattle.std.proofs.Common.{◌≡◌, ℕ, ◌+◌, List, [], ◌∷◌, ◌++◌, sum, cond, eqb, true, refl, sym, subst, eq-eqb, inl, inr, arith}
 use Rattle.std.proofs.lemmas.Bool.Decides.{eqb_tells}
 use Rattle.std.proofs.lemmas.List.Sums.{sum_by-append, sum_by-cons}
-use Rattle.heap_model.specs.Needs.{made_by}
+use Rattle.core_machine.proofs.Terms.{made_by, Command, Entry, Said, Takes, GivesBack, Answers, Reply}
 use Rattle.heap_model.specs.account.Effects.{effect_of, is_of}
 use Rattle.heap_model.specs.account.PhaseCounts.{last_answer}
 use Rattle.heap_model.specs.account.Space.{taken_of, spent_of, total_of}
 use Rattle.heap_model.specs.calls.SeatCalls.{takes_of, gives_of, last_gives}
 use Rattle.heap_model.specs.declared.account.effect.Effect.{Effect}
-use Rattle.heap_model.specs.declared.command.Command.{Command}
-use Rattle.heap_model.specs.declared.entry.Entry.{Entry}
-use Rattle.heap_model.specs.declared.entry.Entry.TheVariants.{Said, Takes, GivesBack, Answers}
-use Rattle.heap_model.specs.declared.reply.Reply.{Reply}
 
 module _ (number : ℕ) where
   -- the entries come to these sums

@@ -1,28 +1,16 @@
 -- A call comes to its field, and reads or writes it.
 use Rattle.std.proofs.Common.{◌≡◌, ℕ, suc, ◌-◌, ◌<◌, List, [], ◌∷◌, ◌++◌, Option, Some, None, refl, subst, ◌∙◌, inl, inr, arith}
 use Rattle.std.proofs.lemmas.Bool.Decides.{eqb_tells, leb_tells}
-use Rattle.heap_words.specs.Loaded.{link_of, length_of, array_length_of}
-use Rattle.heap_model.specs.declared.command.Command.{Command}
-use Rattle.heap_model.specs.declared.command.Command.TheVariants.{Get, Set, Len}
-use Rattle.heap_model.specs.declared.entry.Entry.{Entry}
-use Rattle.heap_model.specs.declared.entry.Entry.TheVariants.{Said}
-use Rattle.heap_model.specs.declared.heap.Heap.{Heap}
-use Rattle.heap_model.specs.declared.reply.Reply.{Reply}
+use Rattle.core_machine.proofs.Terms.{link_of, length_of, array_length_of, Command, Get, Set, Len, Entry, Said, Heap, Reply, Kept, kept_of, KeepsAll, IsUntold, AccessStage}
+use Rattle.core_machine.proofs.Terms.{StageAt, StandsOn, IsAnswered, LoadingMeta, Walking, Locating, Indexing, Step, at_access, with_field_place, field_place_of, way_place_of}
+use Rattle.core_machine.proofs.Terms.{after_link, after_walk, field_reply_of, after_length, at_payload, after_index, meta_reply_of, after_meta, field_of, NamesObject, NamesField}
+use Rattle.core_machine.proofs.Terms.{Seat, with_entries}
 use Rattle.heap_model.specs.declared.reply.Reply.TheVariants.{NoField}
-use Rattle.core_machine.specs.calls.Kept.{Kept, kept_of, KeepsAll, IsUntold}
-use Rattle.core_machine.specs.calls.OwnStage.{AccessStage, StageAt}
 use Rattle.core_machine.specs.calls.Reaching.{HasOpened, GoesByLinks, ReachesField}
-use Rattle.core_machine.specs.calls.Replies.{StandsOn, IsAnswered}
-use Rattle.core_machine.specs.declared.place.Access.TheVariants.{LoadingMeta, Walking, Locating, Indexing}
 use Rattle.core_machine.specs.declared.place.Place.TheVariants as places
 use Rattle.core_machine.specs.declared.step.AccessStep.TheVariants.{WalkLoad}
-use Rattle.core_machine.specs.declared.step.Step.{Step}
 use Rattle.core_machine.specs.declared.step.Step.TheVariants as steps
-use Rattle.core_machine.specs.seat.Access.{at_access, with_field_place, field_place_of, way_place_of, after_link, after_walk, field_reply_of, after_length, at_payload, after_index, meta_reply_of, after_meta}
 use Rattle.core_machine.specs.seat.AccessMoves.{reply_entries_if}
-use Rattle.core_machine.specs.seat.Commands.{field_of}
-use Rattle.core_machine.specs.seat.FitsAccess.{NamesObject, NamesField}
-use Rattle.core_machine.specs.seat.Seat.{Seat, with_entries}
 use Rattle.core_machine.proofs.call_lemmas.RepliesAlone.{object_alone}
 use Rattle.core_machine.proofs.moves.Standing.{IsAt}
 use Rattle.core_machine.proofs.moves.Walk.{onward_mine}

@@ -1,29 +1,18 @@
 -- Where less is told of each word, a call stands so all the more; so what is told may grow while the call goes on.
 use Rattle.std.proofs.Common.{ℕ, zero, suc, List, [], ◌∷◌, ◌++◌, Option, Some, None, inl, inr}
-use Rattle.heap_words.specs.Loaded.{head_of}
+use Rattle.core_machine.proofs.Terms.{head_of, Command, Entry, Heap, Reply, Kept, kept_of, WasMade, HasAsked, MakingStage, AccessStage, PollingStage, StageAt, OwnStage, IsHeldOf}
+use Rattle.core_machine.proofs.Terms.{StandsOn, IsAnswered, LoadingMeta, Walking, Locating, Indexing, Getting, Naming, LoadingOld, ShadingOld, ShadingNew, Swapping, Granting}
+use Rattle.core_machine.proofs.Terms.{Withdrawing, Gathering, Returning, Refusing, Placing, Listing, Storing, Bearing, Place, Register, Step, Seat}
 use Rattle.heap_words.specs.declared.spot.Spot.{Spot}
-use Rattle.heap_model.specs.declared.command.Command.{Command}
-use Rattle.heap_model.specs.declared.entry.Entry.{Entry}
-use Rattle.heap_model.specs.declared.heap.Heap.{Heap}
-use Rattle.heap_model.specs.declared.reply.Reply.{Reply}
 use Rattle.heap_model.specs.declared.reply.Reply.TheVariants as replies
 use Rattle.core_machine.specs.calls.Claims.{Gathers, GivesUp}
-use Rattle.core_machine.specs.calls.Kept.{Kept, kept_of, WasMade}
 use Rattle.core_machine.specs.calls.Making.{HasObject, HasSpine, AreBorn, HasBorn}
-use Rattle.core_machine.specs.calls.OwnStage.{HasAsked, MakingStage, AccessStage, PollingStage, StageAt, OwnStage}
 use Rattle.core_machine.specs.calls.Reaching.{HasOpened, LeadsTo, GoesByLinks, GoesBySpine, HasLocated, ReachesField}
-use Rattle.core_machine.specs.calls.Replies.{IsHeldOf, StandsOn, IsAnswered}
 use Rattle.core_machine.specs.declared.place.Access.{Access}
-use Rattle.core_machine.specs.declared.place.Access.TheVariants.{LoadingMeta, Walking, Locating, Indexing, Getting, Naming, LoadingOld, ShadingOld, ShadingNew, Swapping}
 use Rattle.core_machine.specs.declared.place.Making.{Making}
-use Rattle.core_machine.specs.declared.place.Making.TheVariants.{Granting, Withdrawing, Gathering, Returning, Refusing, Placing, Listing, Storing, Bearing}
-use Rattle.core_machine.specs.declared.place.Place.{Place}
 use Rattle.core_machine.specs.declared.place.Place.TheVariants as places
 use Rattle.core_machine.specs.declared.place.Polling.{Polling}
 use Rattle.core_machine.specs.declared.place.Polling.TheVariants.{Asking, Shading, Answering}
-use Rattle.core_machine.specs.declared.seat.register.Register.{Register}
-use Rattle.core_machine.specs.declared.step.Step.{Step}
-use Rattle.core_machine.specs.seat.Seat.{Seat}
 
 module _ (tells less : Step → ℕ → Type 0) (so : (step : Step) (word : ℕ) → tells step word → less step word) where
   made : {step : Step} → WasMade tells step → WasMade less step

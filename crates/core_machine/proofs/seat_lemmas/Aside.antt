@@ -3,17 +3,10 @@ use Rattle.std.proofs.Common.{◌≡◌, ℕ, ◌*◌, ◌/◌, ◌^◌, ◌<◌
 use Rattle.std.specs.List.{All}
 use Rattle.std.proofs.lemmas.List.Elements.{All-nil}
 use Rattle.heap_words.specs.declared.spot.Spot.{Spot}
-use Rattle.heap_model.specs.declared.heap.Heap.{Heap}
-use Rattle.core_machine.specs.declared.place.Place.{Place}
+use Rattle.core_machine.proofs.Terms.{Heap, Place, Register, head_of, IsWithinHeap, FitsSpot, Seat, no_spot, call_over, after_call, HasNoWay, IsNowhere, FitsRegister, FitsWay}
+use Rattle.core_machine.proofs.Terms.{FitsAnswer, HasNoAnswer, IsAtRest, IsSilent, HandFits, WayFits, Fits, FitsPlace, AreFragments}
 use Rattle.core_machine.specs.declared.place.Place.TheVariants as places
-use Rattle.core_machine.specs.declared.seat.register.Register.{Register}
-use Rattle.heap_words.specs.Loaded.{head_of}
-use Rattle.core_machine.specs.table.Decode.{IsWithinHeap}
-use Rattle.core_machine.specs.table.Layout.{FitsSpot}
-use Rattle.core_machine.specs.seat.Seat.{Seat, no_spot, call_over, after_call}
 use Rattle.core_machine.specs.seat.Looks.{forgotten}
-use Rattle.core_machine.specs.seat.FitsAccess.{HasNoWay, IsNowhere}
-use Rattle.core_machine.specs.seat.Fits.{FitsRegister, FitsWay, FitsAnswer, HasNoAnswer, IsAtRest, IsSilent, HandFits, WayFits, Fits, FitsPlace, AreFragments}
 
 -- the registers fit, nothing is reached, loaded or about to be answered, and the seat hasn't left
 pub record StandsAside (heap : Heap) (registers : List Register) (reached links part : ℕ) (address : Spot) (loaded asked shaded : ℕ) (left : Bool) : Type 0 where

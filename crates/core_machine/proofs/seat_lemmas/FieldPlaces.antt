@@ -1,11 +1,7 @@
 -- Where a way ends: a get loads its field, and a set loads or swaps it by the barrier.
 use Rattle.std.proofs.Common.{◌≡◌, true, false, inl, inr}
-use Rattle.heap_model.specs.declared.command.Command.{Command}
-use Rattle.heap_model.specs.declared.command.Command.TheVariants.{Set}
+use Rattle.core_machine.proofs.Terms.{Command, Set, Getting, LoadingOld, Swapping, Seat, has_barrier_of, field_place_of}
 use Rattle.core_machine.specs.declared.place.Access.{Access}
-use Rattle.core_machine.specs.declared.place.Access.TheVariants.{Getting, LoadingOld, Swapping}
-use Rattle.core_machine.specs.seat.Seat.{Seat}
-use Rattle.core_machine.specs.seat.Access.{has_barrier_of, field_place_of}
 use Rattle.core_machine.proofs.table_lemmas.Bits.{bool_tells}
 
 pub field_cases : (P : Access → Type 0) (seat : Seat) (command : Command) → P Getting → (has_barrier_of seat ≡ true → P LoadingOld) → (has_barrier_of seat ≡ false → P Swapping)

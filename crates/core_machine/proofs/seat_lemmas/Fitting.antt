@@ -4,20 +4,14 @@ use Rattle.std.specs.List.{All}
 use Rattle.std.proofs.lemmas.Bool.Decides.{leb_tells, eqb_tells}
 use Rattle.std.proofs.lemmas.List.Elements.{All-append, All-drop, All-take, All-nil}
 use Rattle.heap_words.specs.declared.spot.Spot.{Spot}
-use Rattle.heap_model.specs.declared.heap.Heap.{Heap}
-use Rattle.heap_model.specs.declared.command.Command.{Command}
-use Rattle.heap_model.specs.declared.command.Command.TheVariants.{New, Array}
+use Rattle.core_machine.proofs.Terms.{Heap, Command, New, Array, spine_need_of, Withdrawing, Gathering, Returning, Refusing, Placing, Listing, Storing, MakesObject, IsRecordCall}
+use Rattle.core_machine.proofs.Terms.{IsArrayCall, FitsSpot, Seat, need, spine_need, fragments_gathered, settled_place, after_gather, after_shortage, refusal_place, gather_next}
+use Rattle.core_machine.proofs.Terms.{after_budget, list_place, last_claimed, next_group_of, AreFragments, HasNoSpine, IsAtRest, MakesNext, SeatIsRefusing, HasBody, IsUnstored}
+use Rattle.core_machine.proofs.Terms.{SpineIsListed, FitsMaking, OwnFits, Fits}
 use Rattle.heap_model.specs.Command.{IsCommand}
-use Rattle.heap_model.specs.Needs.{spine_need_of}
 use Rattle.heap_model.specs.account.Space.{need_of}
 use Rattle.core_machine.specs.declared.place.Place.TheVariants as places
 use Rattle.core_machine.specs.declared.place.Making.{Making}
-use Rattle.core_machine.specs.declared.place.Making.TheVariants.{Withdrawing, Gathering, Returning, Refusing, Placing, Listing, Storing}
-use Rattle.core_machine.specs.seat.Commands.{MakesObject, IsRecordCall, IsArrayCall}
-use Rattle.core_machine.specs.table.Layout.{FitsSpot}
-use Rattle.core_machine.specs.seat.Seat.{Seat, need, spine_need}
-use Rattle.core_machine.specs.seat.Making.{fragments_gathered, settled_place, after_gather, after_shortage, refusal_place, gather_next, after_budget, list_place, last_claimed, next_group_of}
-use Rattle.core_machine.specs.seat.Fits.{AreFragments, HasNoSpine, IsAtRest, MakesNext, SeatIsRefusing, HasBody, IsUnstored, SpineIsListed, FitsMaking, OwnFits, Fits}
 use Rattle.core_machine.proofs.seat_lemmas.Aside.{IsAside, gone_aside, no_spot_fits, aside_way}
 use Rattle.core_machine.proofs.table_lemmas.Owned.{within_group}
 

@@ -4,18 +4,10 @@ use Rattle.std.specs.List.{All}
 use Rattle.std.proofs.lemmas.List.{length-set}
 use Rattle.std.proofs.lemmas.List.Elements.{All-set}
 use Rattle.heap_words.specs.declared.spot.Spot.{Spot}
-use Rattle.heap_model.specs.declared.heap.Heap.{Heap}
+use Rattle.core_machine.proofs.Terms.{Heap, Register, target_of, head_of, IsWithinHeap, FitsSpot, Seat, after_call, with_register_filled, FitsAccess, FitsRegister, IsAtRest}
+use Rattle.core_machine.proofs.Terms.{IsSilent, Fits}
 use Rattle.core_machine.specs.declared.place.Place.TheVariants as places
 use Rattle.core_machine.specs.declared.place.Access.{Access}
-use Rattle.core_machine.specs.declared.seat.register.Register.{Register}
-use Rattle.core_machine.specs.seat.Commands.{target_of}
-use Rattle.heap_words.specs.Loaded.{head_of}
-use Rattle.core_machine.specs.table.Decode.{IsWithinHeap}
-use Rattle.core_machine.specs.table.Layout.{FitsSpot}
-use Rattle.core_machine.specs.seat.Seat.{Seat, after_call}
-use Rattle.core_machine.specs.seat.Access.{with_register_filled}
-use Rattle.core_machine.specs.seat.FitsAccess.{FitsAccess}
-use Rattle.core_machine.specs.seat.Fits.{FitsRegister, IsAtRest, IsSilent, Fits}
 use Rattle.core_machine.proofs.seat_lemmas.Aside.{gone_aside, fits_over}
 
 -- what a call that makes nothing leaves alone

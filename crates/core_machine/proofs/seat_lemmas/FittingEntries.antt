@@ -1,9 +1,6 @@
 -- A seat's own data fit together whatever its entries are.
 use Rattle.std.proofs.Common.{List}
-use Rattle.heap_model.specs.declared.heap.Heap.{Heap}
-use Rattle.heap_model.specs.declared.entry.Entry.{Entry}
-use Rattle.core_machine.specs.seat.Seat.{Seat, with_entries}
-use Rattle.core_machine.specs.seat.Fits.{Fits}
+use Rattle.core_machine.proofs.Terms.{Heap, Entry, Seat, with_entries, Fits}
 
 -- the entries don't matter
 pub fits_entries : (heap : Heap) (seat : Seat) (more : List Entry) → Fits heap seat → Fits heap (with_entries seat more)

@@ -6,8 +6,7 @@ use Rattle.std.proofs.lemmas.Bool.Decides.{leb_tells}
 use Rattle.std.proofs.lemmas.List.{length-reverse, take-append-drop, get_or-drop, get_or-reverse}
 use Rattle.std.proofs.lemmas.List.Elements.{All-from_get_or}
 use Rattle.std.proofs.lemmas.List.Sums.{prefix_len_passes, prefix_len_stops, suffix_len-le-length, suffix_len_is, AllPass-from_list_all, list_all-from_AllPass}
-use Rattle.core_machine.specs.table.Fragments.{in_group}
-use Rattle.core_machine.specs.seat.Making.{last_group_of, last_run, before_run, run_of}
+use Rattle.core_machine.proofs.Terms.{in_group, last_group_of, last_run, before_run, run_of}
 
 module _ (fragments : List ℕ) where
   -- they are no more than there are

@@ -1,13 +1,10 @@
 -- A call that answers the phase is over: a poll tells it, the answer of a collect tells nothing.
 use Rattle.std.proofs.Common.{◌≡◌, ◌≢◌, ℕ, List, [], ◌∷◌, refl}
-use Rattle.heap_model.specs.declared.command.Command.{Command}
+use Rattle.core_machine.proofs.Terms.{Command, Entry, Said, Seat, call_over, after_call}
 use Rattle.heap_model.specs.declared.command.Command.TheVariants as commands
-use Rattle.heap_model.specs.declared.entry.Entry.{Entry}
-use Rattle.heap_model.specs.declared.entry.Entry.TheVariants.{Said}
 use Rattle.heap_model.specs.declared.reply.Reply.TheVariants as replies
 use Rattle.core_machine.specs.seat.Handshake.{polling_over}
 use Rattle.core_machine.specs.seat.HandshakeMoves.{phase_told}
-use Rattle.core_machine.specs.seat.Seat.{Seat, call_over, after_call}
 
 -- the two ways in which it ends
 pub over_cases : (P : Seat → List Entry → Type 0) (number : ℕ) (command : Command) (seat : Seat) (p : ℕ) → (command ≡ commands.Collect → P (call_over seat) [])

@@ -4,10 +4,8 @@ use Rattle.std.proofs.lemmas.List.{get_or-set_same, get_or-set_other, set-get_or
 use Rattle.std.specs.List.{All}
 use Rattle.std.proofs.lemmas.Bool.Decides.{leb_tells}
 use Rattle.std.proofs.lemmas.List.Elements.{All-set}
-use Rattle.heap_model.specs.declared.heap.Heap.{Heap}
-use Rattle.core_machine.specs.declared.table.address.Address.{Address}
-use Rattle.core_machine.specs.declared.table.address.Address.TheVariants.{Phase, Answer, Budget, Spot, Control, Word, Spine}
-use Rattle.core_machine.specs.table.Layout.{table_length, spine_index, index_of, InTable, HasWord, at, put}
+use Rattle.core_machine.proofs.Terms.{Heap, Address, Phase, Answer, Budget, Control, Word, table_length, spine_index, index_of, InTable, HasWord, at, put}
+use Rattle.core_machine.specs.declared.table.address.Address.TheVariants.{Spot, Spine}
 
 -- a spine word stands among as many words as both halves have exactly where its offset is below those of one
 pub spine_within : (spine half offset : ℕ) → half < 2 → offset < 2 * spine → spine_index spine half offset < 4 * spine

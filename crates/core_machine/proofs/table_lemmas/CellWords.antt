@@ -4,7 +4,7 @@ use Rattle.heap_words.specs.declared.kind.Kind.{Kind}
 use Rattle.heap_words.specs.declared.kind.Kind.TheVariants as kinds
 use Rattle.heap_words.specs.declared.cell.Cell.{Cell}
 use Rattle.heap_words.specs.Cell.{cell_word, cell_of}
-use Rattle.heap_words.specs.Loaded.{payload_in}
+use Rattle.core_machine.proofs.Terms.{payload_in}
 use Rattle.heap_words.specs.Newborn.{spine_word}
 
 -- the parts of a word

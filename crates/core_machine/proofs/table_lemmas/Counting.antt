@@ -8,7 +8,8 @@ use Rattle.std.proofs.lemmas.List.{length-append}
 use Rattle.std.proofs.lemmas.Nat.{and_mask, ones-le}
 use Rattle.std.proofs.Math.Nat.{pow-suc}
 use Rattle.std.proofs.lemmas.Nat.Bits.{bit_at-lt, bit_at-suc, bit_at_lowest, bit_at_and, bit_at_not, bit_at_ones}
-use Rattle.core_machine.specs.table.Fragments.{is_clear, clear_among, clear_in}
+use Rattle.heap_words.specs.Control.{taken_at}
+use Rattle.core_machine.proofs.Terms.{is_clear, clear_among, clear_in}
 use Rattle.core_machine.proofs.table_lemmas.Clear.{clear_among-more, clear_among-zero, length-clear_among}
 
 -- one digit more, above the others
@@ -68,12 +69,12 @@ taken_bit word i within =
     ap (λ (n : ℕ). bit_at n i) (sym low) ∙ omega arith
 
 -- one fragment more counts where its bit isn't set
-length-one : (word fragment : ℕ) → length (cond (is_clear word fragment) (fragment ∷ []) []) ≡ 1 - bit_at word (fragment % 16)
+length-one : (word fragment : ℕ) → length (cond (is_clear word fragment) (fragment ∷ []) []) ≡ 1 - bit_at word (taken_at fragment)
 length-one word fragment =
     let small = bit_at-lt word (fragment % 16) in
-    elim (eqb_tells (bit_at word (fragment % 16)) 0) as (λ _. length (cond (is_clear word fragment) (fragment ∷ []) []) ≡ 1 - bit_at word (fragment % 16)) [
+    elim (eqb_tells (bit_at word (taken_at fragment)) 0) as (λ _. length (cond (is_clear word fragment) (fragment ∷ []) []) ≡ 1 - bit_at word (taken_at fragment)) [
       | inl unset ↦ rw (unset.0, unset.1) refl
-      | inr is_set ↦ let one : bit_at word (fragment % 16) ≡ 1 = omega (arith, is_set.1) in rw (is_set.0, one) refl
+      | inr is_set ↦ let one : bit_at word (taken_at fragment) ≡ 1 = omega (arith, is_set.1) in rw (is_set.0, one) refl
     ]
 
 -- of the first fragments those whose taken bit isn't set are as many as the zeros among the first taken bits

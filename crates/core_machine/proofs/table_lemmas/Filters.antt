@@ -1,7 +1,7 @@
 -- How much a filter keeps.
 use Rattle.std.proofs.Common.{ℕ, ◌≤◌, Bool, List, [], ◌∷◌, length, filter, arith, eq-eqb, eqb, get_or, inl, inr, suc, true, zero, ◌≡◌, ◌<◌, ◌/◌}
 use Rattle.std.proofs.lemmas.Bool.Decides.{eqb_tells}
-use Rattle.core_machine.specs.table.Fragments.{out_of_group, part_out}
+use Rattle.core_machine.proofs.Terms.{out_of_group, part_out}
 
 -- a filter keeps no more than there is
 pub length-filter_le : (p : ℕ → Bool) (xs : List ℕ) → length (filter p xs) ≤ length xs

@@ -5,13 +5,9 @@ use Rattle.std.specs.Int.{bit_at}
 use Rattle.std.proofs.lemmas.Bool.{ne_eqb}
 use Rattle.std.proofs.lemmas.Bool.Decides.{eqb_tells}
 use Rattle.std.proofs.lemmas.Nat.Bits.{bit_at_or, bit_at_ones, bit_at-lt}
-use Rattle.heap_model.specs.declared.heap.Heap.{Heap}
-use Rattle.core_machine.specs.declared.table.address.Address.TheVariants.{Control}
-use Rattle.core_machine.specs.table.Fragments.{is_clear, clear_among, clear_in}
-use Rattle.core_machine.specs.table.Layout.{at, put, table_length}
-use Rattle.core_machine.specs.table.Operation.{all_taken}
+use Rattle.heap_words.specs.Control.{taken_at}
+use Rattle.core_machine.proofs.Terms.{Heap, Control, is_clear, clear_among, clear_in, at, put, table_length, all_taken, free_count}
 use Rattle.core_machine.specs.machine.Sums.{sum_upto}
-use Rattle.core_machine.specs.machine.Calls.{free_count}
 use Rattle.core_machine.proofs.table_lemmas.Addresses.{at-put_same, at-put_other}
 
 -- sums of functions that are the same below the bound
@@ -64,7 +60,7 @@ clear_in-claimed group word = filter_none (is_clear (bit_or word all_taken)) (ra
         let one = bit_at_ones 16 (fragment % 16) (omega arith) in
         let small = bit_at-lt word (fragment % 16) in
         let or_ = bit_at_or word all_taken (fragment % 16) in
-        ne_eqb (bit_at (bit_or word all_taken) (fragment % 16)) 0 (λ e. absurd (omega arith))
+        ne_eqb (bit_at (bit_or word all_taken) (taken_at fragment)) 0 (λ e. absurd (omega arith))
 
 -- a claim takes what was clear in its group
 pub free-claimed : (heap : Heap) (words : List ℕ) (group : ℕ) → length words ≡ table_length heap → group < heap.groups

@@ -11,20 +11,9 @@ use Rattle.heap_words.specs.Cell.{cell_word}
 use Rattle.heap_words.specs.Name.{name_word}
 use Rattle.heap_words.specs.Spot.{spot_word}
 use Rattle.heap_model.specs.Command.{IsCommand}
-use Rattle.heap_model.specs.declared.command.Command.{Command}
-use Rattle.heap_model.specs.declared.command.Command.TheVariants.{New, Array}
-use Rattle.heap_model.specs.declared.heap.Heap.{Heap}
-use Rattle.core_machine.specs.declared.table.address.Address.{Address}
-use Rattle.core_machine.specs.declared.seat.register.Register.{Register}
-use Rattle.core_machine.specs.declared.seat.register.Register.TheVariants.{Nil, Number, Object}
-use Rattle.core_machine.specs.table.Layout.{at, put, index_of, InTable, FitsSpot}
-use Rattle.heap_words.specs.Loaded.{pointer_in, first_pointer, reference_of}
-use Rattle.core_machine.specs.table.Decode.{IsWithinHeap, PointersWithin, FoundPointsWithin}
+use Rattle.core_machine.proofs.Terms.{Command, New, Array, Heap, Address, Register, Nil, Number, Object, at, put, index_of, InTable, FitsSpot, pointer_in, first_pointer}
+use Rattle.core_machine.proofs.Terms.{reference_of, IsWithinHeap, PointersWithin, FoundPointsWithin, MakesObject, newborn_word, register_word, AreFragments, FitsRegister}
 use Rattle.heap_words.specs.Newborn.{link_after, head_word_of, record_word_of, array_meta, sentinel_word_of, array_word_of}
-use Rattle.core_machine.specs.seat.Commands.{MakesObject}
-use Rattle.core_machine.specs.seat.Making.{newborn_word}
-use Rattle.core_machine.specs.seat.Registers.{register_word}
-use Rattle.core_machine.specs.seat.Fits.{AreFragments, FitsRegister}
 use Rattle.core_machine.proofs.table_lemmas.Addresses.{at-put_other, index_apart, put-tells}
 use Rattle.core_machine.proofs.table_lemmas.CellWords.{cell_of-cell_word}
 

@@ -7,9 +7,7 @@ use Rattle.heap_words.specs.declared.cell.Cell.{Cell}
 use Rattle.heap_words.specs.declared.kind.Kind.{Kind}
 use Rattle.heap_words.specs.declared.kind.Kind.TheVariants as kinds
 use Rattle.heap_words.specs.Cell.{cell_of}
-use Rattle.heap_model.specs.Needs.{array_words}
-use Rattle.heap_words.specs.Loaded.{array_length, array_length_in, array_length_of}
-use Rattle.core_machine.specs.table.Decode.{spine_words_in}
+use Rattle.core_machine.proofs.Terms.{array_words, array_length, array_length_in, array_length_of, spine_words_in}
 
 -- a fixed word alone tells the length of an array, and of no more cells than thirteen bits tell
 length_told : (kind : Kind) (cell : Cell) → IfSome (array_length_in kind cell) (λ cells. cells < 2 ^ 13)

@@ -6,8 +6,7 @@ use Rattle.std.proofs.lemmas.Nat.{and_le_r, or_lt}
 use Rattle.std.proofs.Math.Pow.{pow-lt}
 use Rattle.std.proofs.lemmas.Bool.Decides.{eqb_tells, leb_tells}
 use Rattle.std.proofs.lemmas.Nat.Bits.{bit_at_or, bit_at_and, bit_at_not, bit_at_ones, bit_at_ones_above, bit_at-lt, bit_at-zero, bit_at-pow_same, bit_at-pow_other, same_from_bits, same_from_bits_below}
-use Rattle.core_machine.specs.table.Fragments.{is_clear, clear_among, clear_in, mask_of}
-use Rattle.core_machine.specs.table.Operation.{all_taken, word_without_taken}
+use Rattle.core_machine.proofs.Terms.{is_clear, clear_among, clear_in, mask_of, all_taken, word_without_taken}
 use Rattle.core_machine.proofs.table_lemmas.Clear.{clear_among-more, clear_among-zero}
 
 -- whether some fragment of the list has place i in its group, as a bit

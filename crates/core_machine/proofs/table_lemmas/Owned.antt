@@ -3,9 +3,7 @@ use Rattle.std.proofs.Common.{◌≡◌, ℕ, ◌*◌, ◌/◌, ◌<◌, List, l
 use Rattle.std.specs.List.{All, range_with_len}
 use Rattle.std.proofs.lemmas.List.Elements.{All-filter, All-weaker, All-from_get_or}
 use Rattle.std.proofs.lemmas.List.FromFn.{get_or-range_with_len, length-range_with_len}
-use Rattle.heap_model.specs.declared.heap.Heap.{Heap}
-use Rattle.core_machine.specs.table.Fragments.{is_clear, clear_among, clear_in}
-use Rattle.core_machine.specs.seat.Fits.{AreFragments}
+use Rattle.core_machine.proofs.Terms.{Heap, is_clear, clear_among, clear_in, AreFragments}
 
 -- all clear fragments of a group are of this group
 pub clear_in-group : (group word : ℕ) → All (λ fragment. fragment / 16 ≡ group) (clear_in group word)

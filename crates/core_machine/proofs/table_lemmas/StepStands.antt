@@ -1,15 +1,11 @@
 -- What is asked of each step, a seat's or the collector's.
 use Rattle.std.proofs.Common.{◌≡◌, ℕ, ◌<◌, ◌^◌, sym, subst, arith, ◌*◌, ◌≤◌}
-use Rattle.heap_model.specs.declared.heap.Heap.{Heap}
-use Rattle.core_machine.specs.declared.step.Step.{Step}
+use Rattle.core_machine.proofs.Terms.{Heap, Step, InTable, FoundPointsWithin, address_of, operation_of, operation_result, word_after}
 use Rattle.core_machine.specs.declared.step.operation.Operation.{Operation}
 use Rattle.core_machine.specs.declared.step.operation.Operation.TheVariants.{Load}
 use Rattle.core_machine.specs.declared.step.AccessStep.TheVariants.{Shade}
 use Rattle.core_machine.specs.declared.step.SpineStep.TheVariants.{BudgetAdd, BudgetTakeBack, SpotClaim, SpineStore}
 use Rattle.core_machine.specs.declared.step.Step.TheVariants.{Access, Spine}
-use Rattle.core_machine.specs.table.Layout.{InTable}
-use Rattle.core_machine.specs.table.Decode.{FoundPointsWithin}
-use Rattle.core_machine.specs.table.Operation.{address_of, operation_of, operation_result, word_after}
 use Rattle.core_machine.proofs.table_lemmas.CellWords.{payload_in-spine_word}
 use Rattle.core_machine.proofs.table_lemmas.Wide.{shade_wide}
 

@@ -4,27 +4,15 @@ use Rattle.std.proofs.lemmas.Bool.Decides.{eqb_tells, leb_tells}
 use Rattle.std.proofs.lemmas.List.{get_or_past}
 use Rattle.std.proofs.lemmas.Nat.{and_le_l, or_lt}
 use Rattle.std.proofs.Math.Nat.{pow-le-pow_right}
+use Rattle.heap_words.specs.Control.{marked_at, scanned_at}
 use Rattle.heap_words.specs.declared.name.Name.{Name}
 use Rattle.heap_words.specs.declared.spot.Spot.{Spot}
 use Rattle.heap_words.specs.Name.{name_word}
 use Rattle.heap_words.specs.Spot.{spot_word}
-use Rattle.heap_model.specs.declared.heap.Heap.{Heap}
-use Rattle.heap_model.specs.declared.command.Command.{Command}
-use Rattle.heap_model.specs.declared.command.Command.TheVariants.{New, Array, Set}
-use Rattle.heap_model.specs.Heap.{IsHeap}
+use Rattle.core_machine.proofs.Terms.{Heap, Command, New, Array, Set, IsHeap, Register, Nil, Number, Object, register_word, IsSet, MakesObject, newborn_word, FitsSpot}
+use Rattle.core_machine.proofs.Terms.{birth_bits_of, shade_bit_of, blacken_bit_of, HasNumberLeft, AreFragments, FitsRegister, after_name}
 use Rattle.heap_model.specs.Command.{IsCommand}
-use Rattle.core_machine.specs.declared.seat.register.Register.{Register}
-use Rattle.core_machine.specs.declared.seat.register.Register.TheVariants.{Nil, Number, Object}
-use Rattle.core_machine.specs.seat.Registers.{register_word}
-use Rattle.core_machine.specs.seat.FitsAccess.{IsSet}
-use Rattle.core_machine.specs.seat.Commands.{MakesObject}
-use Rattle.core_machine.specs.seat.Making.{newborn_word}
-use Rattle.core_machine.specs.table.Layout.{FitsSpot}
 use Rattle.heap_words.specs.Newborn.{link_after, head_word_of, record_word_of, spine_word, sentinel_word_of, array_word_of}
-use Rattle.core_machine.specs.table.Operation.{birth_bits_of, shade_bit_of, blacken_bit_of}
-use Rattle.core_machine.specs.seat.Seat.{HasNumberLeft}
-use Rattle.core_machine.specs.seat.Fits.{AreFragments, FitsRegister}
-use Rattle.core_machine.specs.seat.Access.{after_name}
 
 -- a fragment of the list, or 0 past its end
 pub fragment_small : (heap : Heap) (fragments : List ℕ) (i : ℕ) → IsHeap heap → AreFragments heap fragments → get_or fragments i 0 < 2 ^ 16
@@ -96,14 +84,14 @@ and_wide word bits wide = omega (arith, wide, and_le_l word bits)
 -- the bit of a shade is one of a word's
 pub shade_wide : (fragment word : ℕ) → word < 2 ^ 64 → bit_or word (shade_bit_of fragment) < 2 ^ 64
 shade_wide fragment word wide =
-    let below : 2 ^ (32 + fragment % 16) ≤ 2 ^ 63 = pow-le-pow_right {n = 2} (omega arith) {i = 32 + fragment % 16} {j = 63} (omega arith) in
-    or_lt 64 word (2 ^ (32 + fragment % 16)) wide (omega arith)
+    let below : 2 ^ (marked_at fragment) ≤ 2 ^ 63 = pow-le-pow_right {n = 2} (omega arith) {i = 32 + fragment % 16} {j = 63} (omega arith) in
+    or_lt 64 word (2 ^ (marked_at fragment)) wide (omega arith)
 
 -- so is the bit of a blacken
 pub blacken_wide : (fragment word : ℕ) → word < 2 ^ 64 → bit_or word (blacken_bit_of fragment) < 2 ^ 64
 blacken_wide fragment word wide =
-    let below : 2 ^ (48 + fragment % 16) ≤ 2 ^ 63 = pow-le-pow_right {n = 2} (omega arith) {i = 48 + fragment % 16} {j = 63} (omega arith) in
-    or_lt 64 word (2 ^ (48 + fragment % 16)) wide (omega arith)
+    let below : 2 ^ (scanned_at fragment) ≤ 2 ^ 63 = pow-le-pow_right {n = 2} (omega arith) {i = 48 + fragment % 16} {j = 63} (omega arith) in
+    or_lt 64 word (2 ^ (scanned_at fragment)) wide (omega arith)
 
 pub register_wide : (heap : Heap) (register : Register) (stamp : ℕ) → 16 * heap.groups ≤ 2 ^ 16 → FitsRegister heap register → stamp < 2 ^ 32 → register_word register stamp < 2 ^ 64
 register_wide heap Nil stamp few fit small = omega arith

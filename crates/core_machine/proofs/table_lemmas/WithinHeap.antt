@@ -7,16 +7,11 @@ use Rattle.heap_words.specs.Cell.{cell_of}
 use Rattle.heap_words.specs.declared.cell.Cell.{Cell}
 use Rattle.heap_words.specs.declared.kind.Kind.{Kind}
 use Rattle.heap_words.specs.declared.kind.Kind.TheVariants as kinds
-use Rattle.heap_model.specs.declared.heap.Heap.{Heap}
-use Rattle.core_machine.specs.declared.seat.register.Register.{Register}
-use Rattle.core_machine.specs.declared.seat.register.Register.TheVariants.{Nil, Number, Object}
-use Rattle.heap_words.specs.Loaded.{head_of, pointer_in, first_pointer, reference_of}
-use Rattle.core_machine.specs.table.Decode.{IsWithinHeap}
-use Rattle.core_machine.specs.seat.Registers.{register_head, heads_of, register_in}
+use Rattle.core_machine.proofs.Terms.{Heap, Register, Nil, Number, Object, head_of, pointer_in, first_pointer, reference_of, IsWithinHeap, register_head, heads_of, register_in}
+use Rattle.core_machine.proofs.Terms.{Seat, FitsRegister, Fits}
 use Rattle.core_machine.specs.seat.Handshake.{roots}
-use Rattle.core_machine.specs.seat.Seat.{Seat}
-use Rattle.core_machine.specs.seat.Fits.{FitsRegister, Fits}
 use Rattle.std.proofs.lemmas.List.{get_or_past}
+use Rattle.heap_model.specs.PhasePlan.{cycle_phases, marking as marking_phase}
 
 -- so does a cell that is a fragment's first word
 first_leads : (heap : Heap) (kind : Kind) (cell : Cell) → IsWithinHeap heap (first_pointer kind cell) → IsWithinHeap heap (reference_of kind cell.value)
@@ -55,7 +50,7 @@ heads_within heap (Object head id ∷ more) (suc i) fit within = heads_within he
 
 pub roots_within : (heap : Heap) (seat : Seat) (i : ℕ) → Fits heap seat → i < length (roots seat) → get_or (roots seat) i 0 < 16 * heap.groups
 roots_within heap seat i fits within =
-    elim (eqb_tells (seat.asked % 7) 3) as (λ _. i < length (roots seat) → get_or (roots seat) i 0 < 16 * heap.groups) [
+    elim (eqb_tells (seat.asked % cycle_phases) marking_phase) as (λ _. i < length (roots seat) → get_or (roots seat) i 0 < 16 * heap.groups) [
       | inl third ↦ rw third.0 (λ l. heads_within heap seat.registers i fits.own.registers_fit l)
       | inr other ↦ rw other.0 (λ l. absurd (omega arith))
     ] within
@@ -70,7 +65,7 @@ few_heads (Object head id ∷ more) = let rest = few_heads more in omega arith
 pub few_roots : (seat : Seat) → length (roots seat) ≤ length seat.registers
 few_roots seat =
     let few = few_heads seat.registers in
-    elim (eqb_tells (seat.asked % 7) 3) as (λ _. length (roots seat) ≤ length seat.registers) [ inl third ↦ rw third.0 few | inr other ↦ rw other.0 (omega arith) ]
+    elim (eqb_tells (seat.asked % cycle_phases) marking_phase) as (λ _. length (roots seat) ≤ length seat.registers) [ inl third ↦ rw third.0 few | inr other ↦ rw other.0 (omega arith) ]
 
 -- one of the registers
 pub register_fits : (heap : Heap) (registers : List Register) (r : ℕ) → All (FitsRegister heap) registers → FitsRegister heap (register_in registers r)

@@ -51,22 +51,22 @@ pub record IsLocating (heap : Heap) (phase looked : ℕ) (scan : Scan) (words : 
   pub words_few : words ≤ spine_most
   pub first_step : scan.steps ≡ 1
 
--- a scan stands before a word of a spine; two steps led to its first word, and two to each further one
-pub record IsIndexing (heap : Heap) (phase looked : ℕ) (s : SpineScan) : Type 0 where
+-- a scan is at a word of an array's spine
+pub record IsOnSpine (heap : Heap) (phase looked : ℕ) (s : SpineScan) : Type 0 where
   pub marks : IsMarking heap.seats phase looked
   pub fragment_within : s.scan.fragment < group_fragments * heap.groups
   pub words_few : s.words ≤ spine_most
   pub index_within : s.index < s.words
   pub spine_within : FitsSpot s.spine
+
+-- it stands before the word; two steps led to the first one, and two to each further one
+pub record IsIndexing (heap : Heap) (phase looked : ℕ) (s : SpineScan) : Type 0 where
+  pub on : IsOnSpine heap phase looked s
   pub steps_made : s.scan.steps ≡ 2 + 2 * s.index
 
--- a scan has loaded a word of a spine, which names a fragment of the heap
+-- it has loaded the word, which names a fragment of the heap
 pub record IsSpreading (heap : Heap) (phase looked : ℕ) (s : SpineScan) (target : ℕ) : Type 0 where
-  pub marks : IsMarking heap.seats phase looked
-  pub fragment_within : s.scan.fragment < group_fragments * heap.groups
-  pub words_few : s.words ≤ spine_most
-  pub index_within : s.index < s.words
-  pub spine_within : FitsSpot s.spine
+  pub on : IsOnSpine heap phase looked s
   pub target_within : target < group_fragments * heap.groups
   pub steps_made : s.scan.steps ≡ 3 + 2 * s.index
 

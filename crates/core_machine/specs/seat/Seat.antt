@@ -131,25 +131,19 @@ HasNumberLeft made sets commands.Leave = Unit {0}
 abbrev pub with_seen : ℕ → Seat → Seat
 with_seen found seat = record seat { looks = seen_phase found seat.looks }
 
--- the call is over, and nothing of it is left
+-- the call is over, and nothing of it is left: but for what the seat keeps between calls it is as one that isn't there
 abbrev pub call_over : Seat → Seat
-call_over seat = record seat {
-  hand = [];
-  body = [];
-  stored = 0;
-  tried = 0;
-  given = 0;
-  used = 0;
-  spine = no_spot;
-  listed = 0;
-  place = Idle;
-  reached = 0;
-  links = 0;
-  part = 0;
-  address = no_spot;
-  loaded = 0;
-  asked = 0;
-  shaded = 0;
+call_over seat = record absent_seat {
+  registers = seat.registers;
+  reserve = seat.reserve;
+  cursor = seat.cursor;
+  command = seat.command;
+  answered = seat.answered;
+  made = seat.made;
+  sets = seat.sets;
+  looks = seat.looks;
+  left = seat.left;
+  mine = seat.mine;
 }
 
 -- the call is over with its reply, and the seat forgets what it has found since the one before

@@ -31,6 +31,8 @@ impl Entries for CountedLog {
 
     ghost left = { λ log. 2 ^ 64 - 1 - length log };
 
+    ghost forgotten = { λ _. 0 };
+
     fn empty(alloc: Global) -> CountedLog {
         CountedLog {
             told: ToldLog::empty(alloc),

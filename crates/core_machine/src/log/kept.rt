@@ -45,6 +45,8 @@ impl Entries for Log {
 
     ghost left = { λ log. log.spare };
 
+    ghost forgotten = { λ _. 0 };
+
     fn empty(alloc: Global) -> Log {
         Log {
             entries: Vec::new(alloc),

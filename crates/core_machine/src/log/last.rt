@@ -31,6 +31,8 @@ impl Entries for LastLog {
 
     ghost left = { λ _. 2 ^ 64 - 1 };
 
+    ghost forgotten = { λ _. 0 };
+
     fn empty(alloc: Global) -> LastLog {
         LastLog {
             told: ToldLog::empty(alloc),

@@ -45,6 +45,8 @@ impl Entries for ToldLog {
 
     ghost left = { λ _. 2 ^ 64 - 1 };
 
+    ghost forgotten = { λ _. 0 };
+
     fn empty(_alloc: Global) -> ToldLog {
         ToldLog::silent()
     }

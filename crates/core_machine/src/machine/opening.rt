@@ -8,6 +8,7 @@ ghost use Rattle.core_machine.specs.table.Layout.{at, InTable, table_length};
 ghost use Rattle.core_machine.specs.machine.Opening.{IsOpening, opening_word, opening_seat, with_left, with_board};
 
 use crate::collector::CollectorParty;
+use crate::log::recent::RecentLog;
 use crate::machine::Machine;
 use crate::seat::SeatParty;
 use crate::table::address::Address;
@@ -39,7 +40,7 @@ impl Machine {
 }
 
 /// The heap's seats at the opening.
-fn opening_seats(alloc: Global, heap: &Heap) -> Result<Vec<SeatParty>, Memory>
+fn opening_seats(alloc: Global, heap: &Heap) -> Result<Vec<SeatParty<RecentLog>>, Memory>
     requires { IsHeap heap.now }
     ensures { IfOk result (λ seats. map (λ s. s.seat) seats.items ≡ map (opening_seat heap.now) (range_with_len 0 heap.now.seats)) }
 {

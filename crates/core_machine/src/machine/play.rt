@@ -24,13 +24,14 @@ impl Machine {
         ensures refused { IsPlaceRefusal result → LeavesAll self.old.heap self.old.state self.new.state seat result }
         ensures spent { SpendsRoom self.old self.new seat }
     {
-        // What is true of every machine is known from here on.
+        // What is true of every machine, and of the seat's entries, is known from here on.
         let _ = &self.words;
+        let _ = self.recent(seat);
         self.begin(seat, *command);
         while let Some(step) = self.due_of_seat(seat) {
             self.step_of_seat(seat, &step);
         }
-        match last_reply(self.log(seat)) {
+        match last_reply(self.recent(seat)) {
             Some(reply) => reply,
             None => unreachable!(),
         }

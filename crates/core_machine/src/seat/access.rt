@@ -66,6 +66,7 @@ impl<L: Entries> SeatParty<L> {
         requires { target_of self.old.seat.command < register_count }
         ensures seat { self.new.seat ≡ record self.old.seat { registers = slice_set self.old.seat.registers (target_of self.old.seat.command) register } }
         ensures spare { self.new.spare ≡ self.old.spare }
+        ensures forgotten { self.new.forgotten ≡ self.old.forgotten }
     {
         self.registers[Parts::of(&self.command).target as usize] = register;
     }
@@ -76,6 +77,7 @@ impl<L: Entries> SeatParty<L> {
         requires spare { 0 < self.old.spare }
         ensures seat { self.new.seat ≡ with_entries (after_get self.old.seat found (head_of found)) (got_adds number self.old.seat found (head_of found)) }
         ensures spare { KeepsRoom self.old self.new }
+        ensures forgotten { self.new.forgotten ≡ self.old.forgotten }
     {
         if head_in(found).is_some() {
             self.loaded = found;
@@ -100,6 +102,7 @@ impl<L: Entries> SeatParty<L> {
         requires spare { 0 < self.old.spare }
         ensures seat { self.new.seat ≡ seat_after (name_move number self.old.seat) found }
         ensures spare { KeepsRoom self.old self.new }
+        ensures forgotten { self.new.forgotten ≡ self.old.forgotten }
     {
         let head = self.loaded_head();
         let stamp = stamp_in(self.loaded);
@@ -119,6 +122,7 @@ impl<L: Entries> SeatParty<L> {
         requires { source_of self.old.seat.command < register_count }
         ensures seat { self.new.seat ≡ seat_after (old_move self.old.seat) found }
         ensures spare { self.new.spare ≡ self.old.spare }
+        ensures forgotten { self.new.forgotten ≡ self.old.forgotten }
     {
         self.loaded = found;
         if head_in(found).is_some() {
@@ -133,6 +137,7 @@ impl<L: Entries> SeatParty<L> {
         requires { source_of self.old.seat.command < register_count }
         ensures seat { self.new.seat ≡ after_old self.old.seat }
         ensures spare { self.new.spare ≡ self.old.spare }
+        ensures forgotten { self.new.forgotten ≡ self.old.forgotten }
     {
         let register = self.new_register();
         self.place = Place::Access(new_place(&register));
@@ -144,6 +149,7 @@ impl<L: Entries> SeatParty<L> {
         requires spare { 0 < self.old.spare }
         ensures seat { self.new.seat ≡ seat_after (swap_move number self.old.seat) found }
         ensures spare { KeepsRoom self.old self.new }
+        ensures forgotten { self.new.forgotten ≡ self.old.forgotten }
     {
         self.sets += 1;
         self.reply(number, Reply::Was(stamp_in(found)));

@@ -67,6 +67,7 @@ impl<L: Entries> SeatParty<L> {
         requires may { MayBegin self.old.seat command }
         ensures seat { self.new.seat ≡ after_begin heap.now self.old.seat command }
         ensures spare { self.new.spare ≡ self.old.spare }
+        ensures forgotten { self.new.forgotten ≡ self.old.forgotten }
     {
         self.command = command;
         match command {
@@ -99,6 +100,7 @@ impl<L: Entries> SeatParty<L> {
     pub fn begin_inner(&mut self, inner: Inner)
         ensures seat { self.new.seat ≡ after_inner_begin self.old.seat inner }
         ensures spare { self.new.spare ≡ self.old.spare }
+        ensures forgotten { self.new.forgotten ≡ self.old.forgotten }
     {
         self.command = Command::Collect;
         self.place = first_place(inner);

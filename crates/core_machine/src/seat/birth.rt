@@ -74,6 +74,7 @@ impl<L: Entries> SeatParty<L> {
         requires within { self.old.seat.stored < 4 * length self.old.seat.body }
         ensures seat { self.new.seat ≡ after_store self.old.seat }
         ensures spare { self.new.spare ≡ self.old.spare }
+        ensures forgotten { self.new.forgotten ≡ self.old.forgotten }
     {
         self.stored += 1;
         let done = self.stored as usize == 4 * self.body().len();
@@ -117,6 +118,7 @@ impl<L: Entries> SeatParty<L> {
         requires spare { 0 < self.old.spare }
         ensures seat { self.new.seat ≡ seat_after (bearing_move number self.old.seat) 0 }
         ensures spare { KeepsRoom self.old self.new }
+        ensures forgotten { self.new.forgotten ≡ self.old.forgotten }
     {
         let group = last_group(self.hand());
         if all_in(self.hand(), group) {
@@ -135,6 +137,7 @@ impl<L: Entries> SeatParty<L> {
         requires spare { 0 < self.old.spare }
         ensures seat { self.new.seat ≡ seat_after (last_birth_move number self.old.seat) 0 }
         ensures spare { KeepsRoom self.old self.new }
+        ensures forgotten { self.new.forgotten ≡ self.old.forgotten }
     {
         let id = Id::Made {
             seat: number,

@@ -21,8 +21,8 @@ pub fn first_place(inner: Inner) -> Place
     }
 }
 
-/// The reply that is noted.
-fn noted(reply: CollectReply) -> Reply
+/// The reply that a collect notes.
+pub fn noted(reply: CollectReply) -> Reply
     ensures { result ≡ noted_reply reply }
 {
     match reply {
@@ -44,6 +44,7 @@ impl<L: Entries> SeatParty<L> {
     fn learn_look(&mut self, found: u64)
         ensures seat { self.new.seat ≡ seat_after (look_move self.old.seat) found }
         ensures spare { self.new.spare ≡ self.old.spare }
+        ensures forgotten { self.new.forgotten ≡ self.old.forgotten }
     {
         self.looks.look(found);
         self.finish();
@@ -53,6 +54,7 @@ impl<L: Entries> SeatParty<L> {
     fn learn_asking(&mut self, other: u8, found: u64)
         ensures seat { self.new.seat ≡ seat_after (asking_move self.old.seat other) found }
         ensures spare { self.new.spare ≡ self.old.spare }
+        ensures forgotten { self.new.forgotten ≡ self.old.forgotten }
     {
         self.looks.see(found);
         self.place = Place::Collecting(Collecting::Comparing {
@@ -65,6 +67,7 @@ impl<L: Entries> SeatParty<L> {
     fn learn_comparing(&mut self, other: u8, phase: u64, found: u64)
         ensures seat { self.new.seat ≡ seat_after (comparing_move self.old.seat other phase) found }
         ensures spare { self.new.spare ≡ self.old.spare }
+        ensures forgotten { self.new.forgotten ≡ self.old.forgotten }
     {
         self.looks.compare(other, phase, found);
         self.finish();
@@ -75,6 +78,7 @@ impl<L: Entries> SeatParty<L> {
         requires { 0 < self.old.spare }
         ensures seat { self.new.seat ≡ seat_after (note_move number self.old.seat reply) found }
         ensures spare { KeepsRoom self.old self.new }
+        ensures forgotten { self.new.forgotten ≡ self.old.forgotten }
     {
         self.looks.see(found);
         self.reply(number, noted(reply));
@@ -85,6 +89,7 @@ impl<L: Entries> SeatParty<L> {
         requires { 0 < self.old.spare }
         ensures seat { self.new.seat ≡ seat_after (collecting_move number self.old.seat place) found }
         ensures spare { KeepsRoom self.old self.new }
+        ensures forgotten { self.new.forgotten ≡ self.old.forgotten }
     {
         match place {
             Collecting::Looking => self.learn_look(found),

@@ -56,6 +56,7 @@ impl<L: Entries> SeatParty<L> {
         requires object { need self.old.seat ≤ 1025 }
         ensures seat { self.new.seat ≡ after_gather heap.now self.old.seat }
         ensures spare { self.new.spare ≡ self.old.spare }
+        ensures forgotten { self.new.forgotten ≡ self.old.forgotten }
     {
         let need = self.command.need() as usize;
         self.hands.settle(&mut self.reserve, need);
@@ -75,6 +76,7 @@ impl<L: Entries> SeatParty<L> {
         requires object { need self.old.seat ≤ 1025 }
         ensures seat { self.new.seat ≡ gather_next heap.now self.old.seat }
         ensures spare { self.new.spare ≡ self.old.spare }
+        ensures forgotten { self.new.forgotten ≡ self.old.forgotten }
     {
         if self.reserve.len() + self.hand().len() >= self.command.need() as usize {
             self.settle(heap);
@@ -93,6 +95,7 @@ impl<L: Entries> SeatParty<L> {
         requires spare { 0 < self.old.spare }
         ensures seat { self.new.seat ≡ seat_after (claim_move heap.now number self.old.seat) found }
         ensures spare { KeepsRoom self.old self.new }
+        ensures forgotten { self.new.forgotten ≡ self.old.forgotten }
     {
         let group = self.next_group(heap);
         let count = self.hands.claim(group, found);
@@ -125,6 +128,7 @@ impl<L: Entries> SeatParty<L> {
         requires spare { 0 < self.old.spare }
         ensures seat { self.new.seat ≡ seat_after (give_back_move number self.old.seat) 0 }
         ensures spare { KeepsRoom self.old self.new }
+        ensures forgotten { self.new.forgotten ≡ self.old.forgotten }
     {
         let group = first_group(self.hand());
         let count = count_in(self.hand(), group);
@@ -141,6 +145,7 @@ impl<L: Entries> SeatParty<L> {
     fn see_at_refusal(&mut self, found: u64)
         ensures seat { self.new.seat ≡ record self.old.seat { looks = refusal_looks self.old.seat.command found self.old.seat.looks } }
         ensures spare { self.new.spare ≡ self.old.spare }
+        ensures forgotten { self.new.forgotten ≡ self.old.forgotten }
     {
         match self.command {
             Command::Array { .. } => (),
@@ -153,6 +158,7 @@ impl<L: Entries> SeatParty<L> {
         requires { 0 < self.old.spare }
         ensures seat { self.new.seat ≡ seat_after (refusal_move number self.old.seat) found }
         ensures spare { KeepsRoom self.old self.new }
+        ensures forgotten { self.new.forgotten ≡ self.old.forgotten }
     {
         self.see_at_refusal(found);
         let given: u16 = self.given;

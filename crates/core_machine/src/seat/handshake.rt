@@ -77,6 +77,7 @@ impl<L: Entries> SeatParty<L> {
     fn shade_on(&mut self)
         ensures seat { self.new.seat ≡ answer_next self.old.seat }
         ensures spare { self.new.spare ≡ self.old.spare }
+        ensures forgotten { self.new.forgotten ≡ self.old.forgotten }
     {
         let more = (self.shaded as usize) < self.root_count();
         self.place = Place::Polling(if more {
@@ -91,6 +92,7 @@ impl<L: Entries> SeatParty<L> {
         requires { 0 < self.old.spare }
         ensures seat { self.new.seat ≡ with_entries (polling_over self.old.seat.command self.old.seat) (phase_told number self.old.seat.command phase) }
         ensures spare { KeepsRoom self.old self.new }
+        ensures forgotten { self.new.forgotten ≡ self.old.forgotten }
     {
         if let Command::Collect = self.command {
             self.finish();
@@ -104,6 +106,7 @@ impl<L: Entries> SeatParty<L> {
         requires { 0 < self.old.spare }
         ensures seat { self.new.seat ≡ seat_after (poll_move number self.old.seat) found }
         ensures spare { KeepsRoom self.old self.new }
+        ensures forgotten { self.new.forgotten ≡ self.old.forgotten }
     {
         self.looks.see(found);
         if found != self.answered {
@@ -121,6 +124,7 @@ impl<L: Entries> SeatParty<L> {
         requires more { self.old.seat.shaded < length (roots self.old.seat) }
         ensures seat { self.new.seat ≡ after_root_shade self.old.seat }
         ensures spare { self.new.spare ≡ self.old.spare }
+        ensures forgotten { self.new.forgotten ≡ self.old.forgotten }
     {
         self.shaded += 1;
         self.shade_on();
@@ -131,6 +135,7 @@ impl<L: Entries> SeatParty<L> {
         requires { 1 < self.old.spare }
         ensures seat { self.new.seat ≡ seat_after (answer_move number self.old.seat) 0 }
         ensures spare { KeepsRoom self.old self.new }
+        ensures forgotten { self.new.forgotten ≡ self.old.forgotten }
     {
         let phase = self.asked;
         self.answered = phase;
@@ -145,6 +150,7 @@ impl<L: Entries> SeatParty<L> {
     pub(crate) fn go(&mut self)
         ensures seat { self.new.seat ≡ record self.old.seat { place = Leaves (leave_place self.old.seat.reserve) } }
         ensures spare { self.new.spare ≡ self.old.spare }
+        ensures forgotten { self.new.forgotten ≡ self.old.forgotten }
     {
         self.place = Place::Leaving(leaving(self.reserve.as_slice()));
     }
@@ -165,6 +171,7 @@ impl<L: Entries> SeatParty<L> {
         requires spare { 0 < self.old.spare }
         ensures seat { self.new.seat ≡ seat_after (empty_move number self.old.seat) 0 }
         ensures spare { KeepsRoom self.old self.new }
+        ensures forgotten { self.new.forgotten ≡ self.old.forgotten }
     {
         let count = self.reserve.len() as u32;
         self.reserve = Reserve::new();
@@ -180,6 +187,7 @@ impl<L: Entries> SeatParty<L> {
         requires { 0 < self.old.spare }
         ensures seat { self.new.seat ≡ seat_after (leave_move number self.old.seat) 0 }
         ensures spare { KeepsRoom self.old self.new }
+        ensures forgotten { self.new.forgotten ≡ self.old.forgotten }
     {
         self.registers = [Register::Nil; REGISTER_COUNT];
         self.left = true;

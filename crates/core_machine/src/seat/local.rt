@@ -39,6 +39,7 @@ impl<L: Entries> SeatParty<L> {
         requires { IsCommand self.old.seat.command }
         ensures seat { self.new.seat ≡ record self.old.seat { registers = local_registers self.old.seat.registers self.old.seat.command } }
         ensures spare { self.new.spare ≡ self.old.spare }
+        ensures forgotten { self.new.forgotten ≡ self.old.forgotten }
     {
         match self.command {
             Command::Num { d, n } => self.registers[d as usize] = Register::Number(n),
@@ -55,6 +56,7 @@ impl<L: Entries> SeatParty<L> {
         requires spare { 0 < self.old.spare }
         ensures seat { self.new.seat ≡ seat_after (local_move number self.old.seat) found }
         ensures spare { KeepsRoom self.old self.new }
+        ensures forgotten { self.new.forgotten ≡ self.old.forgotten }
     {
         let reply = self.local_reply();
         self.looks.see(found);

@@ -24,6 +24,7 @@ impl<L: Entries> SeatParty<L> {
         requires spare { 0 < self.old.spare }
         ensures seat { self.new.seat ≡ seat_after (making_move heap.now number self.old.seat place) found }
         ensures spare { KeepsRoom self.old self.new }
+        ensures forgotten { self.new.forgotten ≡ self.old.forgotten }
     {
         match place {
             Making::Granting => self.learn_budget(heap, found),
@@ -49,6 +50,7 @@ impl<L: Entries> SeatParty<L> {
         requires spare { 0 < self.old.spare }
         ensures seat { self.new.seat ≡ seat_after (access_move heap.now number self.old.seat place) found }
         ensures spare { KeepsRoom self.old self.new }
+        ensures forgotten { self.new.forgotten ≡ self.old.forgotten }
     {
         match place {
             Access::LoadingMeta => self.learn_meta(number, found),
@@ -71,6 +73,7 @@ impl<L: Entries> SeatParty<L> {
         requires spare { 1 < self.old.spare }
         ensures seat { self.new.seat ≡ seat_after (polling_move number self.old.seat place) found }
         ensures spare { KeepsRoom self.old self.new }
+        ensures forgotten { self.new.forgotten ≡ self.old.forgotten }
     {
         match place {
             Polling::Asking => self.learn_phase(number, found),
@@ -85,6 +88,7 @@ impl<L: Entries> SeatParty<L> {
         requires spare { 0 < self.old.spare }
         ensures seat { self.new.seat ≡ seat_after (leaving_move number self.old.seat place) 0 }
         ensures spare { KeepsRoom self.old self.new }
+        ensures forgotten { self.new.forgotten ≡ self.old.forgotten }
     {
         match place {
             Leaving::Emptying => self.learn_empty(number),
@@ -102,6 +106,7 @@ impl<L: Entries> SeatParty<L> {
         requires spare { 1 < self.old.spare }
         ensures seat { self.new.seat ≡ seat_after_due self.old.seat (next_move heap.now number self.old.seat) found }
         ensures spare { KeepsRoom self.old self.new }
+        ensures forgotten { self.new.forgotten ≡ self.old.forgotten }
     {
         match self.place {
             Place::Idle => (),

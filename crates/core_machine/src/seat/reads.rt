@@ -1,5 +1,6 @@
-ghost use Rattle.std.specs.Prelude.{◌≡◌, ◌+◌, ◌-◌, ◌<◌, ◌^◌, length, slice_get};
+ghost use Rattle.std.specs.Prelude.{◌≡◌, ◌+◌, ◌-◌, ◌<◌, ◌≤◌, ◌^◌, length, drop, slice_get};
 
+use crate::log::recent::RecentLog;
 use crate::log::{CountsEntries, Entries, ShowsLast};
 use crate::place::Place;
 use crate::seat::SeatParty;
@@ -21,6 +22,24 @@ impl SeatParty {
     {
         let SeatParty { mine, .. } = self;
         mine.into_entries()
+    }
+}
+
+impl SeatParty<RecentLog> {
+    /// The seat's entries behind those that were forgotten.
+    pub fn recent(&self) -> &[Entry]
+        ensures recent { result.now ≡ drop self.now.forgotten self.now.seat.mine }
+        ensures within { self.now.forgotten ≤ length self.now.seat.mine }
+    {
+        self.mine.recent()
+    }
+
+    /// Forgets the entries so far.
+    pub fn forget(&mut self)
+        ensures forgotten { self.new ≡ record self.old { spare = self.new.spare; forgotten = length self.old.seat.mine } }
+        ensures spare { self.old.spare ≤ self.new.spare }
+    {
+        self.mine.forget();
     }
 }
 

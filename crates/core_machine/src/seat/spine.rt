@@ -61,6 +61,7 @@ impl<L: Entries> SeatParty<L> {
         requires few { length self.old.seat.reserve ≤ most_reserve }
         ensures seat { self.new.seat ≡ after_budget heap.now self.old.seat found }
         ensures spare { self.new.spare ≡ self.old.spare }
+        ensures forgotten { self.new.forgotten ≡ self.old.forgotten }
     {
         let most = u64::from(heap.spine);
         let need = u64::from(self.spine_need());
@@ -77,6 +78,7 @@ impl<L: Entries> SeatParty<L> {
         requires { 0 < self.old.spare }
         ensures seat { self.new.seat ≡ seat_after (withdraw_move number self.old.seat) 0 }
         ensures spare { KeepsRoom self.old self.new }
+        ensures forgotten { self.new.forgotten ≡ self.old.forgotten }
     {
         let need = self.command.spine_need();
         let used = self.used % (1 << 32);
@@ -93,6 +95,7 @@ impl<L: Entries> SeatParty<L> {
     pub(crate) fn learn_spine(&mut self, found: u64)
         ensures seat { self.new.seat ≡ after_placing self.old.seat found }
         ensures spare { self.new.spare ≡ self.old.spare }
+        ensures forgotten { self.new.forgotten ≡ self.old.forgotten }
     {
         self.spine = Spot::told(found);
         self.place = Place::Making(Making::Listing);
@@ -118,6 +121,7 @@ impl<L: Entries> SeatParty<L> {
         requires within { self.old.seat.listed < spine_need self.old.seat }
         ensures seat { self.new.seat ≡ after_listing self.old.seat }
         ensures spare { self.new.spare ≡ self.old.spare }
+        ensures forgotten { self.new.forgotten ≡ self.old.forgotten }
     {
         self.listed += 1;
         let more = self.listed < self.spine_need();
@@ -132,6 +136,7 @@ impl<L: Entries> SeatParty<L> {
     pub(crate) fn learn_address(&mut self, found: u64)
         ensures seat { self.new.seat ≡ after_address self.old.seat found }
         ensures spare { self.new.spare ≡ self.old.spare }
+        ensures forgotten { self.new.forgotten ≡ self.old.forgotten }
     {
         self.address = Spot::told(found);
         self.place = Place::Access(Access::Indexing);

@@ -61,6 +61,7 @@ impl<L: Entries> SeatParty<L> {
         requires register { r < register_count }
         ensures seat { self.new.seat ≡ access_start self.old.seat (register_in self.old.seat.registers r) }
         ensures spare { self.new.spare ≡ self.old.spare }
+        ensures forgotten { self.new.forgotten ≡ self.old.forgotten }
     {
         let Register::Object { head, .. } = self.registers[r as usize] else {
             self.place = Place::Local;
@@ -75,6 +76,7 @@ impl<L: Entries> SeatParty<L> {
         requires { field_of self.old.seat.command ≤ last_index }
         ensures seat { self.new.seat ≡ with_field_place self.old.seat }
         ensures spare { self.new.spare ≡ self.old.spare }
+        ensures forgotten { self.new.forgotten ≡ self.old.forgotten }
     {
         let field = Parts::of(&self.command).field;
         self.links = row(field);
@@ -116,6 +118,7 @@ impl<L: Entries> SeatParty<L> {
         requires { IfSome (pointer_in 0 found) (λ fragment. fragment < 2 ^ 16) }
         ensures seat { self.new.seat ≡ after_walk self.old.seat found }
         ensures spare { self.new.spare ≡ self.old.spare }
+        ensures forgotten { self.new.forgotten ≡ self.old.forgotten }
     {
         if self.links > 0 {
             self.reached = link_in(found);
@@ -130,6 +133,7 @@ impl<L: Entries> SeatParty<L> {
         requires leads { IfSome (pointer_in 0 found) (λ fragment. fragment < 2 ^ 16) }
         ensures seat { self.new.seat ≡ after_length self.old.seat found (array_length_of found) }
         ensures spare { self.new.spare ≡ self.old.spare }
+        ensures forgotten { self.new.forgotten ≡ self.old.forgotten }
     {
         if array_length(found).is_some() {
             self.links = 0;
@@ -146,6 +150,7 @@ impl<L: Entries> SeatParty<L> {
         requires { payload_in found < 2 ^ 16 }
         ensures seat { self.new.seat ≡ after_index self.old.seat found }
         ensures spare { self.new.spare ≡ self.old.spare }
+        ensures forgotten { self.new.forgotten ≡ self.old.forgotten }
     {
         self.reached = payload(found);
         self.place = Place::Access(self.field_place());
@@ -158,6 +163,7 @@ impl<L: Entries> SeatParty<L> {
         requires spare { 0 < self.old.spare }
         ensures seat { self.new.seat ≡ seat_after (open_move number self.old.seat) found }
         ensures spare { KeepsRoom self.old self.new }
+        ensures forgotten { self.new.forgotten ≡ self.old.forgotten }
     {
         let Some(reply) = meta_reply(&self.command, found) else {
             self.learn_length(found);

@@ -2,23 +2,10 @@
 use Rattle.std.proofs.Common.{◌≡◌, ◌≢◌, ◌⊎◌, ℕ, ◌+◌, ◌-◌, ◌*◌, ◌^◌, ◌<◌, ◌≤◌, inl, inr, Bool, true, false, List, length, get_or, sym, ap, ◌∙◌, subst, arith}
 use Rattle.heap_words.specs.declared.name.Name.{Name}
 use Rattle.heap_words.specs.declared.spot.Spot.{Spot}
-use Rattle.heap_model.specs.declared.heap.Heap.{Heap}
+use Rattle.core_rule.proofs.Terms.{Heap, Word, HandFits, HasBody, part_in, part_out, tally, at, spine_place, FitsSpot, spine_word, pointer_in, spine_words_in, newborn_word_of}
+use Rattle.core_rule.proofs.Terms.{next_name, Seat, spine_need, Colour, White, Black, fragment_at, WordPointsTo, IsMarked, Holding, IsSized, Owner, Borne, bears_bit}
 use Rattle.heap_model.specs.Heap.{IsHeap}
-use Rattle.core_machine.specs.declared.table.address.Address.TheVariants.{Word}
-use Rattle.core_machine.specs.seat.Fits.{HandFits, HasBody}
-use Rattle.core_machine.specs.table.Fragments.{part_in, part_out, tally}
-use Rattle.core_machine.specs.table.Layout.{at, spine_place, FitsSpot}
-use Rattle.heap_words.specs.Newborn.{spine_word}
-use Rattle.heap_words.specs.Loaded.{pointer_in}
-use Rattle.core_machine.specs.table.Decode.{spine_words_in}
-use Rattle.core_machine.specs.seat.Making.{newborn_word_of, next_name}
-use Rattle.core_machine.specs.seat.Seat.{Seat, spine_need}
-use Rattle.core_rule.specs.Book.{Colour, White, Black, fragment_at}
-use Rattle.core_rule.specs.Colours.{WordPointsTo, IsMarked}
-use Rattle.core_rule.specs.Holding.{Holding}
-use Rattle.core_rule.specs.Objects.{IsSized}
-use Rattle.core_rule.specs.Owners.{Owner, Borne, bears_bit}
-use Rattle.core_rule.specs.Together.{IsInOrder}
+use Rattle.core_rule.specs.hand.Together.{IsInOrder}
 use Rattle.core_rule.proofs.hand.Bodies.{body_borne, body_once}
 use Rattle.core_rule.proofs.owners.Handed.{none_or_some}
 use Rattle.core_rule.proofs.hand.HandMoves.{hand_once}

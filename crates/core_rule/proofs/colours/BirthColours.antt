@@ -2,18 +2,11 @@
 use Rattle.std.specs.Int.{bit_at}
 use Rattle.std.proofs.Common.{◌≡◌, ◌≢◌, ◌⊎◌, ℕ, suc, ◌+◌, ◌*◌, ◌/◌, ◌%◌, ◌<◌, ◌≤◌, if◌then◌else◌, nat_lt, inl, inr, max, cond, Bool, true, false, List, length, bit_or, refl, sym, ap, ◌∙◌, subst, arith}
 use Rattle.std.proofs.lemmas.Bool.Decides.{nat_tests, leb_tells}
-use Rattle.heap_model.specs.declared.heap.Heap.{Heap}
-use Rattle.core_machine.specs.declared.table.address.Address.TheVariants.{Control}
-use Rattle.core_machine.specs.table.Fragments.{part_in, mask_of, tally}
-use Rattle.core_machine.specs.table.Layout.{at, put, table_length}
+use Rattle.core_rule.proofs.Terms.{cycle_phases, marked_at, scanned_at, taken_at, Heap, Control, part_in, mask_of, tally, at, put, table_length, all_taken, word_without_taken}
+use Rattle.core_rule.proofs.Terms.{birth_bits_of, Seat, Colour, White, Grey, Black, fragment_at, Marks, WordPointsTo, IsMarked, IsBetween, Coloured, marked_bit, scanned_bit, Owner}
+use Rattle.core_rule.proofs.Terms.{Kept, born_bit, IsNear}
 use Rattle.core_machine.specs.seat.MakingMoves.{bears_black_of}
-use Rattle.core_machine.specs.table.Operation.{all_taken, word_without_taken, birth_bits_of}
-use Rattle.core_machine.specs.seat.Seat.{Seat}
 use Rattle.core_machine.proofs.table_lemmas.Masks.{mask-lt}
-use Rattle.core_rule.specs.Book.{Colour, White, Grey, Black, fragment_at}
-use Rattle.core_rule.specs.Colours.{Marks, WordPointsTo, IsMarked, IsBetween, Coloured, marked_bit, scanned_bit}
-use Rattle.core_rule.specs.Owners.{Owner, Kept, born_bit}
-use Rattle.core_rule.specs.Phases.{IsNear}
 use Rattle.core_rule.proofs.owners.Handed.{none_or_some}
 use Rattle.core_rule.proofs.words.MarkBits.{claim_past, untaken_past, birth_marked, birth_scanned}
 use Rattle.core_rule.proofs.colours.Births.{birth_colour}
@@ -56,8 +49,8 @@ black_late n none = elim (leb_tells 2 n) as (λ _. (if nat_lt 1 n then nat_lt n 
   | inr early ↦ rw early.0 refl
 ]
 
-pub white_early : (phase : ℕ) (seat : Seat) → IsNear phase seat.answered → phase % 7 ≤ 1 → bears_black_of seat ≡ false
-white_early phase seat near early = black_late (seat.answered % 7) (λ late below. elim near [
+pub white_early : (phase : ℕ) (seat : Seat) → IsNear phase seat.answered → phase % cycle_phases ≤ 1 → bears_black_of seat ≡ false
+white_early phase seat near early = black_late (seat.answered % cycle_phases) (λ late below. elim near [
   | inl same ↦ omega (arith, early, same, late)
   | inr before ↦ omega (arith, early, before, late, below)
 ])
@@ -81,11 +74,11 @@ module _ (heap : Heap) (words now : List ℕ) (owner later : ℕ → Owner) (col
   marks_stay f marked = painted_cases (λ c. c ≢ White) (birth_colour black) colour fs f (λ there. absurd (omega (arith, unborn f there, born f marked))) (λ away. marked)
 
   module _ (fragments now_fragments : ℕ → List ℕ) (phase : ℕ)
-      (late : phase % 7 ≤ 1 → black ≡ false)
+      (late : phase % cycle_phases ≤ 1 → black ≡ false)
       (bears : (f : ℕ) → born_bit (later f) ≡ born_bit (owner f) + tally f fs)
       (leads : (f source g : ℕ) → WordPointsTo heap now f source g → WordPointsTo heap words f source g)
       (ahead : black ≡ true → (f source g : ℕ) → 1 ≤ tally f fs → WordPointsTo heap words f source g → (1 ≤ tally g fs) ⊎ IsMarked colour g) where
-    white_birth : phase % 7 ≤ 1 → birth_colour black ≡ White
+    white_birth : phase % cycle_phases ≤ 1 → birth_colour black ≡ White
     white_birth early = ap birth_colour (late early)
 
     -- a black fragment was born black now, or was black
@@ -117,8 +110,8 @@ pub marks_claim : (heap : Heap) (words : List ℕ) (colour : ℕ → Colour) (g 
     → Marks heap (put heap words (Control g) (bit_or (at heap words (Control g)) all_taken)) colour
 marks_claim heap words colour g whole below marks =
     marks_after heap words colour colour g (bit_or (at heap words (Control g)) all_taken) whole below marks
-    (λ f here. claim_past (at heap words (Control g)) (32 + f % 16) (omega arith) ∙ found_marked heap words colour colour g 0 whole below marks f here)
-    (λ f here. claim_past (at heap words (Control g)) (48 + f % 16) (omega arith) ∙ found_scanned heap words colour colour g 0 whole below marks f here)
+    (λ f here. claim_past (at heap words (Control g)) (marked_at f) (omega arith) ∙ found_marked heap words colour colour g 0 whole below marks f here)
+    (λ f here. claim_past (at heap words (Control g)) (scanned_at f) (omega arith) ∙ found_scanned heap words colour colour g 0 whole below marks f here)
     (λ f apart. refl)
 
 -- nor does a give back
@@ -126,16 +119,16 @@ pub marks_give : (heap : Heap) (words : List ℕ) (colour : ℕ → Colour) (g :
     → Marks heap (put heap words (Control g) (word_without_taken (mask_of fs) (at heap words (Control g)))) colour
 marks_give heap words colour g fs whole below marks =
     marks_after heap words colour colour g (word_without_taken (mask_of fs) (at heap words (Control g))) whole below marks
-    (λ f here. untaken_past (at heap words (Control g)) (mask_of fs) (mask-lt fs) (32 + f % 16) (omega arith) (omega arith) ∙ found_marked heap words colour colour g 0 whole below marks f here)
-    (λ f here. untaken_past (at heap words (Control g)) (mask_of fs) (mask-lt fs) (48 + f % 16) (omega arith) (omega arith) ∙ found_scanned heap words colour colour g 0 whole below marks f here)
+    (λ f here. untaken_past (at heap words (Control g)) (mask_of fs) (mask-lt fs) (marked_at f) (omega arith) (omega arith) ∙ found_marked heap words colour colour g 0 whole below marks f here)
+    (λ f here. untaken_past (at heap words (Control g)) (mask_of fs) (mask-lt fs) (scanned_at f) (omega arith) (omega arith) ∙ found_scanned heap words colour colour g 0 whole below marks f here)
     (λ f apart. refl)
 
 -- the mask has the bits of the part
-birth_mask : (g f : ℕ) (fs : List ℕ) → f / 16 ≡ g → ((x : ℕ) → tally x fs ≤ 1) → bit_at (mask_of (part_in g fs)) (f % 16) ≡ tally f (part_in g fs)
+birth_mask : (g f : ℕ) (fs : List ℕ) → f / 16 ≡ g → ((x : ℕ) → tally x fs ≤ 1) → bit_at (mask_of (part_in g fs)) (taken_at f) ≡ tally f (part_in g fs)
 birth_mask g f fs here once =
     let place : 16 * g + f % 16 ≡ f = omega (arith, here) in
-    let bit : bit_at (mask_of (part_in g fs)) (f % 16) ≡ tally f fs
-    = subst (λ x. bit_at (mask_of (part_in g fs)) (f % 16) ≡ tally x fs) place (mask_bit g (f % 16) fs (omega arith) (once (16 * g + f % 16))) in
+    let bit : bit_at (mask_of (part_in g fs)) (taken_at f) ≡ tally f fs
+    = subst (λ x. bit_at (mask_of (part_in g fs)) (taken_at f) ≡ tally x fs) place (mask_bit g (f % 16) fs (omega arith) (once (16 * g + f % 16))) in
     bit ∙ sym (part_in-here g f fs here)
 
 module _ (bit : Colour → ℕ) (none : bit White ≡ 0) (all : bit Black ≡ 1) (colour : ℕ → Colour) (fs : List ℕ) (f : ℕ) where
@@ -163,10 +156,10 @@ marks_birth heap words colour g fs black whole below once white marks =
     let coloured : ℕ → Colour = painted (birth_colour black) colour (part_in g fs) in
     let word : ℕ = bit_or found (birth_bits_of black (mask_of (part_in g fs))) in
     marks_after heap words colour coloured g word whole below marks
-    (λ f here. bit_painted marked_bit refl refl colour (part_in g fs) f black (bit_at word (32 + f % 16)) (bit_at found (32 + f % 16)) (bit_at (mask_of (part_in g fs)) (f % 16))
+    (λ f here. bit_painted marked_bit refl refl colour (part_in g fs) f black (bit_at word (marked_at f)) (bit_at found (marked_at f)) (bit_at (mask_of (part_in g fs)) (taken_at f))
     (birth_marked found (mask_of (part_in g fs)) (mask-lt (part_in g fs)) (f % 16) (omega arith) black)
     (found_marked heap words colour colour g 0 whole below marks f here) (birth_mask g f fs here once) (part_once f) (white f))
-    (λ f here. bit_painted scanned_bit refl refl colour (part_in g fs) f black (bit_at word (48 + f % 16)) (bit_at found (48 + f % 16)) (bit_at (mask_of (part_in g fs)) (f % 16))
+    (λ f here. bit_painted scanned_bit refl refl colour (part_in g fs) f black (bit_at word (scanned_at f)) (bit_at found (scanned_at f)) (bit_at (mask_of (part_in g fs)) (taken_at f))
     (birth_scanned found (mask_of (part_in g fs)) (mask-lt (part_in g fs)) (f % 16) (omega arith) black)
     (found_scanned heap words colour colour g 0 whole below marks f here) (birth_mask g f fs here once) (part_once f) (white f))
     (λ f apart. painted_out (birth_colour black) colour (part_in g fs) f (part_in-away g f fs apart))

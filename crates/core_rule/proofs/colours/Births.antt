@@ -1,11 +1,7 @@
 -- What a seat has borne has one colour, by the machine's test of the seat's answer as by the rule's window.
 use Rattle.std.proofs.Common.{◌≡◌, ℕ, Bool, true, false, refl, ap, ◌∙◌, if◌then◌else◌}
-use Rattle.heap_model.specs.PhasePlan.{black_births, sweep}
+use Rattle.core_rule.proofs.Terms.{black_births, sweep, Seat, Colour, White, Black, BornColours, IsBetween, Owner, Borne}
 use Rattle.core_machine.specs.seat.MakingMoves.{bears_black_of}
-use Rattle.core_machine.specs.seat.Seat.{Seat}
-use Rattle.core_rule.specs.Book.{Colour, White, Black}
-use Rattle.core_rule.specs.Colours.{BornColours, IsBetween}
-use Rattle.core_rule.specs.Owners.{Owner, Borne}
 use Rattle.core_rule.proofs.cycle.Barriers.{black_window, window_black}
 
 -- the colour of a birth

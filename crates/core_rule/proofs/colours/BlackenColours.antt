@@ -4,13 +4,9 @@ use Rattle.std.specs.Prelude.{bit_or}
 use Rattle.std.proofs.Common.{◌≡◌, ◌≢◌, ◌⊎◌, ℕ, ◌+◌, ◌*◌, ◌/◌, ◌%◌, ◌<◌, ◌==◌, if◌then◌else◌, List, length, inl, inr, refl, sym, ap, ◌∙◌, subst, arith}
 use Rattle.std.proofs.lemmas.Bool.{eq-eqb}
 use Rattle.std.proofs.lemmas.Bool.Decides.{eqb_tells}
-use Rattle.heap_words.specs.Control.{blacken_bit_of}
-use Rattle.heap_model.specs.declared.heap.Heap.{Heap}
-use Rattle.core_machine.specs.declared.table.address.Address.TheVariants.{Control}
-use Rattle.core_machine.specs.table.Layout.{at, put, table_length}
-use Rattle.core_rule.specs.Book.{Colour, White, Grey, Black}
-use Rattle.core_rule.specs.Colours.{Marks, IsMarked, WordPointsTo, Coloured, marked_bit, scanned_bit}
-use Rattle.core_rule.specs.Owners.{Owner}
+use Rattle.core_rule.proofs.Terms.{cycle_phases, blacken_bit_of, marked_at, scanned_at, Heap, Control, at, put, table_length, Colour, White, Grey, Black, Marks, IsMarked}
+use Rattle.core_rule.proofs.Terms.{WordPointsTo, Coloured, marked_bit, scanned_bit, Owner}
+use Rattle.heap_model.specs.PhasePlan.{marking as marking_phase}
 use Rattle.core_rule.proofs.colours.LeadsFrames.{leads_control}
 use Rattle.core_rule.proofs.colours.OneBit.{bit_other, bit_here, bit_beside}
 use Rattle.core_rule.proofs.colours.MarkWords.{marks_after, found_marked, found_scanned}
@@ -73,8 +69,8 @@ module _ (heap : Heap) (words : List ℕ) (owner : ℕ → Owner) (colour : ℕ 
     | inr other ↦ ap marked_bit (scan_away colour f x other.1)
   ]
 
-  scanned_now : Marks heap words colour → (x : ℕ) → x / 16 ≡ f / 16 → bit_at (bit_or found (blacken_bit_of f)) (48 + x % 16) ≡ scanned_bit (with_scan colour f x)
-  scanned_now marks x here = elim (eqb_tells x f) as (λ _. bit_at (bit_or found (blacken_bit_of f)) (48 + x % 16) ≡ scanned_bit (with_scan colour f x)) [
+  scanned_now : Marks heap words colour → (x : ℕ) → x / 16 ≡ f / 16 → bit_at (bit_or found (blacken_bit_of f)) (scanned_at x) ≡ scanned_bit (with_scan colour f x)
+  scanned_now marks x here = elim (eqb_tells x f) as (λ _. bit_at (bit_or found (blacken_bit_of f)) (scanned_at x) ≡ scanned_bit (with_scan colour f x)) [
     | inl same ↦ rw (same.1, scan_here colour f) (bit_here found 48 f)
     | inr other ↦ bit_beside found 48 f x (λ e. other.1 (omega (arith, e, here)))
         ∙ found_scanned heap words colour colour (f / 16) 0 whole below marks x here ∙ ap scanned_bit (sym (scan_away colour f x other.1))
@@ -83,12 +79,12 @@ module _ (heap : Heap) (words : List ℕ) (owner : ℕ → Owner) (colour : ℕ 
   -- and the new colours
   pub marks_blacken : Marks heap words colour → Marks heap black_words (with_scan colour f)
   marks_blacken marks = marks_after heap words colour (with_scan colour f) (f / 16) (bit_or found (blacken_bit_of f)) whole below marks
-      (λ x here. bit_other found 48 f (32 + x % 16) (λ e. omega (arith, e)) ∙ found_marked heap words colour colour (f / 16) 0 whole below marks x here ∙ sym (same_marked x))
+      (λ x here. bit_other found 48 f (marked_at x) (λ e. omega (arith, e)) ∙ found_marked heap words colour colour (f / 16) 0 whole below marks x here ∙ sym (same_marked x))
       (scanned_now marks)
       (λ x apart. scan_away colour f x (λ e. apart (ap (λ y. y / 16) e)))
 
   -- which are right where it leads to marked fragments alone
-  pub coloured_blacken : (fragments : ℕ → List ℕ) (phase : ℕ) → phase % 7 ≡ 3 → ((source g : ℕ) → WordPointsTo heap words f source g → IsMarked colour g)
+  pub coloured_blacken : (fragments : ℕ → List ℕ) (phase : ℕ) → phase % cycle_phases ≡ marking_phase → ((source g : ℕ) → WordPointsTo heap words f source g → IsMarked colour g)
       → Coloured heap words owner colour fragments phase → Coloured heap black_words owner (with_scan colour f) fragments phase
   coloured_blacken fragments phase third seen stands = record {
     rest = λ rests. absurd (omega (arith, third, rests));

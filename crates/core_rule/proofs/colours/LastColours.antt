@@ -1,12 +1,7 @@
 -- The colours when the last fragments of an object are born: the object has one colour.
 use Rattle.std.specs.List.{list_all}
 use Rattle.std.proofs.Common.{◌≡◌, ◌≢◌, ℕ, ◌+◌, ◌≤◌, inl, inr, Bool, true, List, length, refl, sym, ap, ◌∙◌, subst, arith}
-use Rattle.heap_model.specs.declared.heap.Heap.{Heap}
-use Rattle.core_machine.specs.table.Fragments.{in_group, part_in, tally}
-use Rattle.core_rule.specs.Book.{Colour, fragment_at}
-use Rattle.core_rule.specs.Colours.{IsMarked, IsBetween, Coloured}
-use Rattle.core_rule.specs.Holding.{Holding}
-use Rattle.core_rule.specs.Owners.{Owner, Taken, Borne, Kept, born_bit, bears_bit}
+use Rattle.core_rule.proofs.Terms.{Heap, in_group, part_in, tally, Colour, fragment_at, IsMarked, IsBetween, Coloured, Holding, Owner, Taken, Borne, Kept, born_bit, bears_bit}
 use Rattle.core_rule.proofs.colours.BirthAhead.{is_borne}
 use Rattle.core_rule.proofs.colours.Births.{birth_colour, AreBorne}
 use Rattle.core_rule.proofs.colours.BirthColours.{painted, painted_in, painted_out}

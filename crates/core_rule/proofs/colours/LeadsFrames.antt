@@ -3,15 +3,9 @@ use Rattle.std.specs.Prelude.{if◌then◌else◌}
 use Rattle.std.proofs.Common.{◌≡◌, ◌≢◌, ◌⊎◌, ℕ, suc, ◌+◌, ◌-◌, ◌*◌, ◌<◌, List, length, inl, inr, refl, ap, ◌∙◌, sym, subst, Option, Some, None, nat_lt, arith}
 use Rattle.std.proofs.lemmas.Bool.{cases_eq}
 use Rattle.std.proofs.lemmas.Bool.Decides.{leb_tells}
-use Rattle.heap_words.specs.Spot.{spot_in}
-use Rattle.heap_model.specs.declared.heap.Heap.{Heap}
+use Rattle.core_rule.proofs.Terms.{spot_in, Heap, Control, Word, at, put, index_of, table_length, spine_place, pointer_in, payload_in, spine_words_in, WordPointsTo}
 use Rattle.core_machine.specs.declared.table.address.Address.{Address}
-use Rattle.core_machine.specs.declared.table.address.Address.TheVariants.{Control, Word}
-use Rattle.core_machine.specs.table.Layout.{at, put, index_of, table_length, spine_place}
-use Rattle.heap_words.specs.Loaded.{pointer_in, payload_in}
-use Rattle.core_machine.specs.table.Decode.{spine_words_in}
-use Rattle.core_rule.specs.Colours.{WordPointsTo}
-use Rattle.core_rule.specs.Sources.{spine_pointer, source_pointer}
+use Rattle.core_rule.specs.marking.Sources.{spine_pointer, source_pointer}
 use Rattle.core_rule.proofs.colours.SourceCases.{TellsNoSpine, source_cases, word_source, word_leads, lead_of_word, word_alone}
 use Rattle.core_rule.proofs.words.Addresses.{at-put_apart, word_same, fragment_other, part_other}
 

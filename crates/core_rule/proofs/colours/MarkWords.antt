@@ -2,11 +2,7 @@
 use Rattle.std.specs.Int.{bit_at}
 use Rattle.std.proofs.Common.{◌≡◌, ◌≢◌, ℕ, ◌+◌, ◌/◌, ◌%◌, ◌<◌, List, length, inl, inr, ◌∙◌, subst, arith}
 use Rattle.std.proofs.lemmas.Bool.Decides.{eqb_tells}
-use Rattle.heap_model.specs.declared.heap.Heap.{Heap}
-use Rattle.core_machine.specs.declared.table.address.Address.TheVariants.{Control}
-use Rattle.core_machine.specs.table.Layout.{at, put, table_length}
-use Rattle.core_rule.specs.Book.{Colour}
-use Rattle.core_rule.specs.Colours.{Marks, marked_bit, scanned_bit}
+use Rattle.core_rule.proofs.Terms.{marked_at, scanned_at, Heap, Control, at, put, table_length, Colour, Marks, marked_bit, scanned_bit}
 use Rattle.core_rule.proofs.words.Addresses.{control_same, control_other}
 
 -- the control words are as before
@@ -20,15 +16,15 @@ marks_same heap words now colour same marks = record {
 
 module _ (heap : Heap) (words : List ℕ) (colour coloured : ℕ → Colour) (g word : ℕ) (whole : length words ≡ table_length heap) (below : g < heap.groups) where
   -- a new word of a group, where it has the bits of the new colours, and the others' bits stay
-  pub marks_after : Marks heap words colour → ((f : ℕ) → f / 16 ≡ g → bit_at word (32 + f % 16) ≡ marked_bit (coloured f))
-      → ((f : ℕ) → f / 16 ≡ g → bit_at word (48 + f % 16) ≡ scanned_bit (coloured f)) → ((f : ℕ) → f / 16 ≢ g → coloured f ≡ colour f)
+  pub marks_after : Marks heap words colour → ((f : ℕ) → f / 16 ≡ g → bit_at word (marked_at f) ≡ marked_bit (coloured f))
+      → ((f : ℕ) → f / 16 ≡ g → bit_at word (scanned_at f) ≡ scanned_bit (coloured f)) → ((f : ℕ) → f / 16 ≢ g → coloured f ≡ colour f)
       → Marks heap (put heap words (Control g) word) coloured
   marks_after marks marked scanned stays = record {
-    marked = λ f within. elim (eqb_tells (f / 16) g) as (λ _. bit_at (at heap (put heap words (Control g) word) (Control (f / 16))) (32 + f % 16) ≡ marked_bit (coloured f)) [
+    marked = λ f within. elim (eqb_tells (f / 16) g) as (λ _. bit_at (at heap (put heap words (Control g) word) (Control (f / 16))) (marked_at f) ≡ marked_bit (coloured f)) [
       | inl same ↦ rw (same.1, control_same heap words word g whole below) (marked f same.1)
       | inr apart ↦ rw (control_other heap words word g (f / 16) apart.1, stays f apart.1) (marks.marked f within)
     ];
-    scanned = λ f within. elim (eqb_tells (f / 16) g) as (λ _. bit_at (at heap (put heap words (Control g) word) (Control (f / 16))) (48 + f % 16) ≡ scanned_bit (coloured f)) [
+    scanned = λ f within. elim (eqb_tells (f / 16) g) as (λ _. bit_at (at heap (put heap words (Control g) word) (Control (f / 16))) (scanned_at f) ≡ scanned_bit (coloured f)) [
       | inl same ↦ rw (same.1, control_same heap words word g whole below) (scanned f same.1)
       | inr apart ↦ rw (control_other heap words word g (f / 16) apart.1, stays f apart.1) (marks.scanned f within)
     ];
@@ -37,8 +33,8 @@ module _ (heap : Heap) (words : List ℕ) (colour coloured : ℕ → Colour) (g 
 
   -- the word found has the bits of the group's colours
   module _ (marks : Marks heap words colour) where
-    pub found_marked : (f : ℕ) → f / 16 ≡ g → bit_at (at heap words (Control g)) (32 + f % 16) ≡ marked_bit (colour f)
-    found_marked f here = subst (λ h. bit_at (at heap words (Control h)) (32 + f % 16) ≡ marked_bit (colour f)) here (marks.marked f (omega (arith, here, below)))
+    pub found_marked : (f : ℕ) → f / 16 ≡ g → bit_at (at heap words (Control g)) (marked_at f) ≡ marked_bit (colour f)
+    found_marked f here = subst (λ h. bit_at (at heap words (Control h)) (marked_at f) ≡ marked_bit (colour f)) here (marks.marked f (omega (arith, here, below)))
 
-    pub found_scanned : (f : ℕ) → f / 16 ≡ g → bit_at (at heap words (Control g)) (48 + f % 16) ≡ scanned_bit (colour f)
-    found_scanned f here = subst (λ h. bit_at (at heap words (Control h)) (48 + f % 16) ≡ scanned_bit (colour f)) here (marks.scanned f (omega (arith, here, below)))
+    pub found_scanned : (f : ℕ) → f / 16 ≡ g → bit_at (at heap words (Control g)) (scanned_at f) ≡ scanned_bit (colour f)
+    found_scanned f here = subst (λ h. bit_at (at heap words (Control h)) (scanned_at f) ≡ scanned_bit (colour f)) here (marks.scanned f (omega (arith, here, below)))

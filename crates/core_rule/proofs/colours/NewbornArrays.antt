@@ -1,18 +1,10 @@
 -- Where the sources of a newborn array lead: by the words of its spine to its payload fragments.
 use Rattle.std.proofs.Common.{◌≡◌, ◌≢◌, ℕ, zero, suc, ◌+◌, ◌-◌, ◌^◌, ◌<◌, ◌≤◌, false, eqb, List, length, get_or, Option, Some, None, refl, sym, ap, ◌∙◌, subst, arith}
-use Rattle.heap_words.specs.Spot.{spot_in}
+use Rattle.core_rule.proofs.Terms.{spot_in, array_words, Heap, Word, pointer_in, payload_in, spine_words_in, at, spine_place, FitsSpot, array_word_of, spine_word, fragment_at}
+use Rattle.core_rule.proofs.Terms.{WordPointsTo}
 use Rattle.heap_words.specs.declared.name.Name.{Name}
 use Rattle.heap_words.specs.declared.spot.Spot.{Spot}
-use Rattle.heap_model.specs.Needs.{array_words}
-use Rattle.heap_model.specs.declared.heap.Heap.{Heap}
-use Rattle.core_machine.specs.declared.table.address.Address.TheVariants.{Word}
-use Rattle.heap_words.specs.Loaded.{pointer_in, payload_in}
-use Rattle.core_machine.specs.table.Decode.{spine_words_in}
-use Rattle.core_machine.specs.table.Layout.{at, spine_place, FitsSpot}
-use Rattle.heap_words.specs.Newborn.{array_word_of, spine_word}
-use Rattle.core_rule.specs.Book.{fragment_at}
-use Rattle.core_rule.specs.Colours.{WordPointsTo}
-use Rattle.core_rule.specs.Sources.{spine_pointer}
+use Rattle.core_rule.specs.marking.Sources.{spine_pointer}
 use Rattle.core_rule.proofs.colours.NewbornLeads.{zero_leads}
 use Rattle.core_rule.proofs.colours.SourceCases.{TellsNoSpine, lead_cases, no_spine_leads, spine_cases}
 use Rattle.core_rule.proofs.ways.ArrayWords.{sentinel_nowhere, words_in-meta, spot_in-word, payload_in-word}

@@ -7,8 +7,7 @@ use Rattle.heap_words.specs.declared.cell.Cell.{Cell}
 use Rattle.heap_words.specs.declared.kind.Kind.TheVariants as kinds
 use Rattle.heap_words.specs.declared.name.Name.{Name}
 use Rattle.heap_words.specs.Name.{name_word}
-use Rattle.heap_words.specs.Loaded.{pointer_in, head_of, first_pointer, reference_of}
-use Rattle.heap_words.specs.Newborn.{record_meta, link_after, record_word_of}
+use Rattle.core_rule.proofs.Terms.{pointer_in, head_of, first_pointer, reference_of, record_meta, link_after, record_word_of}
 use Rattle.core_machine.proofs.table_lemmas.CellWords.{cell_of-cell_word}
 
 -- a word of 0 leads nowhere

@@ -7,15 +7,9 @@ use Rattle.std.proofs.lemmas.List.{get_or_past}
 use Rattle.heap_words.specs.declared.cell.Cell.{Cell}
 use Rattle.heap_words.specs.declared.kind.Kind.TheVariants as kinds
 use Rattle.heap_words.specs.declared.name.Name.{Name}
-use Rattle.heap_model.specs.Needs.{array_words}
-use Rattle.heap_model.specs.declared.id.Id.{Id}
-use Rattle.heap_model.specs.declared.id.Value.{Value}
+use Rattle.core_rule.proofs.Terms.{array_words, Id, Value, array_length_in, spine_words_in, record_meta, link_after, record_word_of, value_word}
 use Rattle.heap_model.specs.declared.id.Value.TheVariants as values
-use Rattle.heap_words.specs.Loaded.{array_length_in}
-use Rattle.core_machine.specs.table.Decode.{spine_words_in}
-use Rattle.heap_words.specs.Newborn.{record_meta, link_after, record_word_of}
 use Rattle.core_machine.proofs.table_lemmas.CellWords.{cell_of-cell_word}
-use Rattle.core_rule.specs.Objects.{value_word}
 use Rattle.core_rule.proofs.ways.Told.{HasRoom}
 
 -- how many words the spine has of a fragment whose first word is the cell's

@@ -3,11 +3,7 @@ use Rattle.std.specs.Int.{bit_at}
 use Rattle.std.specs.Prelude.{bit_or}
 use Rattle.std.proofs.Common.{◌≡◌, ◌≢◌, ℕ, ◌+◌, ◌*◌, ◌/◌, ◌%◌, ◌^◌, ◌<◌, ◌≤◌, List, length, refl, ◌∙◌, arith}
 use Rattle.std.proofs.lemmas.Nat.Bits.{bit_at_or, bit_at-pow_same, bit_at-pow_other, bit_at-lt}
-use Rattle.heap_model.specs.declared.heap.Heap.{Heap}
-use Rattle.core_machine.specs.declared.table.address.Address.TheVariants.{Control}
-use Rattle.core_machine.specs.table.Layout.{at, put, table_length}
-use Rattle.core_rule.specs.ControlWords.{Bits}
-use Rattle.core_rule.specs.Owners.{Owner}
+use Rattle.core_rule.proofs.Terms.{born_at, Heap, Control, at, put, table_length, Bits, Owner}
 use Rattle.core_rule.proofs.words.ControlLemmas.{bits_after, found_taken, found_born}
 
 module _ (word base f : ℕ) where
@@ -26,9 +22,13 @@ module _ (word base f : ℕ) where
   pub bit_beside : (x : ℕ) → x % 16 ≢ f % 16 → bit_at with_bit (base + x % 16) ≡ bit_at word (base + x % 16)
   bit_beside x apart = bit_other (base + x % 16) (λ e. apart (omega (arith, e)))
 
+-- those below stay
+pub bit_above : (word base f i : ℕ) → i < base → bit_at (bit_or word (2 ^ (base + f % 16))) i ≡ bit_at word i
+bit_above word base f i below = bit_other word base f i (λ e. omega (arith, e, below))
+
 -- the born bits stay
-pub bit_born : (word base f x : ℕ) → 32 ≤ base → bit_at (bit_or word (2 ^ (base + f % 16))) (16 + x % 16) ≡ bit_at word (16 + x % 16)
-bit_born word base f x above = bit_other word base f (16 + x % 16) (λ e. omega (arith, e, above))
+pub bit_born : (word base f x : ℕ) → 32 ≤ base → bit_at (bit_or word (2 ^ (base + f % 16))) (born_at x) ≡ bit_at word (born_at x)
+bit_born word base f x above = bit_other word base f (born_at x) (λ e. omega (arith, e, above))
 
 -- so the control words have the same owners
 pub bits_marked : (heap : Heap) (words : List ℕ) (owner : ℕ → Owner) (base f : ℕ) → length words ≡ table_length heap → f < 16 * heap.groups → 32 ≤ base → Bits heap words owner

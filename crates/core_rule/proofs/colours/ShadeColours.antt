@@ -4,13 +4,10 @@ use Rattle.std.specs.Prelude.{bit_or}
 use Rattle.std.proofs.Common.{◌≡◌, ◌≢◌, ◌⊎◌, ℕ, ◌+◌, ◌*◌, ◌/◌, ◌%◌, ◌<◌, ◌==◌, if◌then◌else◌, List, length, inl, inr, refl, sym, ap, ◌∙◌, subst, arith}
 use Rattle.std.proofs.lemmas.Bool.{eq-eqb}
 use Rattle.std.proofs.lemmas.Bool.Decides.{eqb_tells}
-use Rattle.heap_model.specs.declared.heap.Heap.{Heap}
-use Rattle.core_machine.specs.declared.table.address.Address.TheVariants.{Control}
-use Rattle.core_machine.specs.table.Layout.{at, put, table_length}
+use Rattle.core_rule.proofs.Terms.{cycle_phases, marked_at, scanned_at, Heap, Control, at, put, table_length, Colour, White, Grey, Black, fragment_at, Marks, IsMarked, Coloured}
+use Rattle.core_rule.proofs.Terms.{marked_bit, scanned_bit, Owner, Kept, born_bit}
+use Rattle.heap_model.specs.PhasePlan.{rest as resting}
 use Rattle.core_machine.specs.table.Operation.{shade_bit_of}
-use Rattle.core_rule.specs.Book.{Colour, White, Grey, Black, fragment_at}
-use Rattle.core_rule.specs.Colours.{Marks, IsMarked, Coloured, marked_bit, scanned_bit}
-use Rattle.core_rule.specs.Owners.{Owner, Kept, born_bit}
 use Rattle.core_rule.proofs.colours.LeadsFrames.{leads_control}
 use Rattle.core_rule.proofs.colours.OneBit.{bit_other, bit_here, bit_beside}
 use Rattle.core_rule.proofs.colours.MarkWords.{marks_after, found_marked, found_scanned}
@@ -87,8 +84,8 @@ module _ (heap : Heap) (words : List ℕ) (owner : ℕ → Owner) (colour : ℕ 
   below : f / 16 < heap.groups
   below = omega (arith, within)
 
-  marked_now : Marks heap words colour → (x : ℕ) → x / 16 ≡ f / 16 → bit_at (bit_or (at heap words (Control (f / 16))) (shade_bit_of f)) (32 + x % 16) ≡ marked_bit (with_mark colour f x)
-  marked_now marks x here = elim (eqb_tells x f) as (λ _. bit_at (bit_or (at heap words (Control (f / 16))) (shade_bit_of f)) (32 + x % 16) ≡ marked_bit (with_mark colour f x)) [
+  marked_now : Marks heap words colour → (x : ℕ) → x / 16 ≡ f / 16 → bit_at (bit_or (at heap words (Control (f / 16))) (shade_bit_of f)) (marked_at x) ≡ marked_bit (with_mark colour f x)
+  marked_now marks x here = elim (eqb_tells x f) as (λ _. bit_at (bit_or (at heap words (Control (f / 16))) (shade_bit_of f)) (marked_at x) ≡ marked_bit (with_mark colour f x)) [
     | inl same ↦ rw (same.1, mark_here colour f, marked_whole (colour f)) (bit_here (at heap words (Control (f / 16))) 32 f)
     | inr other ↦ bit_beside (at heap words (Control (f / 16))) 32 f x (λ e. other.1 (omega (arith, e, here)))
         ∙ found_marked heap words colour colour (f / 16) 0 whole below marks x here ∙ ap marked_bit (sym (mark_away colour f x other.1))
@@ -104,12 +101,12 @@ module _ (heap : Heap) (words : List ℕ) (owner : ℕ → Owner) (colour : ℕ 
   pub marks_shade : Marks heap words colour → Marks heap shaded_words (with_mark colour f)
   marks_shade marks = marks_after heap words colour (with_mark colour f) (f / 16) (bit_or (at heap words (Control (f / 16))) (shade_bit_of f)) whole below marks
       (marked_now marks)
-      (λ x here. bit_other (at heap words (Control (f / 16))) 32 f (48 + x % 16) (λ e. omega (arith, e)) ∙ found_scanned heap words colour colour (f / 16) 0 whole below marks x here ∙ sym (scanned_now x))
+      (λ x here. bit_other (at heap words (Control (f / 16))) 32 f (scanned_at x) (λ e. omega (arith, e)) ∙ found_scanned heap words colour colour (f / 16) 0 whole below marks x here ∙ sym (scanned_now x))
       (λ x apart. mark_away colour f x (λ e. apart (ap (λ y. y / 16) e)))
 
   -- which are right where it is a kept object's, whose first fragment is marked then, and the heap doesn't rest
   pub coloured_shade : (fragments : ℕ → List ℕ) (phase i k : ℕ) → owner f ≡ Kept i k → IsMarked (with_mark colour f) (fragment_at (fragments i) 0)
-      → phase % 7 ≢ 0 → Coloured heap words owner colour fragments phase → Coloured heap shaded_words owner (with_mark colour f) fragments phase
+      → phase % cycle_phases ≢ resting → Coloured heap words owner colour fragments phase → Coloured heap shaded_words owner (with_mark colour f) fragments phase
   coloured_shade fragments phase i k kept first runs stands = record {
     rest = λ rests. absurd (runs rests);
     early = λ one x black. stands.early one x (mark_black colour f x black);

@@ -3,15 +3,9 @@ use Rattle.std.proofs.Common.{◌≡◌, ◌≢◌, ℕ, ◌+◌, ◌-◌, ◌*�
 use Rattle.std.specs.Prelude.{if◌then◌else◌}
 use Rattle.std.proofs.lemmas.Bool.{lt-ltb}
 use Rattle.std.proofs.lemmas.Bool.Decides.{leb_tells}
-use Rattle.heap_words.specs.Spot.{spot_in}
-use Rattle.heap_model.specs.declared.heap.Heap.{Heap}
-use Rattle.core_machine.specs.declared.table.address.Address.TheVariants.{Word}
-use Rattle.core_machine.specs.table.Layout.{at, spine_place}
-use Rattle.heap_words.specs.Loaded.{pointer_in, payload_in}
-use Rattle.core_machine.specs.table.Decode.{spine_words_in}
-use Rattle.core_rule.specs.Colours.{WordPointsTo}
-pub use Rattle.core_rule.specs.Sources.{TellsNoSpine}
-use Rattle.core_rule.specs.Sources.{spine_pointer, source_pointer}
+use Rattle.core_rule.proofs.Terms.{spot_in, Heap, Word, at, spine_place, pointer_in, payload_in, spine_words_in, WordPointsTo}
+pub use Rattle.core_rule.specs.marking.Sources.{TellsNoSpine}
+use Rattle.core_rule.specs.marking.Sources.{spine_pointer, source_pointer}
 
 none_below : (n k : ℕ) (o : Option ℕ) → n ≡ 0 → (if nat_lt k n then o else None) ≡ None
 none_below n k o none = elim (leb_tells (suc k) n) as (λ _. (if nat_lt k n then o else None) ≡ None) [

@@ -1,10 +1,6 @@
 -- A fragment's spine stands as before, and its words lead where they led.
 use Rattle.std.proofs.Common.{◌≡◌, ℕ, ◌+◌, ◌<◌, List, refl, ap, ◌∙◌, sym, arith}
-use Rattle.heap_model.specs.declared.heap.Heap.{Heap}
-use Rattle.core_machine.specs.declared.table.address.Address.TheVariants.{Word}
-use Rattle.core_machine.specs.table.Decode.{spine_words_in}
-use Rattle.core_machine.specs.table.Layout.{at}
-use Rattle.core_rule.specs.Colours.{WordPointsTo}
+use Rattle.core_rule.proofs.Terms.{Heap, Word, spine_words_in, at, WordPointsTo}
 use Rattle.core_rule.proofs.colours.LeadsFrames.{SameSources, same_leads}
 use Rattle.core_rule.proofs.colours.SourceCases.{TellsNoSpine, word_alone}
 

@@ -1,17 +1,6 @@
 -- The array that begins with a fragment: its name, and the place of its spine.
 use Rattle.std.proofs.Common.{◌≡◌, ℕ, ◌<◌, length, sym, ap, ◌∙◌}
-use Rattle.heap_words.specs.Spot.{spot_in}
-use Rattle.heap_model.specs.declared.heap.Heap.{Heap}
-use Rattle.heap_model.specs.account.Cycles.{graph_of}
-use Rattle.core_machine.specs.declared.table.address.Address.TheVariants.{Word}
-use Rattle.core_machine.specs.machine.Machine.{State}
-use Rattle.core_machine.specs.table.Decode.{id_of}
-use Rattle.core_machine.specs.table.Layout.{at, FitsSpot}
-use Rattle.core_rule.specs.Book.{Book, fragment_at, id_at}
-use Rattle.core_rule.specs.Objects.{IsKept, node_at}
-use Rattle.core_rule.specs.Owners.{Kept}
-use Rattle.core_rule.specs.Replicas.{BeginsArray}
-use Rattle.core_rule.specs.Rule.{Rule}
+use Rattle.core_rule.proofs.Terms.{spot_in, Heap, graph_of, Word, State, id_of, at, FitsSpot, Book, fragment_at, id_at, IsKept, node_at, Kept, BeginsArray, Rule}
 use Rattle.core_rule.proofs.objects.SpinePlaces.{spine_placed}
 use Rattle.core_rule.proofs.ways.KeptWords.{name_found, spine_found}
 

@@ -1,30 +1,20 @@
 -- The collector claims the place of a copy: it fits into the budget, and its words are the collector's.
 use Rattle.std.proofs.Common.{◌≡◌, ℕ, ◌+◌, ◌-◌, ◌%◌, ◌^◌, ◌<◌, ◌≤◌, List, refl, ap, arith}
 use Rattle.heap_words.specs.declared.spot.Spot.{Spot as Place}
-use Rattle.heap_model.specs.declared.heap.Heap.{Heap}
-use Rattle.heap_model.specs.account.Cycles.{graph_of}
-use Rattle.heap_model.specs.graph.Graph.{Node}
+use Rattle.core_rule.proofs.Terms.{Heap, graph_of, Node, Budget, State, seat_at, at, Book, of_seats, granted_at, placed_at, copying_words, node_at, SpineOwner, Placed, IsToCopy}
+use Rattle.core_rule.proofs.Terms.{Rule, HeapStands, SeatStands, IsWordOf, next_spine}
 use Rattle.core_machine.specs.declared.collector.stage.ArrayAt.{ArrayAt}
 use Rattle.core_machine.specs.declared.collector.stage.Copying.TheVariants.{Claiming}
 use Rattle.core_machine.specs.declared.collector.stage.SpineCopy.{SpineCopy}
 use Rattle.core_machine.specs.declared.collector.stage.Stage.TheVariants as stages
-use Rattle.core_machine.specs.declared.table.address.Address.TheVariants.{Spot, Budget}
-use Rattle.core_machine.specs.machine.Machine.{State, seat_at}
-use Rattle.core_machine.specs.table.Layout.{at}
-use Rattle.core_rule.specs.Book.{Book}
-use Rattle.core_rule.specs.Budgets.{of_seats, granted_at, placed_at, copying_words}
-use Rattle.core_rule.specs.Objects.{node_at}
-use Rattle.core_rule.specs.Owners.{SpineOwner, Placed}
-use Rattle.core_rule.specs.Replicas.{IsToCopy}
-use Rattle.core_rule.specs.Rule.{Rule, HeapStands, SeatStands}
-use Rattle.core_rule.specs.Spines.{IsWordOf, next_spine}
+use Rattle.core_machine.specs.declared.table.address.Address.TheVariants.{Spot}
 use Rattle.core_rule.proofs.colours.LeadsFrames.{leads_same, same_ahead}
 use Rattle.core_rule.proofs.copies.CopyWords.{HasCopy}
 use Rattle.core_rule.proofs.copies.CopyingStages.{IsFree, few_from, leaving, unplaced}
 use Rattle.core_rule.proofs.copies.VisitsOn.{found_from}
 use Rattle.core_rule.proofs.frames.BesideFrames.{LeavesBeside, beside_aside, arrays_stay, heap_beside, seat_beside}
 use Rattle.core_rule.proofs.lists.SumLemmas.{sum_le}
-use Rattle.core_rule.proofs.spines.OffsetWithin.{placed_few, copy_within}
+use Rattle.core_rule.proofs.budgets.OffsetWithin.{placed_few, copy_within}
 use Rattle.core_rule.proofs.spines.SpineFrames.{spine_words_stay}
 use Rattle.core_rule.proofs.spines.SpotClaims.{claim_cases, claim_has, words_claimed, owner_claimed, same_claimed, leaves_claimed, places_claimed, spines_claimed}
 use Rattle.core_rule.proofs.words.Addresses.{at-put_apart}

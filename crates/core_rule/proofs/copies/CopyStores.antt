@@ -3,28 +3,16 @@ use Rattle.std.specs.Option.{option_map_or}
 use Rattle.std.proofs.Common.{◌≡◌, ◌≢◌, ℕ, ◌+◌, ◌*◌, ◌<◌, ◌≤◌, List, length, inl, inr, refl, sym, ap, ◌∙◌, subst, arith}
 use Rattle.std.proofs.lemmas.Bool.{cases_eq}
 use Rattle.heap_words.specs.declared.spot.Spot.{Spot}
-use Rattle.heap_model.specs.declared.heap.Heap.{Heap}
-use Rattle.heap_model.specs.Needs.{array_words}
-use Rattle.heap_model.specs.account.Cycles.{graph_of}
-use Rattle.heap_model.specs.graph.Graph.{Node}
+use Rattle.core_rule.proofs.Terms.{Heap, array_words, graph_of, Node, State, seat_at, spine_need, at, put, spine_place, Book, Black, fragment_at, WordPointsTo, AfterMarking}
+use Rattle.core_rule.proofs.Terms.{IsKept, node_at, Owner, Free, Taken, Borne, Kept, Dead, born_bit, SpineOwner, Open, Placed, Spined, Gone, CopyInHand, IsToCopy, Rule, HeapStands}
+use Rattle.core_rule.proofs.Terms.{SeatStands, next_spine}
 use Rattle.core_machine.specs.collector.CopyingTurns.{sentinel_at}
 use Rattle.core_machine.specs.collector.FitsCopying.{FitsStoring}
 use Rattle.core_machine.specs.declared.collector.stage.Copying.TheVariants.{Storing}
 use Rattle.core_machine.specs.declared.collector.stage.SpineCopy.{SpineCopy}
 use Rattle.core_machine.specs.declared.collector.stage.Stage.TheVariants as stages
 use Rattle.core_machine.specs.declared.table.address.Address.TheVariants as addresses
-use Rattle.core_machine.specs.machine.Machine.{State, seat_at}
-use Rattle.core_machine.specs.seat.Seat.{spine_need}
-use Rattle.core_machine.specs.table.Layout.{at, put, spine_place}
 use Rattle.core_machine.proofs.table_lemmas.Addresses.{at-put_same}
-use Rattle.core_rule.specs.Book.{Book, Black, fragment_at}
-use Rattle.core_rule.specs.Colours.{WordPointsTo}
-use Rattle.core_rule.specs.Marking.{AfterMarking}
-use Rattle.core_rule.specs.Objects.{IsKept, node_at}
-use Rattle.core_rule.specs.Owners.{Owner, Free, Taken, Borne, Kept, Dead, born_bit, SpineOwner, Open, Placed, Spined, Gone}
-use Rattle.core_rule.specs.Replicas.{CopyInHand, IsToCopy}
-use Rattle.core_rule.specs.Rule.{Rule, HeapStands, SeatStands}
-use Rattle.core_rule.specs.Spines.{next_spine}
 use Rattle.core_rule.proofs.colours.LeadsFrames.{SameSources, leads_same}
 use Rattle.core_rule.proofs.colours.SourceCases.{TellsNoSpine}
 use Rattle.core_rule.proofs.copies.BegunArrays.{begun_there}
@@ -36,8 +24,8 @@ use Rattle.core_rule.proofs.entries.AtRest.{seat_fits}
 use Rattle.core_rule.proofs.frames.BesideFrames.{LeavesBeside, beside_spine, ArraysStay, heap_beside, seat_beside}
 use Rattle.core_rule.proofs.marking.KeptSources.{kept_sources}
 use Rattle.core_rule.proofs.objects.SpinePlaces.{place_fits}
-use Rattle.core_rule.proofs.spines.DeadWords.{dead_within}
-use Rattle.core_rule.proofs.spines.OffsetWithin.{word_inside}
+use Rattle.core_rule.proofs.dying.DeadWords.{dead_within}
+use Rattle.core_rule.proofs.budgets.OffsetWithin.{word_inside}
 use Rattle.core_rule.proofs.spines.SpineFrames.{same_kept, same_shapes, spines_at_spot, spines_left, SpineIsStored}
 use Rattle.core_rule.proofs.steps.making.ListingStep.{listed_few}
 use Rattle.core_rule.proofs.words.Addresses.{at-put_apart, spine_other}

@@ -1,23 +1,12 @@
 -- The words of the copy in progress: the collector has them, from the claim of their place on, and the first ones equal those of the spine.
 use Rattle.std.proofs.Common.{◌≡◌, ℕ, suc, ◌+◌, ◌<◌, ◌≤◌, List, Some, inl, inr, refl, subst}
 use Rattle.std.proofs.lemmas.Bool.Decides.{leb_tells}
-use Rattle.heap_model.specs.declared.heap.Heap.{Heap}
-use Rattle.heap_model.specs.account.Cycles.{graph_of}
+use Rattle.core_rule.proofs.Terms.{Heap, graph_of, Stage, State, at, spine_place, Book, copying_words, IsToVisit, node_at, SpineOwner, Placed, CopyInHand, IsToCopy, copy_in, Rule}
+use Rattle.core_rule.proofs.Terms.{IsWordOf, next_spine}
 use Rattle.core_machine.specs.collector.Copying.{copy_at}
 use Rattle.core_machine.specs.declared.collector.stage.Copying.TheVariants.{Loading, Swinging}
 use Rattle.core_machine.specs.declared.collector.stage.SpineCopy.{SpineCopy}
-use Rattle.core_machine.specs.declared.collector.stage.Stage.{Stage}
 use Rattle.core_machine.specs.declared.collector.stage.Stage.TheVariants as stages
-use Rattle.core_machine.specs.machine.Machine.{State}
-use Rattle.core_machine.specs.table.Layout.{at, spine_place}
-use Rattle.core_rule.specs.Book.{Book}
-use Rattle.core_rule.specs.Budgets.{copying_words}
-use Rattle.core_rule.specs.Halves.{IsToVisit}
-use Rattle.core_rule.specs.Objects.{node_at}
-use Rattle.core_rule.specs.Owners.{SpineOwner, Placed}
-use Rattle.core_rule.specs.Replicas.{CopyInHand, IsToCopy, copy_in}
-use Rattle.core_rule.specs.Rule.{Rule}
-use Rattle.core_rule.specs.Spines.{IsWordOf, next_spine}
 use Rattle.core_rule.proofs.copies.CopyingStages.{LeadsBy}
 use Rattle.core_rule.proofs.copies.VisitsOn.{ArraysOr}
 

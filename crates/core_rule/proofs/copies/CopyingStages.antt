@@ -1,32 +1,19 @@
 -- What stands in the phase of copying whichever of its stages the collector comes to.
 use Rattle.std.proofs.Common.{◌≡◌, ◌≢◌, ◌⊎◌, ℕ, ◌+◌, ◌%◌, ◌<◌, true, List, [], length, Option, None, inl, inr, refl, sym, ap, ◌∙◌, subst, arith}
-use Rattle.heap_words.specs.Spot.{spot_in}
-use Rattle.heap_model.specs.declared.entry.Entry.{Entry}
-use Rattle.heap_model.specs.declared.heap.Heap.{Heap}
-use Rattle.heap_model.specs.account.Cycles.{graph_of}
+use Rattle.core_rule.proofs.Terms.{cycle_phases, spot_in, Entry, Heap, graph_of, FitsCopying, Stage, Budget, State, IsMachine, at, put, Book, Colour, fragment_at, BudgetsStand}
+use Rattle.core_rule.proofs.Terms.{SweepCounts, copying_words, placed_words, returning, HalvesStand, IsBeforeNext, IsLeftBehind, AwaitsCopy, IsLeaving, WhileCopying, half_at}
+use Rattle.core_rule.proofs.Terms.{ScanStands, IsFewWords, PassStands, AfterMarking, MarkingStands, IsKept, node_at, Owner, SpineOwner, Open, Placed, CopyingStands, CopyInHand}
+use Rattle.core_rule.proofs.Terms.{copy_in, Rule, SpaceStands, next_spine, SweepStands}
+use Rattle.heap_model.specs.PhasePlan.{copying as copying_phase}
 use Rattle.core_machine.specs.collector.Copying.{next_half, left_half, after_seen}
-use Rattle.core_machine.specs.collector.FitsTurns.{FitsStage, FitsCopying}
+use Rattle.core_machine.specs.collector.FitsTurns.{FitsStage}
 use Rattle.core_machine.specs.declared.collector.stage.Copying.{Copying}
-use Rattle.core_machine.specs.declared.collector.stage.Stage.{Stage}
 use Rattle.core_machine.specs.declared.collector.stage.Stage.TheVariants as stages
 use Rattle.core_machine.specs.declared.table.address.Address.{Address}
-use Rattle.core_machine.specs.declared.table.address.Address.TheVariants.{Budget, Spot}
-use Rattle.core_machine.specs.machine.Machine.{State}
-use Rattle.core_machine.specs.machine.Value.{IsMachine}
-use Rattle.core_machine.specs.table.Layout.{at, put}
-use Rattle.core_rule.specs.Book.{Book, Colour, fragment_at}
-use Rattle.core_rule.specs.Budgets.{BudgetsStand, SweepCounts, copying_words, placed_words, returning}
-use Rattle.core_rule.specs.Halves.{HalvesStand, IsBeforeNext, IsLeftBehind, AwaitsCopy, IsLeaving, WhileCopying, half_at}
-use Rattle.core_rule.specs.Marking.{ScanStands, IsFewWords, PassStands, AfterMarking, MarkingStands}
-use Rattle.core_rule.specs.Objects.{IsKept, node_at}
-use Rattle.core_rule.specs.Owners.{Owner, SpineOwner, Open, Placed}
-use Rattle.core_rule.specs.Replicas.{CopyingStands, CopyInHand, copy_in}
-use Rattle.core_rule.specs.Rule.{Rule, SpaceStands}
-use Rattle.core_rule.specs.Spines.{next_spine}
-use Rattle.core_rule.specs.Sweep.{SweepStands}
+use Rattle.core_machine.specs.declared.table.address.Address.TheVariants.{Spot}
 use Rattle.core_rule.proofs.copies.Visits.{seen_cases}
-use Rattle.core_rule.proofs.footprint.BookGoing.{book_stays}
-use Rattle.core_rule.proofs.spines.Leaving.{none_copied, copy_away}
+use Rattle.core_rule.proofs.book.BookGoing.{book_stays}
+use Rattle.core_rule.proofs.halves.Leaving.{none_copied, copy_away}
 use Rattle.core_rule.proofs.steps.Assemble.{Keeps}
 use Rattle.core_rule.proofs.steps.TurnSteps.{after_turn, quiet, load_turns_with}
 
@@ -37,7 +24,7 @@ IsOfCopying stages.Advancing = Unit {0}
 IsOfCopying _ = ⊥
 
 -- at such a stage nothing is scanned, passed or swept
-module _ (heap : Heap) (words : List ℕ) (owner : ℕ → Owner) (colour : ℕ → Colour) (fragments : ℕ → List ℕ) (phase : ℕ) (copies : phase % 7 ≡ 4) where
+module _ (heap : Heap) (words : List ℕ) (owner : ℕ → Owner) (colour : ℕ → Colour) (fragments : ℕ → List ℕ) (phase : ℕ) (copies : phase % cycle_phases ≡ copying_phase) where
   no_scan : (stage : Stage) → IsOfCopying stage → ScanStands heap words owner colour fragments stage × PassStands colour stage × SweepStands heap owner colour phase stage
   no_scan (stages.Copying stage) of = (tt, tt, tt)
   no_scan stages.Advancing of = (tt, tt, λ swept. absurd (omega (arith, copies, swept)))
@@ -67,7 +54,7 @@ none_counted words owner stages.Advancing of = tt
 none_counted words owner _ of = absurd of
 
 -- spines have their places in the half that this cycle's flip has gone to
-pub half_copying : (phase : ℕ) (stage : Stage) → phase % 7 ≡ 4 → half_at phase stage ≡ next_half phase
+pub half_copying : (phase : ℕ) (stage : Stage) → phase % cycle_phases ≡ copying_phase → half_at phase stage ≡ next_half phase
 half_copying phase stage copies = rw copies refl
 
 -- which is the other one
@@ -103,7 +90,7 @@ abbrev pub LeadsTo : Heap → State → Book → Stage → Type 0
 LeadsTo heap state book stage = LeadsBy heap state book state.words 0 stage
 
 module _ (heap : Heap) (state : State) (book : Book) (rule : Rule heap state book) (from : Copying) (was : state.collector.stage ≡ stages.Copying from) where
-  fits_copying : (state.collector.looked ≡ heap.seats) × (state.collector.phase % 7 ≡ 4) × FitsCopying heap from
+  fits_copying : (state.collector.looked ≡ heap.seats) × (state.collector.phase % cycle_phases ≡ copying_phase) × FitsCopying heap from
   fits_copying = let fits = subst (FitsStage heap state.collector.phase state.collector.looked) was rule.machine.collector_fit.at_stage in (fits.0.all, fits.0.for_copying, fits.1)
 
   -- all have answered
@@ -111,7 +98,7 @@ module _ (heap : Heap) (state : State) (book : Book) (rule : Rule heap state boo
   all_looked = fits_copying.0
 
   -- the phase is that of copying
-  pub in_copying : state.collector.phase % 7 ≡ 4
+  pub in_copying : state.collector.phase % cycle_phases ≡ copying_phase
   in_copying = fits_copying.1
 
   pub fits_from : FitsCopying heap from

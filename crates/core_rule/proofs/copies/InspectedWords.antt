@@ -9,36 +9,15 @@ use Rattle.heap_words.specs.declared.kind.Kind.TheVariants as kinds
 use Rattle.heap_words.specs.declared.name.Name.{Name}
 use Rattle.heap_words.specs.declared.spot.Spot.{Spot}
 use Rattle.heap_words.specs.Cell.{cell_of}
-use Rattle.heap_model.specs.declared.command.Command.{Command}
+use Rattle.core_rule.proofs.Terms.{Command, Heap, array_words, graph_of, Graph, Node, Word, State, seat_at, Listing, Bearing, Place, MakesObject, IsArrayCall, Fits, FitsPlace}
+use Rattle.core_rule.proofs.Terms.{HasBody, SpineIsListed, newborn_word, newborn_word_of, next_name, Seat, array_length_in, array_length_of, is_fixed, is_meta, tally, at}
+use Rattle.core_rule.proofs.Terms.{link_after, record_word_of, Book, fragment_at, id_at, object_head, IsMarked, AfterMarking, name_of, node_at, field_word, IsKept, Holding, Owner}
+use Rattle.core_rule.proofs.Terms.{Free, Taken, Borne, Kept, Dead, holds_bit, born_bit, HasPlace, BeginsArray, Rule}
 use Rattle.heap_model.specs.declared.command.Command.TheVariants as commands
-use Rattle.heap_model.specs.declared.heap.Heap.{Heap}
-use Rattle.heap_model.specs.Needs.{array_words}
-use Rattle.heap_model.specs.account.Cycles.{graph_of}
-use Rattle.heap_model.specs.graph.Graph.{Graph, Node}
-use Rattle.core_machine.specs.declared.table.address.Address.TheVariants.{Word}
-use Rattle.core_machine.specs.machine.Machine.{State, seat_at}
 use Rattle.heap_model.specs.Command.{IsCommand}
-use Rattle.core_machine.specs.declared.place.Making.TheVariants.{Listing, Storing, Bearing}
-use Rattle.core_machine.specs.declared.place.Place.{Place}
+use Rattle.core_machine.specs.declared.place.Making.TheVariants.{Storing}
 use Rattle.core_machine.specs.declared.place.Place.TheVariants as places
-use Rattle.core_machine.specs.seat.Commands.{MakesObject, IsArrayCall}
-use Rattle.core_machine.specs.seat.Fits.{Fits, FitsPlace, HasBody, SpineIsListed}
-use Rattle.core_machine.specs.seat.Making.{newborn_word, newborn_word_of, next_name}
-use Rattle.core_machine.specs.seat.Seat.{Seat}
-use Rattle.heap_words.specs.Loaded.{array_length_in, array_length_of, is_fixed, is_meta}
-use Rattle.core_machine.specs.table.Fragments.{tally}
-use Rattle.core_machine.specs.table.Layout.{at}
-use Rattle.heap_words.specs.Newborn.{link_after, record_word_of}
 use Rattle.core_machine.proofs.table_lemmas.CellWords.{cell_of-cell_word}
-use Rattle.core_rule.specs.Book.{Book, fragment_at, id_at, object_head}
-use Rattle.core_rule.specs.Colours.{IsMarked}
-use Rattle.core_rule.specs.Marking.{AfterMarking}
-use Rattle.core_rule.specs.Objects.{name_of, node_at, field_word, IsKept}
-use Rattle.core_rule.specs.Holding.{Holding}
-use Rattle.core_rule.specs.Owners.{Owner, Free, Taken, Borne, Kept, Dead, holds_bit, born_bit}
-use Rattle.core_rule.specs.Spines.{HasPlace}
-use Rattle.core_rule.specs.Replicas.{BeginsArray}
-use Rattle.core_rule.specs.Rule.{Rule}
 use Rattle.core_rule.proofs.entries.AtRest.{seat_fits}
 use Rattle.core_rule.proofs.held.BodyWords.{bearing}
 use Rattle.core_rule.proofs.lists.Members.{place_of, place_within}

@@ -2,13 +2,9 @@
 use Rattle.std.proofs.Common.{◌≡◌, ℕ, ◌+◌, ◌*◌, ◌<◌, List, [], ◌∷◌, ◌++◌, length, inl, inr, sym, ap, ◌∙◌, subst, arith}
 use Rattle.std.proofs.lemmas.Bool.{cases_eq}
 use Rattle.heap_words.specs.declared.spot.Spot.{Spot}
-use Rattle.heap_words.specs.Spot.{spot_word}
-use Rattle.heap_model.specs.declared.entry.Entry.{Entry}
-use Rattle.heap_model.specs.declared.entry.Entry.TheVariants.{Swings}
-use Rattle.heap_model.specs.declared.heap.Heap.{Heap}
-use Rattle.heap_model.specs.account.Cycles.{graph_of}
-use Rattle.heap_model.specs.graph.Graph.{Graph, Node, opening}
-use Rattle.heap_model.specs.graph.Sizes.{spine_words_of}
+use Rattle.core_rule.proofs.Terms.{spot_word, Entry, Swings, Heap, graph_of, Graph, Node, opening, spine_words_of, Word, State, spine_words_in, at, put, spine_place, FitsSpot}
+use Rattle.core_rule.proofs.Terms.{spine_word, Book, fragment_at, WordPointsTo, Objects, IsKept, node_at, SpineOwner, Spined, CopyInHand, IsToCopy, Rule, SpinesStand, IsWordOf}
+use Rattle.core_rule.proofs.Terms.{next_spine}
 use Rattle.heap_model.proofs.Histories.{graph_after-more}
 use Rattle.core_machine.specs.collector.CopyingTurns.{sentinel_at}
 use Rattle.core_machine.specs.collector.FitsCopying.{FitsCopy}
@@ -16,18 +12,6 @@ use Rattle.core_machine.specs.declared.collector.stage.Copying.TheVariants.{Swin
 use Rattle.core_machine.specs.declared.collector.stage.SpineCopy.{SpineCopy}
 use Rattle.core_machine.specs.declared.collector.stage.Stage.TheVariants as stages
 use Rattle.core_machine.specs.declared.table.address.Address.TheVariants as addresses
-use Rattle.core_machine.specs.declared.table.address.Address.TheVariants.{Word}
-use Rattle.core_machine.specs.machine.Machine.{State}
-use Rattle.core_machine.specs.table.Decode.{spine_words_in}
-use Rattle.core_machine.specs.table.Layout.{at, put, spine_place, FitsSpot}
-use Rattle.heap_words.specs.Newborn.{spine_word}
-use Rattle.core_rule.specs.Book.{Book, fragment_at}
-use Rattle.core_rule.specs.Colours.{WordPointsTo}
-use Rattle.core_rule.specs.Objects.{Objects, IsKept, node_at}
-use Rattle.core_rule.specs.Owners.{SpineOwner, Spined}
-use Rattle.core_rule.specs.Replicas.{CopyInHand, IsToCopy}
-use Rattle.core_rule.specs.Rule.{Rule}
-use Rattle.core_rule.specs.Spines.{SpinesStand, IsWordOf, next_spine}
 use Rattle.core_rule.proofs.copies.BegunArrays.{begun_there, begun_fits}
 use Rattle.core_rule.proofs.copies.CopyingStages.{fits_from}
 use Rattle.core_rule.proofs.copies.SwungObjects.{objects_swung}
@@ -35,7 +19,7 @@ use Rattle.core_rule.proofs.copies.SwungSources.{leads_swung}
 use Rattle.core_rule.proofs.copies.SwungWords.{swung_spines, spine_here, spine_other, swung_word, word_own, placed_was, spined_stays, spined_was}
 use Rattle.core_rule.proofs.copies.VisitsOn.{found_from}
 use Rattle.core_rule.proofs.objects.ObjectWords.{spine_place_at}
-use Rattle.core_rule.proofs.spines.DeadWords.{dead_tell}
+use Rattle.core_rule.proofs.dying.DeadWords.{dead_tell}
 use Rattle.core_rule.proofs.spines.SpineFrames.{same_shapes}
 use Rattle.core_rule.proofs.ways.KeptWords.{kept_within, words_found}
 use Rattle.core_rule.proofs.words.Addresses.{at-put_apart}

@@ -4,17 +4,8 @@ use Rattle.std.proofs.lemmas.Bool.{cases_eq}
 use Rattle.std.proofs.lemmas.Bool.Decides.{eqb_tells}
 use Rattle.heap_words.specs.declared.name.Name.{Name}
 use Rattle.heap_words.specs.declared.spot.Spot.{Spot}
-use Rattle.heap_words.specs.Spot.{spot_word}
-use Rattle.heap_model.specs.declared.heap.Heap.{Heap}
-use Rattle.heap_model.specs.declared.id.Id.{Id}
-use Rattle.heap_model.specs.graph.Graph.{Graph, Node}
-use Rattle.heap_model.specs.graph.Sizes.{spine_words_of}
-use Rattle.core_machine.specs.declared.table.address.Address.TheVariants.{Word}
-use Rattle.core_machine.specs.table.Layout.{at, put, table_length, spine_place}
-use Rattle.heap_words.specs.Newborn.{spine_word}
-use Rattle.core_rule.specs.Book.{fragment_at, id_at, object_head}
-use Rattle.core_rule.specs.Objects.{Objects, KeptObject, IsKept, name_of, node_at, array_object_word, object_word}
-use Rattle.core_rule.specs.Owners.{Owner, Kept}
+use Rattle.core_rule.proofs.Terms.{spot_word, Heap, Id, Graph, Node, spine_words_of, Word, at, put, table_length, spine_place, spine_word, fragment_at, id_at, object_head, Objects}
+use Rattle.core_rule.proofs.Terms.{KeptObject, IsKept, name_of, node_at, array_object_word, object_word, Owner, Kept}
 use Rattle.core_rule.proofs.copies.SwungWords.{swung_spines, spine_here, spine_other}
 use Rattle.core_rule.proofs.graph.SameNodes.{node_cases}
 use Rattle.core_rule.proofs.objects.ObjectWords.{spine_place_at}

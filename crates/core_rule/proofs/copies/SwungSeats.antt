@@ -1,31 +1,16 @@
 -- The heap and each seat stand once an array has swung: a call that has loaded its old place reads a replica that the array has left.
 use Rattle.std.proofs.Common.{◌≡◌, ◌≢◌, ◌⊎◌, ℕ, ◌+◌, ◌%◌, ◌<◌, false, List, inl, inr, refl, sym, ap, ◌∙◌, subst, arith}
 use Rattle.std.proofs.lemmas.Bool.{cases_eq}
+use Rattle.core_rule.proofs.Terms.{cycle_phases, spot_word, Entry, Heap, IsLegal, graph_of, phase, last_answer, has_left, Graph, graph_seat, Place, Word, Control, State, seat_at}
+use Rattle.core_rule.proofs.Terms.{Seat, at, Book, IsBetween, HeapInCycle, SeatInCycle, node_at, AddressStands, HasLoaded, IsLeftReplica, Rule, HeapStands, SeatStands}
+use Rattle.heap_model.specs.PhasePlan.{copying as copying_phase}
 use Rattle.heap_words.specs.declared.spot.Spot.{Spot}
-use Rattle.heap_words.specs.Spot.{spot_word}
-use Rattle.heap_model.specs.declared.entry.Entry.{Entry}
-use Rattle.heap_model.specs.declared.heap.Heap.{Heap}
-use Rattle.heap_model.specs.account.Account.{IsLegal}
-use Rattle.heap_model.specs.account.Cycles.{graph_of}
-use Rattle.heap_model.specs.account.PhaseCounts.{phase, last_answer, has_left}
-use Rattle.heap_model.specs.graph.Graph.{Graph}
-use Rattle.heap_model.specs.graph.Objects.{graph_seat}
 use Rattle.heap_model.proofs.Histories.{total-more}
 use Rattle.core_machine.specs.declared.collector.stage.Copying.TheVariants.{Swinging}
 use Rattle.core_machine.specs.declared.collector.stage.SpineCopy.{SpineCopy}
 use Rattle.core_machine.specs.declared.collector.stage.Stage.TheVariants as stages
-use Rattle.core_machine.specs.declared.place.Place.{Place}
 use Rattle.core_machine.specs.declared.place.Place.TheVariants as places
-use Rattle.core_machine.specs.declared.table.address.Address.TheVariants.{Word, Answer, Phase, Control}
-use Rattle.core_machine.specs.machine.Machine.{State, seat_at}
-use Rattle.core_machine.specs.seat.Seat.{Seat}
-use Rattle.core_machine.specs.table.Layout.{at}
-use Rattle.core_rule.specs.Book.{Book}
-use Rattle.core_rule.specs.Colours.{IsBetween}
-use Rattle.core_rule.specs.Cycle.{HeapInCycle, SeatInCycle}
-use Rattle.core_rule.specs.Objects.{node_at}
-use Rattle.core_rule.specs.Replicas.{AddressStands, HasLoaded, IsLeftReplica}
-use Rattle.core_rule.specs.Rule.{Rule, HeapStands, SeatStands}
+use Rattle.core_machine.specs.declared.table.address.Address.TheVariants.{Answer, Phase}
 use Rattle.core_rule.proofs.colours.MarkWords.{marks_same}
 use Rattle.core_rule.proofs.copies.CopyingStages.{in_copying}
 use Rattle.core_rule.proofs.copies.SwungBook.{to_copy, i, s, its, inside, listed, leads_back, now, entry, book_swung, graph_swung, objects_stand, spines_stand}
@@ -106,7 +91,7 @@ module _ (heap : Heap) (state : State) (book : Book) (rule : Rule heap state boo
     is_late : seat.place ≢ places.Idle → IsBetween 3 4 seat.answered
     is_late busy =
         let agrees = (rule.seats_stand r below).cycle.answers_told in
-        let fourth : phase book.history % 7 ≡ 4 = ap (λ p. p % 7) (sym rule.collector_stands.phase_told) ∙ in_copying heap state book rule (Swinging copy) swinging in
+        let fourth : phase book.history % cycle_phases ≡ copying_phase = ap (λ p. p % cycle_phases) (sym rule.collector_stands.phase_told) ∙ in_copying heap state book rule (Swinging copy) swinging in
         elim (agrees.near (in_flight rule r below busy)) [
           | inl same ↦ record { from = omega (arith, same, fourth); upto = omega (arith, same, fourth) }
           | inr behind ↦ record { from = omega (arith, behind, fourth); upto = omega (arith, behind, fourth) }

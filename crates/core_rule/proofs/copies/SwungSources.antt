@@ -4,14 +4,8 @@ use Rattle.std.proofs.Common.{◌≡◌, ℕ, suc, ◌+◌, ◌-◌, ◌*◌, �
 use Rattle.std.proofs.lemmas.Bool.{cases_eq}
 use Rattle.std.proofs.lemmas.Bool.Decides.{leb_tells}
 use Rattle.heap_words.specs.declared.spot.Spot.{Spot}
-use Rattle.heap_words.specs.Spot.{spot_in, spot_word}
-use Rattle.heap_model.specs.declared.heap.Heap.{Heap}
-use Rattle.core_machine.specs.declared.table.address.Address.TheVariants.{Word}
-use Rattle.heap_words.specs.Loaded.{pointer_in, payload_in}
-use Rattle.core_machine.specs.table.Decode.{spine_words_in}
-use Rattle.core_machine.specs.table.Layout.{at, put, table_length, spine_place, FitsSpot}
-use Rattle.core_rule.specs.Colours.{WordPointsTo}
-use Rattle.core_rule.specs.Sources.{spine_pointer, source_pointer}
+use Rattle.core_rule.proofs.Terms.{spot_in, spot_word, Heap, Word, pointer_in, payload_in, spine_words_in, at, put, table_length, spine_place, FitsSpot, WordPointsTo}
+use Rattle.core_rule.specs.marking.Sources.{spine_pointer, source_pointer}
 use Rattle.core_rule.proofs.colours.LeadsFrames.{sources_same, same_beside}
 use Rattle.core_rule.proofs.colours.SourceCases.{source_cases, word_source}
 use Rattle.core_rule.proofs.ways.ArrayWords.{spot_in-word, fixed_no_head}

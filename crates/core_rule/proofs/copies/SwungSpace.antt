@@ -5,34 +5,17 @@ use Rattle.std.proofs.lemmas.Bool.{cases_eq}
 use Rattle.std.proofs.lemmas.Bool.Decides.{eqb_tells}
 use Rattle.std.proofs.lemmas.List.Elements.{Contains-push_cases}
 use Rattle.heap_words.specs.declared.spot.Spot.{Spot}
-use Rattle.heap_model.specs.declared.entry.Entry.{Entry}
-use Rattle.heap_model.specs.declared.entry.Entry.TheVariants.{Swings}
-use Rattle.heap_model.specs.declared.heap.Heap.{Heap}
-use Rattle.heap_model.specs.declared.id.Id.{Id}
-use Rattle.heap_model.specs.account.Cycles.{graph_of}
+use Rattle.core_rule.proofs.Terms.{Entry, Swings, Heap, Id, graph_of, after_last, begins_phase, Graph, Node, spine_words_of, Collector, Stage, Word, Budget, State, at, Book}
+use Rattle.core_rule.proofs.Terms.{fragment_at, id_at, object_number, BudgetsStand, kept_weight, kept_sum, dead_sum, words_of_object, words_in_half, nodes_in, copying_words}
+use Rattle.core_rule.proofs.Terms.{returning, HalvesStand, AwaitsCopy, IsKept, node_at, Owner, Kept, Rule, SpaceStands, next_spine}
 use Rattle.heap_model.specs.account.Sweep.{HasSwung}
-use Rattle.heap_model.specs.account.Windows.{after_last, begins_phase}
-use Rattle.heap_model.specs.graph.Graph.{Graph, Node}
-use Rattle.heap_model.specs.graph.Sizes.{spine_words_of}
 use Rattle.heap_model.proofs.account_lemmas.Windows.{after_last-no}
-use Rattle.core_machine.specs.collector.Collector.{Collector}
 use Rattle.core_machine.specs.collector.Copying.{next_place_of, visit_on}
 use Rattle.core_machine.specs.declared.collector.stage.Copying.TheVariants.{Swinging}
 use Rattle.core_machine.specs.declared.collector.stage.SpineCopy.{SpineCopy}
-use Rattle.core_machine.specs.declared.collector.stage.Stage.{Stage}
 use Rattle.core_machine.specs.declared.collector.stage.Stage.TheVariants as stages
 use Rattle.core_machine.specs.declared.collector.stage.Visit.{Visit}
-use Rattle.core_machine.specs.declared.table.address.Address.TheVariants.{Word, Budget}
-use Rattle.core_machine.specs.machine.Machine.{State}
-use Rattle.core_machine.specs.table.Layout.{at}
 use Rattle.core_machine.proofs.table_lemmas.Free.{sum_but_one}
-use Rattle.core_rule.specs.Book.{Book, fragment_at, id_at, object_number}
-use Rattle.core_rule.specs.Budgets.{BudgetsStand, kept_weight, kept_sum, dead_sum, words_of_object, words_in_half, nodes_in, copying_words, returning}
-use Rattle.core_rule.specs.Halves.{HalvesStand, AwaitsCopy}
-use Rattle.core_rule.specs.Objects.{IsKept, node_at}
-use Rattle.core_rule.specs.Owners.{Owner, Kept}
-use Rattle.core_rule.specs.Rule.{Rule, SpaceStands}
-use Rattle.core_rule.specs.Spines.{next_spine}
 use Rattle.core_rule.proofs.copies.BegunArrays.{begun_alone}
 use Rattle.core_rule.proofs.copies.CopyingStages.{IsFree, in_copying, leaving, half_next, half_copying, none_returned, none_counted, seen_free}
 use Rattle.core_rule.proofs.copies.SwungBook.{to_copy, copy_here, i, s, its, inside, now, places, entry, book_swung, graph_swung, spot_same}
@@ -40,9 +23,9 @@ use Rattle.core_rule.proofs.copies.SwungWords.{swung_word, spine_here, spine_oth
 use Rattle.core_rule.proofs.copies.Visits.{awaits_on, to_visit_on}
 use Rattle.core_rule.proofs.copies.VisitsOn.{arrays_from, copies_seen}
 use Rattle.core_rule.proofs.entries.ToldSpines.{still_returned}
-use Rattle.core_rule.proofs.spines.BudgetFrames.{none_granted_by, none_returned_by}
-use Rattle.core_rule.proofs.spines.DeadWords.{none_behind}
-use Rattle.core_rule.proofs.spines.Leaving.{copy_away}
+use Rattle.core_rule.proofs.budgets.BudgetFrames.{none_granted_by, none_returned_by}
+use Rattle.core_rule.proofs.dying.DeadWords.{none_behind}
+use Rattle.core_rule.proofs.halves.Leaving.{copy_away}
 use Rattle.core_rule.proofs.ways.KeptWords.{kept_within}
 use Rattle.core_rule.proofs.words.Addresses.{at-put_apart}
 

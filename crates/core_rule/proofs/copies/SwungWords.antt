@@ -3,7 +3,7 @@ use Rattle.std.specs.Prelude.{if◌then◌else◌}
 use Rattle.std.proofs.Common.{◌≡◌, ◌≢◌, ◌⊎◌, ℕ, ◌==◌, inl, inr, refl, ap, ◌∙◌}
 use Rattle.std.proofs.lemmas.Bool.Decides.{eqb_tells}
 use Rattle.heap_words.specs.declared.spot.Spot.{Spot}
-use Rattle.core_rule.specs.Owners.{SpineOwner, Placed, Spined, Gone}
+use Rattle.core_rule.proofs.Terms.{SpineOwner, Placed, Spined, Gone}
 
 -- where the spines stand then
 abbrev pub swung_spines : ℕ → Spot → (ℕ → Spot) → ℕ → Spot

@@ -2,20 +2,13 @@
 use Rattle.std.specs.Int.{bit_at}
 use Rattle.std.proofs.Common.{◌≡◌, ◌≢◌, ℕ, suc, ◌+◌, ◌*◌, ◌/◌, ◌%◌, ◌<◌, ◌≤◌, List, length, Option, Some, None, inl, inr, refl, sym, ap, ◌∙◌, arith}
 use Rattle.std.proofs.lemmas.Bool.Decides.{leb_tells}
-use Rattle.heap_model.specs.declared.heap.Heap.{Heap}
+use Rattle.core_rule.proofs.Terms.{taken_at, Heap, Stage, Control, at, table_length, Colour, White, Grey, Black, Marks, IsMarked, marked_bit, IsToVisit, AwaitsCopy, VisitIsMarked}
 use Rattle.core_machine.specs.collector.Copying.{marked_bits_of, next_place_of, after_visited, after_seen}
 use Rattle.core_machine.specs.collector.CopyingTurns.{visited}
 use Rattle.core_machine.specs.declared.collector.stage.Copying.TheVariants as copying
-use Rattle.core_machine.specs.declared.collector.stage.Stage.{Stage}
 use Rattle.core_machine.specs.declared.collector.stage.Stage.TheVariants as stages
 use Rattle.core_machine.specs.declared.collector.stage.Visit.{Visit}
-use Rattle.core_machine.specs.declared.table.address.Address.TheVariants.{Control}
-use Rattle.core_machine.specs.table.Layout.{at, table_length}
 use Rattle.core_machine.proofs.table_lemmas.DeadBits.{place_none}
-use Rattle.core_rule.specs.Book.{Colour, White, Grey, Black}
-use Rattle.core_rule.specs.Colours.{Marks, IsMarked, marked_bit}
-use Rattle.core_rule.specs.Halves.{IsToVisit, AwaitsCopy}
-use Rattle.core_rule.specs.Replicas.{VisitIsMarked}
 use Rattle.core_rule.proofs.colours.MarkWords.{found_marked}
 use Rattle.core_rule.proofs.words.MarkedPlaces.{marked_tells, marked_within, next_first}
 
@@ -34,11 +27,11 @@ module _ (heap : Heap) (words : List ℕ) (colour : ℕ → Colour) (group : ℕ
   abbrev bits : ℕ
   bits = marked_bits_of (at heap words (Control group))
 
-  bit_told : (f : ℕ) → f / 16 ≡ group → bit_at bits (f % 16) ≡ marked_bit (colour f)
+  bit_told : (f : ℕ) → f / 16 ≡ group → bit_at bits (taken_at f) ≡ marked_bit (colour f)
   bit_told f here = marked_tells (at heap words (Control group)) (f % 16) (omega arith) ∙ found_marked heap words colour colour group 0 whole below marks f here
 
   -- so each marked fragment of the group has its bit
-  pub has_bit : (f : ℕ) → f / 16 ≡ group → IsMarked colour f → bit_at bits (f % 16) ≡ 1
+  pub has_bit : (f : ℕ) → f / 16 ≡ group → IsMarked colour f → bit_at bits (taken_at f) ≡ 1
   has_bit f here marked = bit_told f here ∙ marked_one (colour f) marked
 
   -- and each bit is one's

@@ -2,25 +2,13 @@
 use Rattle.std.proofs.Common.{◌≡◌, ◌⊎◌, ℕ, ◌+◌, ◌<◌, true, List, length, Option, inl, inr, ap, subst}
 use Rattle.std.proofs.lemmas.Bool.{cases_eq}
 use Rattle.heap_words.specs.declared.spot.Spot.{Spot}
-use Rattle.heap_model.specs.declared.heap.Heap.{Heap}
-use Rattle.heap_model.specs.declared.id.Id.{Id}
-use Rattle.heap_model.specs.account.Cycles.{graph_of}
-use Rattle.heap_model.specs.graph.Graph.{Node}
+use Rattle.core_rule.proofs.Terms.{Heap, Id, graph_of, Node, State, Book, Colour, fragment_at, IsMarked, AwaitsCopy, AwaitsVisit, IsToVisit, WhileCopying, AfterMarking, IsKept}
+use Rattle.core_rule.proofs.Terms.{node_at, Owner, Kept, born_bit, VisitIsMarked, CopyingStands, Rule, next_spine}
 use Rattle.core_machine.specs.collector.Copying.{next_place_of, after_seen}
 use Rattle.core_machine.specs.collector.CopyingTurns.{visited}
 use Rattle.core_machine.specs.declared.collector.stage.Copying.{Copying}
 use Rattle.core_machine.specs.declared.collector.stage.Stage.TheVariants as stages
 use Rattle.core_machine.specs.declared.collector.stage.Visit.{Visit}
-use Rattle.core_machine.specs.machine.Machine.{State}
-use Rattle.core_rule.specs.Book.{Book, Colour, fragment_at}
-use Rattle.core_rule.specs.Colours.{IsMarked}
-use Rattle.core_rule.specs.Halves.{AwaitsCopy, AwaitsVisit, IsToVisit, WhileCopying}
-use Rattle.core_rule.specs.Marking.{AfterMarking}
-use Rattle.core_rule.specs.Objects.{IsKept, node_at}
-use Rattle.core_rule.specs.Owners.{Owner, Kept, born_bit}
-use Rattle.core_rule.specs.Replicas.{VisitIsMarked, CopyingStands}
-use Rattle.core_rule.specs.Rule.{Rule}
-use Rattle.core_rule.specs.Spines.{next_spine}
 use Rattle.core_rule.proofs.copies.CopyingStages.{IsFree, LeadsTo, leads_free, seen_free}
 use Rattle.core_rule.proofs.copies.Visits.{seen_cases, awaits_on, to_visit_on}
 use Rattle.core_rule.proofs.ways.KeptWords.{kept_within}

@@ -1,16 +1,10 @@
 -- What is in use once fragments were claimed or given back.
 use Rattle.std.proofs.Common.{◌≡◌, ℕ, ◌+◌, ◌*◌, ◌<◌, ◌≤◌, List, [], ◌∷◌, ◌++◌, length, refl, ap, arith}
-use Rattle.heap_model.specs.declared.entry.Entry.{Entry}
+use Rattle.core_rule.proofs.Terms.{Entry, Heap, fragments_gained, fragments_lost, tally, sum_upto, AreUsed, free_in_all, Owner, Free, Taken, Borne, taken_bit, free_bit}
+use Rattle.core_rule.proofs.Terms.{owner_after}
 use Rattle.heap_model.specs.declared.entry.Entry.TheVariants as entries
-use Rattle.heap_model.specs.declared.heap.Heap.{Heap}
-use Rattle.heap_model.specs.account.Space.{fragments_gained, fragments_lost}
 use Rattle.heap_model.proofs.Histories.{total-more}
-use Rattle.core_machine.specs.table.Fragments.{tally}
-use Rattle.core_machine.specs.machine.Sums.{sum_upto}
 use Rattle.core_machine.proofs.table_lemmas.Free.{sum_same}
-use Rattle.core_rule.specs.Counts.{AreUsed}
-use Rattle.core_rule.specs.Gathers.{free_in_all}
-use Rattle.core_rule.specs.Owners.{Owner, Free, Taken, Borne, taken_bit, free_bit, owner_after}
 use Rattle.core_rule.proofs.counts.FreeSums.{free_unused}
 use Rattle.core_rule.proofs.owners.Handed.{gains, loses, more, fewer, stays}
 

@@ -1,11 +1,7 @@
 -- What is free once fragments went to another owner.
 use Rattle.std.proofs.Common.{◌≡◌, ℕ, suc, ◌+◌, ◌*◌, ◌/◌, ◌%◌, ◌<◌, ◌≤◌, ◌-◌, List, length, ◌∙◌, subst, arith}
-use Rattle.heap_model.specs.declared.heap.Heap.{Heap}
-use Rattle.core_machine.specs.table.Fragments.{tally}
-use Rattle.core_machine.specs.machine.Sums.{sum_upto}
+use Rattle.core_rule.proofs.Terms.{Heap, tally, sum_upto, free_in, free_in_all, free_in_passed, Owner, free_bit}
 use Rattle.core_machine.proofs.table_lemmas.Free.{sum_same, sum_zero}
-use Rattle.core_rule.specs.Gathers.{free_in, free_in_all, free_in_passed}
-use Rattle.core_rule.specs.Owners.{Owner, free_bit}
 use Rattle.core_rule.proofs.lists.SumLemmas.{sum-suc, sum_le, sum_plus, sum_parts, sum_blocks, sum_wrapped}
 use Rattle.core_rule.proofs.lists.Tallies.{sum_tally}
 

@@ -1,20 +1,10 @@
 -- What is free: the fragments that aren't taken, the clear bits of the control words, what is in no use.
 use Rattle.std.specs.Int.{bit_at}
 use Rattle.std.proofs.Common.{◌≡◌, ℕ, ◌+◌, ◌*◌, ◌/◌, ◌%◌, ◌<◌, List, length, ◌∙◌, arith, refl}
-use Rattle.heap_model.specs.declared.entry.Entry.{Entry}
-use Rattle.heap_model.specs.declared.heap.Heap.{Heap}
-use Rattle.heap_model.specs.account.Space.{fragments_gained, fragments_lost}
-use Rattle.core_machine.specs.declared.table.address.Address.TheVariants.{Control}
+use Rattle.core_rule.proofs.Terms.{Entry, Heap, fragments_gained, fragments_lost, Control, clear_in, at, sum_upto, Bits, AreUsed, free_in, free_in_all, free_in_passed}
+use Rattle.core_rule.proofs.Terms.{FreeIsUnused, Owner, taken_bit, free_bit}
 use Rattle.core_machine.specs.machine.Calls.{free_count}
-use Rattle.core_machine.specs.table.Fragments.{clear_in}
-use Rattle.core_machine.specs.table.Layout.{at}
-use Rattle.core_machine.specs.machine.Sums.{sum_upto}
 use Rattle.core_machine.proofs.table_lemmas.Free.{sum_same}
-use Rattle.core_rule.specs.ControlWords.{Bits}
-use Rattle.core_rule.specs.Counts.{AreUsed}
-use Rattle.core_rule.specs.Gathers.{free_in, free_in_all, free_in_passed}
-use Rattle.core_rule.specs.Laws.{FreeIsUnused}
-use Rattle.core_rule.specs.Owners.{Owner, taken_bit, free_bit}
 use Rattle.core_rule.proofs.words.ClearLemmas.{length-clear}
 use Rattle.core_rule.proofs.owners.OwnerLemmas.{taken_or_free}
 use Rattle.core_rule.proofs.lists.SumLemmas.{sum_blocks, sum_plus, sum_ones, sum_wrapped}

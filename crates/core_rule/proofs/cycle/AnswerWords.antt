@@ -1,11 +1,7 @@
 -- What stays when a seat's own word is written: the fragments' words, the phase, the colours, and the other seats' part in a cycle.
 use Rattle.std.proofs.Common.{◌≢◌, ℕ, ◌<◌, List, inl, refl, ◌∙◌, arith}
-use Rattle.heap_model.specs.declared.heap.Heap.{Heap}
-use Rattle.core_machine.specs.declared.table.address.Address.TheVariants.{Answer, Phase, Control, Word}
-use Rattle.core_machine.specs.table.Layout.{put}
-use Rattle.core_rule.specs.Book.{Colour}
-use Rattle.core_rule.specs.Cycle.{HeapInCycle}
-use Rattle.core_rule.specs.Owners.{Owner}
+use Rattle.core_rule.proofs.Terms.{Heap, Control, Word, put, Colour, HeapInCycle, Owner}
+use Rattle.core_machine.specs.declared.table.address.Address.TheVariants.{Answer, Phase}
 use Rattle.core_rule.proofs.words.Addresses.{at-put_apart}
 use Rattle.core_rule.proofs.cycle.CycleFrames.{LeavesCycle, coloured_stays}
 use Rattle.core_rule.proofs.frames.EntryFrames.{SameFragments}

@@ -1,12 +1,9 @@
 -- The machine's tests of a seat's last answer are the rule's windows; and while black fragments are made each set's barrier is on.
 use Rattle.std.proofs.Common.{◌≡◌, ℕ, ◌%◌, ◌<◌, true, false, inl, inr, arith, ◌≢◌, nat_lt, if◌then◌else◌}
 use Rattle.std.proofs.lemmas.Bool.Decides.{nat_tests}
-use Rattle.heap_model.specs.PhasePlan.{barriers, black_births, sweep}
+use Rattle.core_rule.proofs.Terms.{barriers, black_births, sweep, cycle_phases, has_barrier_of, Seat, IsBetween, IsNear}
+use Rattle.heap_model.specs.PhasePlan.{rest as resting}
 use Rattle.core_machine.specs.seat.MakingMoves.{bears_black_of}
-use Rattle.core_machine.specs.seat.Access.{has_barrier_of}
-use Rattle.core_machine.specs.seat.Seat.{Seat}
-use Rattle.core_rule.specs.Colours.{IsBetween}
-use Rattle.core_rule.specs.Phases.{IsNear}
 
 -- the test of a number for a window
 inside : (low high n : ℕ) → (if nat_lt low n then nat_lt n high else false) ≡ true → (low < n) × (n < high)
@@ -18,17 +15,17 @@ is_inside low high n above below = grind (arith, nat_tests, above, below)
 module _ (seat : Seat) where
   -- a set's barrier is on from the answer to a cycle's phase of barriers on, up to that to its sweep
   pub barrier_window : has_barrier_of seat ≡ true → IsBetween barriers sweep seat.answered
-  barrier_window on = let both = inside 0 6 (seat.answered % 7) on in record { from = omega (arith, both.0); upto = omega (arith, both.1) }
+  barrier_window on = let both = inside 0 6 (seat.answered % cycle_phases) on in record { from = omega (arith, both.0); upto = omega (arith, both.1) }
 
   pub window_barrier : IsBetween barriers sweep seat.answered → has_barrier_of seat ≡ true
-  window_barrier between = is_inside 0 6 (seat.answered % 7) (omega (arith, between.from)) (omega (arith, between.upto))
+  window_barrier between = is_inside 0 6 (seat.answered % cycle_phases) (omega (arith, between.from)) (omega (arith, between.upto))
 
   -- births are black from the answer to its phase of black births on
   pub black_window : bears_black_of seat ≡ true → IsBetween black_births sweep seat.answered
-  black_window black = let both = inside 1 6 (seat.answered % 7) black in record { from = omega (arith, both.0); upto = omega (arith, both.1) }
+  black_window black = let both = inside 1 6 (seat.answered % cycle_phases) black in record { from = omega (arith, both.0); upto = omega (arith, both.1) }
 
   pub window_black : IsBetween black_births sweep seat.answered → bears_black_of seat ≡ true
-  window_black between = is_inside 1 6 (seat.answered % 7) (omega (arith, between.from)) (omega (arith, between.upto))
+  window_black between = is_inside 1 6 (seat.answered % cycle_phases) (omega (arith, between.from)) (omega (arith, between.upto))
 
 module _ (phase answer : ℕ) (near : IsNear phase answer) where
   -- while black fragments are made the barrier of a seat's sets is on
@@ -39,7 +36,7 @@ module _ (phase answer : ℕ) (near : IsNear phase answer) where
   ]
 
   -- a seat whose barrier is on runs a cycle
-  pub barrier_runs : IsBetween barriers sweep answer → phase % 7 ≢ 0
+  pub barrier_runs : IsBetween barriers sweep answer → phase % cycle_phases ≢ resting
   barrier_runs on = elim near [
     | inl same ↦ λ rests. omega (arith, same, rests, on.from)
     | inr before ↦ λ rests. omega (arith, before, rests, on.upto)

@@ -1,25 +1,11 @@
 -- What a birth leaves of the heap's part in a cycle: its fragments get the colour of the seat's births.
 use Rattle.std.proofs.Common.{◌≡◌, ℕ, ◌*◌, ◌<◌, ◌≤◌, Bool, List, length, bit_or, ap, ◌∙◌, sym, subst, arith, ◌+◌}
-use Rattle.heap_model.specs.declared.heap.Heap.{Heap}
-use Rattle.heap_model.specs.account.PhaseCounts.{phase}
-use Rattle.core_machine.specs.declared.table.address.Address.TheVariants.{Control}
-use Rattle.core_machine.specs.declared.place.Making.TheVariants.{Bearing}
+use Rattle.core_rule.proofs.Terms.{Heap, phase, Control, Bearing, HasBody, SpineIsListed, part_in, part_out, mask_of, tally, at, put, spine_place, spine_word, State, seat_at}
+use Rattle.core_rule.proofs.Terms.{last_group_of, before_run, newborn_word_of, last_part, birth_bits_of, Seat, spine_need, Book, Colour, fragment_at, IsMarked, IsBetween}
+use Rattle.core_rule.proofs.Terms.{HeapInCycle, born_bit, Owner, Rule, SeatStands, HasPlace}
 use Rattle.core_machine.specs.declared.place.Place.TheVariants as places
-use Rattle.core_machine.specs.seat.Fits.{HasBody, SpineIsListed}
-use Rattle.core_machine.specs.table.Fragments.{part_in, part_out, mask_of, tally}
-use Rattle.core_machine.specs.table.Layout.{at, put, spine_place}
-use Rattle.heap_words.specs.Newborn.{spine_word}
-use Rattle.core_machine.specs.machine.Machine.{State, seat_at}
-use Rattle.core_machine.specs.seat.Making.{last_group_of, before_run, newborn_word_of}
-use Rattle.core_machine.specs.Moves.{bears_black_of, last_part}
-use Rattle.core_machine.specs.table.Operation.{birth_bits_of}
-use Rattle.core_machine.specs.seat.Seat.{Seat, spine_need}
-use Rattle.core_rule.specs.Book.{Book, Colour, fragment_at}
-use Rattle.core_rule.specs.Colours.{IsMarked, IsBetween}
-use Rattle.core_rule.specs.Cycle.{HeapInCycle}
-use Rattle.core_rule.specs.Owners.{born_bit, Owner, Kept as KeepsPart}
-use Rattle.core_rule.specs.Rule.{Rule, SeatStands}
-use Rattle.core_rule.specs.Spines.{HasPlace}
+use Rattle.core_machine.specs.Moves.{bears_black_of}
+use Rattle.core_rule.specs.owners.Owners.{Kept as KeepsPart}
 use Rattle.core_rule.proofs.entries.AtRest.{seat_fits}
 use Rattle.core_rule.proofs.colours.BirthAhead.{born_ahead}
 use Rattle.core_rule.proofs.colours.Births.{birth_colour, AreBorne, births_are}

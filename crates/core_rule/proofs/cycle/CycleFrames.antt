@@ -1,21 +1,13 @@
 -- What stays of a seat's part in a cycle, and of the colours.
 use Rattle.std.proofs.Common.{◌⊎◌, ◌≡◌, ℕ, List, Bool, Option, inl, inr, refl, ◌∙◌, ◌≢◌, sym}
-use Rattle.heap_model.specs.declared.heap.Heap.{Heap}
+use Rattle.core_rule.proofs.Terms.{Heap, Place, ShadingOld, ShadingNew, Swapping, at, Seat, Colour, White, Black, IsMarked, WordPointsTo, IsBetween, Coloured, BornColours}
+use Rattle.core_rule.proofs.Terms.{SeatInCycle, Flight, DeletionBarrier, FieldStands, ShadedStands, RootsStand, WhileAccess, WhilePolling, Owner, Borne, Kept, born_bit}
+use Rattle.core_rule.proofs.Terms.{AnswersAgree, AnswerStands}
 use Rattle.core_machine.specs.declared.table.address.Address.TheVariants.{Answer}
-use Rattle.core_machine.specs.declared.place.Place.{Place}
 use Rattle.core_machine.specs.declared.place.Place.TheVariants as places
 use Rattle.core_machine.specs.declared.place.Polling.{Polling}
 use Rattle.core_machine.specs.declared.place.Polling.TheVariants.{Asking, Shading, Answering}
 use Rattle.core_machine.specs.declared.place.Access.{Access}
-use Rattle.core_machine.specs.declared.place.Access.TheVariants.{ShadingOld, ShadingNew, Swapping}
-use Rattle.core_machine.specs.table.Layout.{at}
-use Rattle.core_machine.specs.seat.Seat.{Seat}
-use Rattle.core_rule.specs.Book.{Colour, White, Black}
-use Rattle.core_rule.specs.Colours.{IsMarked, WordPointsTo, IsBetween, Coloured, BornColours}
-use Rattle.core_rule.specs.Cycle.{SeatInCycle}
-use Rattle.core_rule.specs.Flight.{Flight, DeletionBarrier, FieldStands, ShadedStands, RootsStand, WhileAccess, WhilePolling}
-use Rattle.core_rule.specs.Owners.{Owner, Borne, Kept, born_bit}
-use Rattle.core_rule.specs.Phases.{AnswersAgree, AnswerStands}
 use Rattle.core_rule.proofs.colours.Births.{births_stay}
 use Rattle.core_rule.proofs.lists.Options.{if_some}
 

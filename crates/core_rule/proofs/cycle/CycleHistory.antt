@@ -1,13 +1,6 @@
 -- What stays of the phases when the history grows by an entry that begins and answers none.
 use Rattle.std.proofs.Common.{◌≡◌, ℕ, List, [], ◌∷◌, ◌++◌, false, sym, subst}
-use Rattle.heap_model.specs.declared.entry.Entry.{Entry}
-use Rattle.heap_model.specs.declared.heap.Heap.{Heap}
-use Rattle.heap_model.specs.account.Effects.{effect_of, is_of}
-use Rattle.heap_model.specs.account.PhaseCounts.{phase, last_answer, has_left, is_leave_of}
-use Rattle.core_machine.specs.seat.Seat.{Seat}
-use Rattle.core_rule.specs.Book.{Colour}
-use Rattle.core_rule.specs.Cycle.{HeapInCycle, SeatInCycle}
-use Rattle.core_rule.specs.Owners.{Owner}
+use Rattle.core_rule.proofs.Terms.{Entry, Heap, effect_of, is_of, phase, last_answer, has_left, is_leave_of, Seat, Colour, HeapInCycle, SeatInCycle, Owner}
 use Rattle.core_rule.proofs.cycle.CycleFrames.{cycle_told}
 use Rattle.core_rule.proofs.entries.PhaseEntries.{phase_stays, answered_stays, answered_other, left_stays, no_leave}
 

@@ -1,23 +1,10 @@
 -- The fields at which sets stand are born; so a store into a seat's new object leaves them, and the colours.
 use Rattle.std.proofs.Common.{◌≡◌, ℕ, ◌*◌, ◌<◌, List, refl, ap, ◌∙◌, subst, arith, inl}
-use Rattle.heap_model.specs.declared.heap.Heap.{Heap}
-use Rattle.heap_model.specs.declared.id.Id.{Id}
-use Rattle.heap_model.specs.account.Cycles.{graph_of}
-use Rattle.heap_model.specs.graph.Graph.{Node}
-use Rattle.core_machine.specs.machine.Machine.{State, seat_at}
-use Rattle.core_rule.specs.Rule.{Rule}
-use Rattle.core_machine.specs.declared.table.address.Address.TheVariants.{Phase, Answer, Word}
+use Rattle.core_rule.proofs.Terms.{Heap, Id, graph_of, Node, State, seat_at, Rule, Word, ShadingOld, ShadingNew, Swapping, put, Seat, Book, Colour, HeapInCycle, IsPart, node_at}
+use Rattle.core_rule.proofs.Terms.{Owner, Kept, born_bit, Finds, WayStands}
+use Rattle.core_machine.specs.declared.table.address.Address.TheVariants.{Phase, Answer}
 use Rattle.core_machine.specs.declared.place.Place.TheVariants as places
 use Rattle.core_machine.specs.declared.place.Access.{Access}
-use Rattle.core_machine.specs.declared.place.Access.TheVariants.{ShadingOld, ShadingNew, Swapping}
-use Rattle.core_machine.specs.table.Layout.{put}
-use Rattle.core_machine.specs.seat.Seat.{Seat}
-use Rattle.core_rule.specs.Book.{Book, Colour}
-use Rattle.core_rule.specs.Cycle.{HeapInCycle}
-use Rattle.core_rule.specs.Marking.{IsPart}
-use Rattle.core_rule.specs.Objects.{node_at}
-use Rattle.core_rule.specs.Owners.{Owner, Kept, born_bit}
-use Rattle.core_rule.specs.Ways.{Finds, WayStands}
 use Rattle.core_rule.proofs.words.Addresses.{at-put_apart, control_after_word}
 use Rattle.core_rule.proofs.cycle.CycleFrames.{IsWatching, LeadsStay, LeavesCycle, WatchesBorn, coloured_stays}
 use Rattle.core_rule.proofs.ways.KeptWords.{row_ahead, behind_first}

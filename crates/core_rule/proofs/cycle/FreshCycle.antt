@@ -1,19 +1,11 @@
 -- A seat that begins a call has its part in a cycle: nothing is in flight yet.
 use Rattle.std.proofs.Common.{ℕ, Bool, List, refl, sym, subst}
-use Rattle.heap_model.specs.declared.heap.Heap.{Heap}
-use Rattle.core_machine.specs.declared.place.Place.{Place}
+use Rattle.core_rule.proofs.Terms.{Heap, Place, LoadingMeta, Seat, Colour, BornColours, SeatInCycle, FieldStands, ShadedStands, RootsStand, WhileAccess, WhilePolling, Owner}
+use Rattle.core_rule.proofs.Terms.{AnswerStands}
 use Rattle.core_machine.specs.declared.place.Place.TheVariants as places
 use Rattle.core_machine.specs.declared.place.Polling.{Polling}
 use Rattle.core_machine.specs.declared.place.Polling.TheVariants.{Asking, Shading, Answering}
 use Rattle.core_machine.specs.declared.place.Access.{Access}
-use Rattle.core_machine.specs.declared.place.Access.TheVariants.{LoadingMeta}
-use Rattle.core_machine.specs.seat.Seat.{Seat}
-use Rattle.core_rule.specs.Book.{Colour}
-use Rattle.core_rule.specs.Colours.{BornColours}
-use Rattle.core_rule.specs.Cycle.{SeatInCycle}
-use Rattle.core_rule.specs.Flight.{FieldStands, ShadedStands, RootsStand, WhileAccess, WhilePolling}
-use Rattle.core_rule.specs.Owners.{Owner}
-use Rattle.core_rule.specs.Phases.{AnswerStands}
 use Rattle.core_rule.proofs.cycle.CycleFrames.{SameAnswer, cycle_by_flight}
 use Rattle.core_rule.proofs.entries.Starting.{IsFresh}
 

@@ -1,14 +1,7 @@
 -- What a step of making leaves of the heap's and of each seat's part in a cycle.
 use Rattle.std.proofs.Common.{◌≡◌, ◌≢◌, ℕ, ◌<◌, ◌≤◌, inl, inr, Bool, List, refl, sym, ◌∙◌, subst, arith}
-use Rattle.heap_model.specs.declared.heap.Heap.{Heap}
-use Rattle.core_machine.specs.declared.table.address.Address.TheVariants.{Phase, Answer, Control}
-use Rattle.core_machine.specs.table.Fragments.{tally}
-use Rattle.core_machine.specs.table.Layout.{at, put}
-use Rattle.core_machine.specs.seat.Seat.{Seat}
-use Rattle.core_rule.specs.Book.{Colour}
-use Rattle.core_rule.specs.Colours.{Marks, IsMarked, BornColours}
-use Rattle.core_rule.specs.Cycle.{HeapInCycle, SeatInCycle}
-use Rattle.core_rule.specs.Owners.{Owner, Borne, born_bit, owner_after}
+use Rattle.core_rule.proofs.Terms.{Heap, Control, tally, at, put, Seat, Colour, Marks, IsMarked, BornColours, HeapInCycle, SeatInCycle, Owner, Borne, born_bit, owner_after}
+use Rattle.core_machine.specs.declared.table.address.Address.TheVariants.{Phase, Answer}
 use Rattle.core_rule.proofs.words.Addresses.{at-put_apart}
 use Rattle.core_rule.proofs.colours.Births.{birth_colour, AreBorne, births_stay}
 use Rattle.core_rule.proofs.colours.BirthColours.{painted, painted_in, painted_out}

@@ -1,44 +1,35 @@
 -- What stands of a seat, and of the colours, once the next phase has begun.
 use Rattle.std.proofs.Common.{◌≡◌, ◌⊎◌, ℕ, ◌+◌, Bool, true, false, List, inl, inr, refl, sym, ◌∙◌, subst, arith, ◌%◌, ◌≢◌, ap}
 use Rattle.std.proofs.lemmas.Bool.Decides.{eqb_tells}
-use Rattle.heap_model.specs.declared.heap.Heap.{Heap}
+use Rattle.core_rule.proofs.Terms.{cycle_phases, Heap, Place, ShadingNew, Swapping, Fits, FitsWay, at, Seat, Colour, White, WordPointsTo, IsBetween, Coloured, SeatInCycle}
+use Rattle.core_rule.proofs.Terms.{FieldStands, ShadedStands, RootsStand, WhileAccess, WhilePolling, Owner, AnswerStands}
+use Rattle.heap_model.specs.PhasePlan.{clearing as clearing_phase, rest as resting, barriers as barriers_phase}
 use Rattle.core_machine.specs.declared.table.address.Address.TheVariants.{Answer}
-use Rattle.core_machine.specs.declared.place.Place.{Place}
 use Rattle.core_machine.specs.declared.place.Place.TheVariants as places
 use Rattle.core_machine.specs.declared.place.Polling.TheVariants.{Asking, Shading, Answering}
-use Rattle.core_machine.specs.declared.place.Access.TheVariants.{ShadingNew, Swapping}
-use Rattle.core_machine.specs.seat.Fits.{Fits, FitsWay}
-use Rattle.core_machine.specs.table.Layout.{at}
-use Rattle.core_machine.specs.seat.Seat.{Seat}
-use Rattle.core_rule.specs.Book.{Colour, White}
-use Rattle.core_rule.specs.Colours.{WordPointsTo, IsBetween, Coloured}
-use Rattle.core_rule.specs.Cycle.{SeatInCycle}
-use Rattle.core_rule.specs.Flight.{FieldStands, ShadedStands, RootsStand, WhileAccess, WhilePolling}
-use Rattle.core_rule.specs.Owners.{Owner}
-use Rattle.core_rule.specs.Phases.{AnswerStands}
 use Rattle.core_rule.proofs.cycle.Barriers.{barrier_window}
 use Rattle.core_rule.proofs.cycle.CycleFrames.{while_access, field_stays}
 
 -- no fragment is black in the first phase, and none is marked before it
-pub coloured_next : (heap : Heap) (words now : List ℕ) (owner : ℕ → Owner) (colour : ℕ → Colour) (fragments : ℕ → List ℕ) (phase : ℕ) → phase % 7 ≢ 6
+pub coloured_next : (heap : Heap) (words now : List ℕ) (owner : ℕ → Owner) (colour : ℕ → Colour) (fragments : ℕ → List ℕ) (phase : ℕ) → phase % cycle_phases ≢ clearing_phase
     → ((f source g : ℕ) → WordPointsTo heap now f source g → WordPointsTo heap words f source g)
     → Coloured heap words owner colour fragments phase → Coloured heap now owner colour fragments (phase + 1)
 coloured_next heap words now owner colour fragments phase within leads stands = record {
   rest = λ ended f. absurd (omega (arith, ended, within));
   early = λ first f black. absurd (cc (black, stands.rest (omega (arith, first)) f));
   born = stands.born;
-  black = λ marking f source g black later. elim (eqb_tells (phase % 7) 1) [
+  black = λ marking f source g black later. elim (eqb_tells (phase % cycle_phases) barriers_phase) [
     | inl first ↦ absurd (stands.early first.1 f black)
     | inr other ↦ stands.black (record { from = omega (arith, marking.from, marking.upto, other.1, within); upto = omega (arith, marking.from, marking.upto, within) }) f source g black (leads f source g later)
   ];
-  first = λ marking f i k keeps marked. elim (eqb_tells (phase % 7) 0) [
+  first = λ marking f i k keeps marked. elim (eqb_tells (phase % cycle_phases) resting) [
     | inl none ↦ absurd (marked (stands.rest none.1 f))
     | inr other ↦ stands.first (record { from = omega (arith, other.1); upto = omega (arith, marking.from, marking.upto, within) }) f i k keeps marked
   ];
 }
 
 -- where nothing is marked any more the next phase is one of rest
-pub coloured_rest : (heap : Heap) (words now : List ℕ) (owner : ℕ → Owner) (colour : ℕ → Colour) (fragments : ℕ → List ℕ) (phase : ℕ) → phase % 7 ≡ 6
+pub coloured_rest : (heap : Heap) (words now : List ℕ) (owner : ℕ → Owner) (colour : ℕ → Colour) (fragments : ℕ → List ℕ) (phase : ℕ) → phase % cycle_phases ≡ clearing_phase
     → ((f : ℕ) → colour f ≡ White) → Coloured heap words owner colour fragments phase → Coloured heap now owner colour fragments (phase + 1)
 coloured_rest heap words now owner colour fragments phase last white stands = record {
   rest = λ ended. white;
@@ -57,7 +48,7 @@ present_or_idle heap seat fits = by seat.left (λ gone. (fits.gone gone).idle)
     by false idle = inl refl
 
 -- without the barrier no set shades
-unshaded : (colour : ℕ → Colour) (seat : Seat) (place : Place) → FitsWay seat place → seat.answered % 7 ≡ 0 → WhileAccess (ShadedStands colour seat) place
+unshaded : (colour : ℕ → Colour) (seat : Seat) (place : Place) → FitsWay seat place → seat.answered % cycle_phases ≡ resting → WhileAccess (ShadedStands colour seat) place
 unshaded colour seat (places.Access ShadingNew) fits off = let on = barrier_window seat fits.1 in absurd (omega (arith, on.from, off))
 unshaded colour seat (places.Access Swapping) fits off = λ on. absurd (omega (arith, on.from, off))
 unshaded colour seat _ fits off = tt
@@ -104,8 +95,8 @@ cycle_next heap words now owner colour phase answers gone number seat word leads
           | inr idle ↦ subst (WhileAccess (FieldStands heap now colour seat)) (sym idle) tt
         ];
         shaded = λ marking. elim (present_or_idle heap seat fits) [
-          | inl present ↦ elim (eqb_tells (phase % 7) 0) [
-            | inl none ↦ unshaded colour seat seat.place fits.way_at_place (ap (λ p. p % 7) (has present) ∙ none.1)
+          | inl present ↦ elim (eqb_tells (phase % cycle_phases) resting) [
+            | inl none ↦ unshaded colour seat seat.place fits.way_at_place (ap (λ p. p % cycle_phases) (has present) ∙ none.1)
             | inr some ↦ cycle.flight.shaded record { from = omega (arith, some.1); upto = omega (arith, marking.from, marking.upto) }
           ]
           | inr idle ↦ subst (WhileAccess (ShadedStands colour seat)) (sym idle) tt

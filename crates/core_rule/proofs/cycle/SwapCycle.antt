@@ -1,27 +1,12 @@
 -- What a swap puts into a field is marked while black fragments are made; so the colours and the other seats' sets stand.
 use Rattle.std.proofs.Common.{◌≡◌, ◌≢◌, ℕ, ◌*◌, ◌^◌, ◌<◌, List, Some, inl, inr, refl, sym, ap, ◌∙◌, subst, arith}
-use Rattle.heap_model.specs.declared.heap.Heap.{Heap}
-use Rattle.heap_model.specs.declared.id.Value.{Value}
-use Rattle.heap_model.specs.account.Cycles.{graph_of}
-use Rattle.heap_model.specs.account.PhaseCounts.{phase}
-use Rattle.core_machine.specs.declared.table.address.Address.TheVariants.{Answer, Phase, Word}
+use Rattle.core_rule.proofs.Terms.{Heap, Value, graph_of, phase, Word, Swapping, at, put, head_of, pointer_in, is_meta, spine_words_in, State, seat_at, Seat, Book, object_head}
+use Rattle.core_rule.proofs.Terms.{IsMarked, IsBetween, HeapInCycle, ShadedStands, WhileAccess, NamesKept, value_word, HoldsValue, Rule}
+use Rattle.core_machine.specs.declared.table.address.Address.TheVariants.{Answer, Phase}
 use Rattle.core_machine.specs.declared.place.Place.TheVariants as places
-use Rattle.core_machine.specs.declared.place.Access.TheVariants.{Swapping}
 use Rattle.core_machine.specs.seat.FitsAccess.{FitsAccess}
-use Rattle.core_machine.specs.table.Layout.{at, put}
-use Rattle.heap_words.specs.Loaded.{head_of, pointer_in, is_meta}
-use Rattle.core_machine.specs.table.Decode.{spine_words_in}
-use Rattle.core_machine.specs.machine.Machine.{State, seat_at}
 use Rattle.core_machine.specs.seat.AccessMoves.{new_register_of}
 use Rattle.core_machine.specs.seat.Registers.{register_head as head_of_register}
-use Rattle.core_machine.specs.seat.Seat.{Seat}
-use Rattle.core_rule.specs.Book.{Book, object_head}
-use Rattle.core_rule.specs.Colours.{IsMarked, IsBetween}
-use Rattle.core_rule.specs.Cycle.{HeapInCycle}
-use Rattle.core_rule.specs.Flight.{ShadedStands, WhileAccess}
-use Rattle.core_rule.specs.Objects.{NamesKept, value_word}
-use Rattle.core_rule.specs.Registers.{HoldsValue}
-use Rattle.core_rule.specs.Rule.{Rule}
 use Rattle.core_rule.proofs.entries.AtRest.{seat_fits}
 use Rattle.core_rule.proofs.words.Addresses.{at-put_apart, control_after_word}
 use Rattle.core_rule.proofs.ways.AtObject.{is_near}

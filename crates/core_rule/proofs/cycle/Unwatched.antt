@@ -1,22 +1,11 @@
 -- A seat at a place where no value is watched has its part in the cycle.
 use Rattle.std.proofs.Common.{◌≡◌, ℕ, List, Bool, true, false, arith}
-use Rattle.heap_model.specs.declared.heap.Heap.{Heap}
-use Rattle.heap_model.specs.PhasePlan.{black_births, sweep}
+use Rattle.core_rule.proofs.Terms.{Heap, black_births, sweep, Place, ShadingOld, ShadingNew, Swapping, at, has_barrier_of, Seat, Colour, BornColours, IsBetween, SeatInCycle}
+use Rattle.core_rule.proofs.Terms.{FieldStands, ShadedStands, RootsStand, WhileAccess, WhilePolling, Owner, AnswerStands}
 use Rattle.core_machine.specs.declared.table.address.Address.TheVariants.{Answer}
-use Rattle.core_machine.specs.declared.place.Place.{Place}
 use Rattle.core_machine.specs.declared.place.Place.TheVariants as places
 use Rattle.core_machine.specs.declared.place.Polling.{Polling}
 use Rattle.core_machine.specs.declared.place.Access.{Access}
-use Rattle.core_machine.specs.declared.place.Access.TheVariants.{ShadingOld, ShadingNew, Swapping}
-use Rattle.core_machine.specs.table.Layout.{at}
-use Rattle.core_machine.specs.seat.Access.{has_barrier_of}
-use Rattle.core_machine.specs.seat.Seat.{Seat}
-use Rattle.core_rule.specs.Book.{Colour}
-use Rattle.core_rule.specs.Colours.{BornColours, IsBetween}
-use Rattle.core_rule.specs.Cycle.{SeatInCycle}
-use Rattle.core_rule.specs.Flight.{FieldStands, ShadedStands, RootsStand, WhileAccess, WhilePolling}
-use Rattle.core_rule.specs.Owners.{Owner}
-use Rattle.core_rule.specs.Phases.{AnswerStands}
 use Rattle.core_rule.proofs.cycle.Barriers.{window_barrier}
 use Rattle.core_rule.proofs.cycle.CycleFrames.{SameAnswer, answers_same}
 

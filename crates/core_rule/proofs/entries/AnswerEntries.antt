@@ -1,26 +1,14 @@
 -- The two entries of a poll that answers a phase: the answer, and the reply.
 use Rattle.std.proofs.Common.{◌≡◌, ℕ, ◌+◌, ◌≤◌, true, false, refl, sym, ap, ◌∙◌, subst, arith}
 use Rattle.std.proofs.lemmas.Bool.{eq-eqb}
-use Rattle.heap_model.specs.declared.command.Command.{Command}
+use Rattle.core_rule.proofs.Terms.{Command, Entry, Said, Answers, Heap, KeepsSpace, most_kept, graph_of, is_of, after_reply, Accepts, graph_seat, phase, last_answer, taken_of}
+use Rattle.core_rule.proofs.Terms.{spent_of, Graph, opening, Book}
 use Rattle.heap_model.specs.declared.command.Command.TheVariants as commands
-use Rattle.heap_model.specs.declared.entry.Entry.{Entry}
-use Rattle.heap_model.specs.declared.entry.Entry.TheVariants.{Said, Answers}
-use Rattle.heap_model.specs.declared.heap.Heap.{Heap}
 use Rattle.heap_model.specs.declared.reply.Reply.TheVariants as replies
-use Rattle.heap_model.specs.account.Account.{KeepsSpace, most_kept}
 use Rattle.heap_model.specs.Command.{IsCommand}
-use Rattle.heap_model.specs.account.Cycles.{graph_of}
-use Rattle.heap_model.specs.account.Effects.{is_of}
-use Rattle.heap_model.specs.graph.Growth.{after_reply}
-use Rattle.heap_model.specs.graph.Legal.{Accepts}
-use Rattle.heap_model.specs.graph.Objects.{graph_seat}
-use Rattle.heap_model.specs.account.PhaseCounts.{phase, last_answer}
 use Rattle.heap_model.specs.account.Phases.{ShowsPhases}
 use Rattle.heap_model.specs.graph.Replies.{Says}
-use Rattle.heap_model.specs.account.Space.{taken_of, spent_of}
-use Rattle.heap_model.specs.graph.Graph.{Graph, opening}
 use Rattle.heap_model.proofs.Histories.{graph_after-more}
-use Rattle.core_rule.specs.Book.{Book}
 use Rattle.core_rule.proofs.entries.Legality.{keeps_answers, keeps_said}
 use Rattle.core_rule.proofs.entries.OwnEntries.{total_of-own}
 use Rattle.core_rule.proofs.entries.PhaseEntries.{phase_stays, answered_rises}

@@ -1,16 +1,8 @@
 -- A seat with a call in flight and nothing at hand: it hasn't left, and what it has of its own is little.
-use Rattle.std.proofs.Common.{◌≡◌, ◌≢◌, ℕ, ◌+◌, ◌<◌, ◌≤◌, false, length, subst, arith}
+use Rattle.std.proofs.Common.{◌≡◌, ◌≢◌, ℕ, ◌+◌, ◌<◌, ◌≤◌, false, [], length, subst, arith}
 use Rattle.std.proofs.lemmas.Bool.{false_from_ne_true}
-use Rattle.heap_model.specs.declared.heap.Heap.{Heap}
-use Rattle.heap_model.specs.account.Space.{taken_of, spent_of}
-use Rattle.core_machine.specs.declared.place.Place.{Place}
+use Rattle.core_rule.proofs.Terms.{Heap, taken_of, spent_of, Place, Fits, IsAtRest, SeatIsRefusing, State, seat_at, Seat, Book, IsAwaited, Rule}
 use Rattle.core_machine.specs.declared.place.Place.TheVariants as places
-use Rattle.core_machine.specs.seat.Fits.{Fits, IsAtRest}
-use Rattle.core_machine.specs.machine.Machine.{State, seat_at}
-use Rattle.core_machine.specs.seat.Seat.{Seat}
-use Rattle.core_rule.specs.Book.{Book}
-use Rattle.core_rule.specs.Registers.{IsAwaited}
-use Rattle.core_rule.specs.Rule.{Rule}
 use Rattle.core_rule.proofs.hand.Bodies.{bare_hand}
 
 -- each seat's own data fit together, as the machine says
@@ -37,3 +29,10 @@ module _ (heap : Heap) (state : State) (book : Book) (number : ℕ) (rule : Rule
 
   pub few_own : taken_of number book.history ≤ spent_of number book.history + 15
   few_own = omega (arith, own_reserve, (seat_fits rule number here).own.small_reserve)
+
+-- nor has one that refuses, once it has given all back
+pub refusing_reserve : (heap : Heap) (state : State) (book : Book) (number : ℕ) → Rule heap state book → number < heap.seats → SeatIsRefusing heap (seat_at state number) × ((seat_at state number).hand ≡ [])
+    → length (seat_at state number).reserve + spent_of number book.history ≡ taken_of number book.history
+refusing_reserve heap state book number rule here refuses =
+    let seat : Seat = seat_at state number in
+    bare_hand seat.reserve seat.hand seat.body (spent_of number book.history) (taken_of number book.history) refuses.1 refuses.0.no_body (rule.seats_stand number here).told.counts.unborn

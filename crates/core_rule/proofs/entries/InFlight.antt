@@ -1,18 +1,12 @@
 -- A call in flight: its place, and where it began.
 use Rattle.std.proofs.Common.{◌≡◌, ℕ, ◌*◌, ◌≤◌, false, List, [], ◌∷◌, ◌++◌, length, drop, refl, subst, arith}
 use Rattle.std.proofs.lemmas.List.{drop-append-le, length-append}
-use Rattle.heap_model.specs.declared.entry.Entry.{Entry}
-use Rattle.heap_model.specs.declared.heap.Heap.{Heap}
-use Rattle.heap_model.specs.account.Windows.{is_reply_to}
+use Rattle.core_rule.proofs.Terms.{Entry, Heap, is_reply_to, Granting, Withdrawing, Gathering, Returning, Refusing, Placing, Listing, Bearing, Place, FitsPlace, Seat, Began}
+use Rattle.core_rule.proofs.Terms.{IsAnswered, IsAwaited}
 use Rattle.heap_model.proofs.account_lemmas.Windows.{any-more}
 use Rattle.core_machine.specs.declared.place.Making.{Making}
-use Rattle.core_machine.specs.declared.place.Making.TheVariants.{Granting, Withdrawing, Gathering, Returning, Refusing, Placing, Listing, Storing, Bearing}
-use Rattle.core_machine.specs.declared.place.Place.{Place}
+use Rattle.core_machine.specs.declared.place.Making.TheVariants.{Storing}
 use Rattle.core_machine.specs.declared.place.Place.TheVariants as places
-use Rattle.core_machine.specs.seat.Fits.{FitsPlace}
-use Rattle.core_machine.specs.seat.Seat.{Seat}
-use Rattle.core_rule.specs.Gathers.{Began, IsAnswered}
-use Rattle.core_rule.specs.Registers.{IsAwaited}
 
 -- whoever makes an object has no reply yet
 pub is_busy : (making : Making) (place : Place) → place ≡ places.Making making → ¬ IsAnswered place

@@ -1,20 +1,11 @@
 -- Which entries of the machine may stand after a legal history.
 use Rattle.std.proofs.Common.{ℕ, ◌+◌, ◌*◌, ◌≤◌, Bool, List, [], ◌∷◌, ◌++◌, arith, ◌≡◌}
-use Rattle.heap_model.specs.declared.command.Command.{Command}
-use Rattle.heap_model.specs.declared.entry.Entry.{Entry}
+use Rattle.core_rule.proofs.Terms.{Command, Entry, Heap, Id, Reply, KeepsSpace, IsLegal, most_kept, TakesAndGives, MakesOfOwn, graph_of, EndsCycle, Accepts, made_by}
+use Rattle.core_rule.proofs.Terms.{fragments_gained, fragments_lost, taken_of, spent_of, opening}
 use Rattle.heap_model.specs.declared.entry.Entry.TheVariants as entries
-use Rattle.heap_model.specs.declared.heap.Heap.{Heap}
-use Rattle.heap_model.specs.declared.id.Id.{Id}
-use Rattle.heap_model.specs.declared.reply.Reply.{Reply}
-use Rattle.heap_model.specs.account.Account.{KeepsSpace, IsLegal, most_kept, TakesAndGives, MakesOfOwn}
-use Rattle.heap_model.specs.account.Cycles.{graph_of, EndsCycle}
-use Rattle.heap_model.specs.graph.Legal.{Accepts}
-use Rattle.heap_model.specs.Needs.{made_by}
 use Rattle.heap_model.specs.account.Phases.{AnswersPhase, BeginsPhase, ShowsPhases, ShowsRightly}
 use Rattle.heap_model.specs.account.Refusals.{RefusesRightly, RefusesSpine, ShowsSpace, ShowsSpine}
-use Rattle.heap_model.specs.account.Space.{fragments_gained, fragments_lost, taken_of, spent_of}
 use Rattle.heap_model.specs.account.Sweep.{Sweeps}
-use Rattle.heap_model.specs.graph.Graph.{opening}
 use Rattle.heap_model.proofs.Histories.{AcceptsAll-more, KeepsSpaceAfter-more}
 
 -- a legal history with one more entry that keeps the rules

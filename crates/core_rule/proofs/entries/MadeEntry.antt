@@ -1,23 +1,11 @@
 -- What the entry of a made object adds to the counts, and that it may stand.
 use Rattle.std.proofs.Common.{◌≡◌, ℕ, ◌+◌, ◌≤◌, false, List, [], ◌∷◌, ◌++◌, length, refl, sym, ap, ◌∙◌, arith}
 use Rattle.std.proofs.lemmas.Bool.{eq-eqb}
-use Rattle.heap_model.specs.declared.entry.Entry.{Entry}
-use Rattle.heap_model.specs.declared.heap.Heap.{Heap}
-use Rattle.heap_model.specs.declared.id.Id.TheVariants.{Made}
-use Rattle.heap_model.specs.account.Account.{IsLegal}
-use Rattle.heap_model.specs.graph.Changes.{add}
+use Rattle.core_rule.proofs.Terms.{Entry, Heap, Made, IsLegal, add, graph_of, graph_seat, taken_of, spent_of, Graph, Node, fresh, opening, MakesObject, target_of, next_object_id}
+use Rattle.core_rule.proofs.Terms.{made_entry, last_birth_move, Seat, need, CountsAgree, AreUsed, Owner}
 use Rattle.heap_model.specs.Command.{IsCommand}
-use Rattle.heap_model.specs.account.Cycles.{graph_of}
-use Rattle.heap_model.specs.graph.Objects.{graph_seat}
-use Rattle.heap_model.specs.account.Space.{taken_of, spent_of}
-use Rattle.heap_model.specs.graph.Graph.{Graph, Node, fresh, opening}
 use Rattle.heap_model.proofs.Histories.{graph_after-more, total-more}
-use Rattle.core_machine.specs.seat.Commands.{MakesObject, target_of}
-use Rattle.core_machine.specs.seat.Making.{next_object_id}
-use Rattle.core_machine.specs.Moves.{made_entry, last_birth_move, seat_after}
-use Rattle.core_machine.specs.seat.Seat.{Seat, need}
-use Rattle.core_rule.specs.Counts.{CountsAgree, AreUsed}
-use Rattle.core_rule.specs.Owners.{Owner}
+use Rattle.core_machine.specs.Moves.{seat_after}
 use Rattle.core_rule.proofs.hand.Bodies.{whole_body}
 use Rattle.core_rule.proofs.graph.GraphGrowth.{objects_more, left_same, sets_same}
 use Rattle.core_rule.proofs.entries.Legality.{legal_more}

@@ -1,25 +1,12 @@
 -- What the commands that make objects do to the graph, and that their entries may stand.
 use Rattle.std.proofs.Common.{◌≡◌, ℕ, ◌+◌, ◌≤◌, Bool, true, false, List, length, refl, ◌<◌}
-use Rattle.heap_model.specs.declared.command.Command.{Command}
+use Rattle.core_rule.proofs.Terms.{Command, Entry, Heap, Id, Made, KeepsSpace, add, after_entry, Accepts, IsPresent, need_of, spine_need_of, graph_seat, taken_of, spent_of, Graph}
+use Rattle.core_rule.proofs.Terms.{fresh, MakesObject, IsArrayCall, target_of, IsSized}
 use Rattle.heap_model.specs.declared.command.Command.TheVariants as commands
-use Rattle.heap_model.specs.declared.entry.Entry.{Entry}
 use Rattle.heap_model.specs.declared.entry.Entry.TheVariants as entries
-use Rattle.heap_model.specs.declared.heap.Heap.{Heap}
-use Rattle.heap_model.specs.declared.id.Id.{Id}
-use Rattle.heap_model.specs.declared.id.Id.TheVariants.{Made}
 use Rattle.heap_model.specs.declared.reply.Reply.TheVariants as replies
-use Rattle.heap_model.specs.account.Account.{KeepsSpace}
-use Rattle.heap_model.specs.graph.Changes.{add}
 use Rattle.heap_model.specs.Command.{IsCommand}
-use Rattle.heap_model.specs.graph.Growth.{after_entry}
-use Rattle.heap_model.specs.graph.Legal.{Accepts, IsPresent}
-use Rattle.heap_model.specs.Needs.{need_of, spine_need_of}
-use Rattle.heap_model.specs.graph.Objects.{graph_seat}
 use Rattle.heap_model.specs.account.Refusals.{FindsSpace, FindsSpine}
-use Rattle.heap_model.specs.account.Space.{taken_of, spent_of}
-use Rattle.heap_model.specs.graph.Graph.{Graph, fresh}
-use Rattle.core_machine.specs.seat.Commands.{MakesObject, IsArrayCall, target_of}
-use Rattle.core_rule.specs.Objects.{IsSized}
 use Rattle.core_rule.proofs.entries.Legality.{keeps_told, keeps_said}
 use Rattle.core_rule.proofs.objects.ObjectsGrowth.{fresh_fragments, fresh_words}
 

@@ -4,13 +4,8 @@ use Rattle.std.proofs.Common.{Bool, ◌≡◌, ℕ, ◌+◌, ◌*◌, ◌<◌, �
 use Rattle.std.proofs.lemmas.Bool.Decides.{leb_tells}
 use Rattle.std.proofs.lemmas.List.{append-nil}
 use Rattle.std.proofs.lemmas.List.Elements.{Contains-append_left, Contains-append_right, Contains-push}
-use Rattle.heap_model.specs.declared.entry.Entry.{Entry}
+use Rattle.core_rule.proofs.Terms.{Entry, Heap, KeepsSpace, KeepsSpaceAfter, IsLegal, effect_of, phase, HasEnded, BeganSince, up_to_reply, since_reply, is_reply_to}
 use Rattle.heap_model.specs.declared.entry.Entry.TheVariants as entries
-use Rattle.heap_model.specs.declared.heap.Heap.{Heap}
-use Rattle.heap_model.specs.account.Account.{KeepsSpace, KeepsSpaceAfter, IsLegal}
-use Rattle.heap_model.specs.account.Effects.{effect_of}
-use Rattle.heap_model.specs.account.PhaseCounts.{phase, HasEnded, BeganSince}
-use Rattle.heap_model.specs.account.Windows.{up_to_reply, since_reply, is_reply_to}
 use Rattle.heap_model.proofs.Histories.{total-more}
 use Rattle.heap_model.proofs.account_lemmas.Windows.{parts}
 

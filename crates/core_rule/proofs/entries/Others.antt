@@ -6,16 +6,9 @@ use Rattle.std.proofs.lemmas.List.{append-nil}
 use Rattle.std.proofs.lemmas.List.Elements.{filter-append}
 use Rattle.std.proofs.lemmas.List.Sums.{sum_by-append}
 use Rattle.heap_model.specs.declared.account.effect.Effect.{Effect}
-use Rattle.heap_model.specs.declared.entry.Entry.{Entry}
+use Rattle.core_rule.proofs.Terms.{Entry, Heap, effect_of, is_of, total_of, is_reply_to, Place, Began, GathersRight, Owner}
 use Rattle.heap_model.specs.declared.entry.Entry.TheVariants as entries
-use Rattle.heap_model.specs.declared.heap.Heap.{Heap}
-use Rattle.heap_model.specs.account.Effects.{effect_of, is_of}
-use Rattle.heap_model.specs.account.Space.{total_of}
-use Rattle.heap_model.specs.account.Windows.{is_reply_to}
 use Rattle.heap_model.proofs.Histories.{total_of-more}
-use Rattle.core_machine.specs.declared.place.Place.{Place}
-use Rattle.core_rule.specs.Gathers.{Began, GathersRight}
-use Rattle.core_rule.specs.Owners.{Owner}
 use Rattle.core_rule.proofs.entries.InFlight.{window_more, began_past}
 
 -- an entry of a seat is no other's

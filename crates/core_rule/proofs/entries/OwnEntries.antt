@@ -2,15 +2,8 @@
 use Rattle.std.proofs.Common.{◌≡◌, ℕ, ◌+◌, List, [], ◌∷◌, ◌++◌, filter, refl, sym, ◌∙◌, true, arith, length}
 use Rattle.std.proofs.lemmas.List.Elements.{filter-append}
 use Rattle.heap_model.specs.declared.account.effect.Effect.{Effect}
-use Rattle.heap_model.specs.declared.entry.Entry.{Entry}
-use Rattle.heap_model.specs.account.Effects.{effect_of, is_of}
-use Rattle.heap_model.specs.graph.Objects.{graph_seat}
-use Rattle.heap_model.specs.account.Space.{total_of}
-use Rattle.heap_model.specs.graph.Graph.{Graph}
+use Rattle.core_rule.proofs.Terms.{Entry, effect_of, is_of, graph_seat, total_of, Graph, Seat, CountsAgree, fragments_in_hand}
 use Rattle.heap_model.proofs.Histories.{total_of-more}
-use Rattle.core_machine.specs.seat.Seat.{Seat}
-use Rattle.core_rule.specs.Counts.{CountsAgree}
-use Rattle.core_rule.specs.Holding.{fragments_in_hand}
 
 -- its own entries, and sums of what they did
 pub own_entries : (number : ℕ) (history : List Entry) (entry : Entry) → is_of number entry ≡ true → filter (is_of number) (history ++ entry ∷ []) ≡ filter (is_of number) history ++ entry ∷ []

@@ -2,16 +2,12 @@
 use Rattle.std.proofs.Common.{◌||◌, if◌then◌else◌, ◌≡◌, ℕ, ◌+◌, ◌≤◌, List, [], ◌∷◌, ◌++◌, filter, false, true, Bool, refl, sym, ap, ◌∙◌, arith, ◌≢◌}
 use Rattle.std.proofs.Math.Bool.{or-false, or-true}
 use Rattle.std.proofs.lemmas.List.{append-nil, append_assoc}
-use Rattle.heap_model.specs.declared.command.Command.{Command}
+use Rattle.core_rule.proofs.Terms.{Command, Entry, Reply, effect_of, is_of, phase, last_answer, has_left, is_leave_of}
 use Rattle.heap_model.specs.declared.command.Command.TheVariants as commands
-use Rattle.heap_model.specs.declared.entry.Entry.{Entry}
 use Rattle.heap_model.specs.declared.entry.Entry.TheVariants as entries
-use Rattle.heap_model.specs.declared.reply.Reply.{Reply}
-use Rattle.heap_model.specs.account.Effects.{effect_of, is_of}
-use Rattle.heap_model.specs.account.PhaseCounts.{phase, last_answer, has_left, is_leave_of}
 use Rattle.heap_model.proofs.Histories.{total-more, total_of-more}
 use Rattle.heap_model.proofs.account_lemmas.Windows.{any-more}
-use Rattle.core_rule.specs.Counts.{is_collectors}
+use Rattle.core_rule.specs.counts.Counts.{is_collectors}
 use Rattle.core_rule.proofs.entries.Others.{total_of-other}
 
 -- a reply that leaves nobody: that of any other command than leave

@@ -1,15 +1,12 @@
 -- What a call that answers the phase tells of it, and what it leaves: by its command.
 use Rattle.std.specs.Prelude.{if◌then◌else◌}
 use Rattle.std.proofs.Common.{◌≡◌, ℕ, ◌⊎◌, Bool, true, false, List, [], ◌∷◌, inl, inr, refl}
-use Rattle.heap_model.specs.declared.command.Command.{Command}
+use Rattle.core_rule.proofs.Terms.{Command, Entry, Said, Seat, call_over, after_call}
 use Rattle.heap_model.specs.declared.command.Command.TheVariants as commands
-use Rattle.heap_model.specs.declared.entry.Entry.{Entry}
-use Rattle.heap_model.specs.declared.entry.Entry.TheVariants.{Said}
 use Rattle.heap_model.specs.declared.reply.Reply.TheVariants as replies
 use Rattle.core_machine.specs.seat.FitsHandshake.{AnswersThePhase}
 use Rattle.core_machine.specs.seat.Handshake.{polling_over}
 use Rattle.core_machine.specs.seat.HandshakeMoves.{phase_told}
-use Rattle.core_machine.specs.seat.Seat.{Seat, call_over, after_call}
 
 -- the phase is told, or nothing is
 pub told_cases : (P : List Entry → Type 0) (number : ℕ) (command : Command) (p : ℕ) → P [] → P (Said number command (replies.Phase p) ∷ []) → P (phase_told number command p)

@@ -1,17 +1,9 @@
 -- The entry of a reply that makes no object and tells no refusal: what it adds to the counts.
 use Rattle.std.proofs.Common.{◌≡◌, ℕ, true, List, [], ◌∷◌, ◌++◌, refl, arith}
 use Rattle.std.proofs.lemmas.Bool.{eq-eqb}
-use Rattle.heap_model.specs.declared.command.Command.{Command}
-use Rattle.heap_model.specs.declared.entry.Entry.{Entry}
+use Rattle.core_rule.proofs.Terms.{Command, Entry, Heap, Reply, is_of, made_by, taken_of, spent_of, AreUsed, Owner}
 use Rattle.heap_model.specs.declared.entry.Entry.TheVariants as entries
-use Rattle.heap_model.specs.declared.heap.Heap.{Heap}
-use Rattle.heap_model.specs.declared.reply.Reply.{Reply}
-use Rattle.heap_model.specs.account.Effects.{is_of}
-use Rattle.heap_model.specs.Needs.{made_by}
-use Rattle.heap_model.specs.account.Space.{taken_of, spent_of}
 use Rattle.heap_model.proofs.Histories.{total-more}
-use Rattle.core_rule.specs.Counts.{AreUsed}
-use Rattle.core_rule.specs.Owners.{Owner}
 use Rattle.core_rule.proofs.entries.OwnEntries.{total_of-own}
 
 module _ (history : List Entry) (number : ℕ) (command : Command) (reply : Reply) where

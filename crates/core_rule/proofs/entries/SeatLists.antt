@@ -2,26 +2,13 @@
 use Rattle.std.specs.Prelude.{Some}
 use Rattle.std.proofs.Common.{◌≡◌, ℕ, List, [], ◌++◌, filter, refl, sym, ap, ◌∙◌, subst, append_assoc}
 use Rattle.std.proofs.lemmas.List.{append-nil}
-use Rattle.heap_model.specs.declared.entry.Entry.{Entry}
-use Rattle.heap_model.specs.declared.id.Id.{Id}
-use Rattle.heap_model.specs.declared.id.Value.{Value}
+use Rattle.core_rule.proofs.Terms.{Entry, Id, Value, is_of, register_value, Graph, Place, Register, Seat, object_head, OwnList, Awaits, IsAnswered, NamesKept, Owner}
 use Rattle.heap_model.specs.declared.id.Value.TheVariants as values
-use Rattle.heap_model.specs.account.Effects.{is_of}
-use Rattle.heap_model.specs.graph.Objects.{register_value}
-use Rattle.heap_model.specs.graph.Graph.{Graph}
 use Rattle.core_machine.specs.declared.place.Making.{Making}
-use Rattle.core_machine.specs.declared.place.Place.{Place}
 use Rattle.core_machine.specs.declared.place.Place.TheVariants as places
 use Rattle.core_machine.specs.declared.place.Access.TheVariants.{Naming}
-use Rattle.core_machine.specs.declared.seat.register.Register.{Register}
 use Rattle.core_machine.specs.declared.seat.register.Register.TheVariants as registers
-use Rattle.core_machine.specs.seat.Seat.{Seat}
-use Rattle.core_rule.specs.Book.{object_head}
-use Rattle.core_rule.specs.Counts.{OwnList, Awaits}
-use Rattle.core_rule.specs.Gathers.{IsAnswered}
-use Rattle.core_rule.specs.Objects.{NamesKept}
-use Rattle.core_rule.specs.Owners.{Owner}
-use Rattle.core_rule.specs.Registers as regs
+use Rattle.core_rule.specs.graph.Registers as regs
 
 -- what is kept stays kept, under the same first fragment
 pub record NamesStay (made now_made : List Id) (owner now_owner : ℕ → Owner) (fragments now_fragments : ℕ → List ℕ) : Type 0 where

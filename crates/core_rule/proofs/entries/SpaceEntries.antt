@@ -1,13 +1,7 @@
 -- The entries of a claim and a give back: the graph after them, and that they may stand.
 use Rattle.std.proofs.Common.{◌≡◌, ℕ, ◌+◌, ◌*◌, ◌≤◌, false, List, [], ◌∷◌, ◌++◌}
-use Rattle.heap_model.specs.declared.entry.Entry.{Entry}
+use Rattle.core_rule.proofs.Terms.{Entry, Heap, IsLegal, graph_of, IsPresent, fragments_gained, fragments_lost, taken_of, spent_of, opening}
 use Rattle.heap_model.specs.declared.entry.Entry.TheVariants as entries
-use Rattle.heap_model.specs.declared.heap.Heap.{Heap}
-use Rattle.heap_model.specs.account.Account.{IsLegal}
-use Rattle.heap_model.specs.account.Cycles.{graph_of}
-use Rattle.heap_model.specs.graph.Legal.{IsPresent}
-use Rattle.heap_model.specs.account.Space.{fragments_gained, fragments_lost, taken_of, spent_of}
-use Rattle.heap_model.specs.graph.Graph.{opening}
 use Rattle.heap_model.proofs.Histories.{graph_after-more}
 use Rattle.core_rule.proofs.entries.Legality.{legal_more, keeps_takes, keeps_gives}
 

@@ -1,33 +1,13 @@
 -- Where a seat stands that begins a call which makes no record.
 use Rattle.std.proofs.Common.{◌≡◌, ℕ, List, [], refl, sym, ap, ◌∙◌}
 use Rattle.heap_words.specs.declared.spot.Spot.{Spot}
-use Rattle.heap_model.specs.declared.command.Command.{Command}
+use Rattle.core_rule.proofs.Terms.{Command, Entry, Heap, Id, Value, Graph, Node, Place, LoadingMeta, Granting, Register, IsRecordCall, IsServed, object_of, call_start}
+use Rattle.core_rule.proofs.Terms.{access_start, register_in, Seat, fragment_at, object_number, Awaits, granted_at, placed_at, refused_at, UsedStands, Owner, SpineOwner}
+use Rattle.core_rule.proofs.Terms.{HoldsValue, AddressStands, HasPlace, WayStands, SetsOut}
 use Rattle.heap_model.specs.declared.command.Command.TheVariants as commands
-use Rattle.heap_model.specs.declared.entry.Entry.{Entry}
-use Rattle.heap_model.specs.declared.heap.Heap.{Heap}
-use Rattle.heap_model.specs.declared.id.Id.{Id}
-use Rattle.heap_model.specs.declared.id.Value.{Value}
-use Rattle.heap_model.specs.graph.Graph.{Graph, Node}
-use Rattle.core_machine.specs.declared.place.Place.{Place}
 use Rattle.core_machine.specs.declared.place.Place.TheVariants as places
 use Rattle.core_machine.specs.declared.place.Polling.TheVariants.{Asking}
-use Rattle.core_machine.specs.declared.place.Access.TheVariants.{LoadingMeta}
-use Rattle.core_machine.specs.declared.place.Making.TheVariants.{Granting}
-use Rattle.core_machine.specs.declared.seat.register.Register.{Register}
 use Rattle.core_machine.specs.declared.seat.register.Register.TheVariants as registers
-use Rattle.core_machine.specs.seat.Commands.{IsRecordCall, IsServed, object_of}
-use Rattle.core_machine.specs.machine.Machine.{call_start}
-use Rattle.core_machine.specs.seat.Access.{access_start}
-use Rattle.core_machine.specs.seat.Registers.{register_in}
-use Rattle.core_machine.specs.seat.Seat.{Seat}
-use Rattle.core_rule.specs.Book.{fragment_at, object_number}
-use Rattle.core_rule.specs.Counts.{Awaits}
-use Rattle.core_rule.specs.Budgets.{granted_at, placed_at, refused_at, UsedStands}
-use Rattle.core_rule.specs.Owners.{Owner, SpineOwner}
-use Rattle.core_rule.specs.Registers.{HoldsValue}
-use Rattle.core_rule.specs.Replicas.{AddressStands}
-use Rattle.core_rule.specs.Spines.{HasPlace}
-use Rattle.core_rule.specs.Ways.{WayStands, SetsOut}
 use Rattle.core_rule.proofs.entries.Begins.{SameData, same_data}
 use Rattle.core_rule.proofs.graph.Numbering.{id_at-number_of}
 

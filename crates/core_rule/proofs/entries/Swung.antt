@@ -3,18 +3,8 @@ use Rattle.std.proofs.Common.{◌≡◌, ℕ, zero, suc, ◌<◌, true, false, L
 use Rattle.std.specs.Option.{IsSomeAnd}
 use Rattle.std.proofs.lemmas.List.{append_assoc}
 use Rattle.std.proofs.lemmas.List.Elements.{Contains-append_right}
-use Rattle.heap_model.specs.declared.entry.Entry.{Entry}
-use Rattle.heap_model.specs.declared.entry.Entry.TheVariants.{Swings}
-use Rattle.heap_model.specs.declared.heap.Heap.{Heap}
-use Rattle.heap_model.specs.declared.id.Id.{Id}
-use Rattle.heap_model.specs.account.Account.{IsLegal, KeepsSpaceAfter}
-use Rattle.heap_model.specs.account.Cycles.{graph_of}
+use Rattle.core_rule.proofs.Terms.{Entry, Swings, Heap, Id, IsLegal, KeepsSpaceAfter, graph_of, after_last, begins_phase, up_to_last, Graph, Node, IsObjectLegal, node, IsMade}
 use Rattle.heap_model.specs.account.Sweep.{IsArray, HasSwung, Sweeps}
-use Rattle.heap_model.specs.account.Windows.{after_last, begins_phase, up_to_last}
-use Rattle.heap_model.specs.graph.Graph.{Graph, Node}
-use Rattle.heap_model.specs.graph.Legal.{IsObjectLegal}
-use Rattle.heap_model.specs.graph.Objects.{node}
-use Rattle.heap_model.specs.graph.Reach.{IsMade}
 use Rattle.heap_model.proofs.account_lemmas.Windows.{parts}
 use Rattle.core_rule.proofs.growth.LaterGraphs.{each_object_stays}
 

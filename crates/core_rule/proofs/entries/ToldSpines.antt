@@ -1,17 +1,12 @@
 -- An entry that grants and returns no spine words, begins no cycle and is no swing leaves what the history tells of spines.
 use Rattle.std.proofs.Common.{◌≡◌, ◌≢◌, Bool, true, false, List, [], ◌∷◌, ◌++◌, Contains, inl, inr, refl, subst, arith}
 use Rattle.std.proofs.lemmas.List.Elements.{Contains-push_cases}
-use Rattle.heap_model.specs.declared.entry.Entry.{Entry}
+use Rattle.core_rule.proofs.Terms.{Entry, Swings, Id, effect_of, after_last, begins_cycle, begins_phase, since_cycle, returned_in_cycle}
 use Rattle.heap_model.specs.declared.entry.Entry.TheVariants as entries
-use Rattle.heap_model.specs.declared.entry.Entry.TheVariants.{Swings}
-use Rattle.heap_model.specs.declared.id.Id.{Id}
-use Rattle.heap_model.specs.account.Effects.{effect_of}
 use Rattle.heap_model.specs.account.Noting.{is_collectors}
 use Rattle.heap_model.specs.account.Sweep.{HasSwung}
-use Rattle.heap_model.specs.account.Windows.{after_last, begins_cycle, begins_phase, since_cycle}
 use Rattle.heap_model.proofs.account_lemmas.Windows.{after_last-no, after_last-yes}
-use Rattle.core_rule.specs.Budgets.{returned_in_cycle}
-use Rattle.core_rule.proofs.spines.BudgetFrames.{SameTold, none_granted_by, none_returned_by}
+use Rattle.core_rule.proofs.budgets.BudgetFrames.{SameTold, none_granted_by, none_returned_by}
 
 -- nothing has swung by it
 pub still_swung : (history : List Entry) (entry : Entry) → ((id : Id) → entry ≢ Swings id) → (id : Id) → HasSwung id (history ++ entry ∷ []) → HasSwung id history

@@ -1,14 +1,8 @@
 -- The collector's own entries, and what they leave.
 use Rattle.std.proofs.Common.{◌≡◌, ℕ, List, [], ◌∷◌, ◌++◌, true, false, refl, sym, ◌∙◌}
 use Rattle.std.proofs.lemmas.List.Elements.{filter-append}
-use Rattle.heap_model.specs.account.Effects.{effect_of}
-use Rattle.heap_model.specs.account.PhaseCounts.{is_leave_of}
-use Rattle.heap_model.specs.declared.entry.Entry.{Entry}
-use Rattle.heap_model.specs.declared.heap.Heap.{Heap}
-use Rattle.core_machine.specs.collector.Collector.{Collector}
-use Rattle.core_machine.specs.declared.collector.stage.Stage.{Stage}
-use Rattle.core_rule.specs.Counts.{is_collectors}
-use Rattle.core_rule.specs.Phases.{CollectorAgrees}
+use Rattle.core_rule.proofs.Terms.{effect_of, is_leave_of, Entry, Heap, Collector, Stage, CollectorAgrees}
+use Rattle.core_rule.specs.counts.Counts.{is_collectors}
 use Rattle.core_rule.proofs.entries.PhaseEntries.{phase_stays, answered_stays, left_stays}
 
 -- the collector's phase and what it has seen are the history's still, at another stage and with an entry that begins no phase

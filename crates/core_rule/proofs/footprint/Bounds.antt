@@ -4,17 +4,9 @@ use Rattle.std.specs.List.{list_any, range_with_len, sum_by}
 use Rattle.std.proofs.lemmas.Bool.{or_parts}
 use Rattle.std.proofs.lemmas.List.{append-nil}
 use Rattle.std.proofs.lemmas.List.Sums.{sum_by-append, sum_by-cons}
-use Rattle.heap_model.specs.account.Cycles.{graph_of, brings, all_bring, bound}
-use Rattle.heap_model.specs.account.Effects.{effect_of, is_of}
-use Rattle.heap_model.specs.account.Space.{total}
-use Rattle.heap_model.specs.account.Windows.{begins_cycle, is_reply_to, up_to_cycle, since_cycle, since_reply}
-use Rattle.heap_model.specs.declared.entry.Entry.{Entry}
+use Rattle.core_rule.proofs.Terms.{graph_of, brings, all_bring, bound, effect_of, is_of, total, begins_cycle, is_reply_to, up_to_cycle, since_cycle, since_reply, Entry, Heap, Id}
+use Rattle.core_rule.proofs.Terms.{Graph, after_entry, fragments_of_all}
 use Rattle.heap_model.specs.declared.entry.Entry.TheVariants as entries
-use Rattle.heap_model.specs.declared.heap.Heap.{Heap}
-use Rattle.heap_model.specs.declared.id.Id.{Id}
-use Rattle.heap_model.specs.graph.Graph.{Graph}
-use Rattle.heap_model.specs.graph.Growth.{after_entry}
-use Rattle.heap_model.specs.graph.Sizes.{fragments_of_all}
 use Rattle.heap_model.proofs.Histories.{graph_after-more, total_of-more}
 use Rattle.heap_model.proofs.account_lemmas.Windows.{up_to_last-yes, after_last-yes, up_to_last-no, after_last-no}
 

@@ -1,15 +1,9 @@
 -- What the seats have when a cycle begins, they bring into it.
 use Rattle.std.proofs.Common.{◌≡◌, ℕ, zero, suc, ◌+◌, ◌<◌, ◌≤◌, List, ap, sym, ◌∙◌, arith, cond, sum_by}
 use Rattle.std.specs.List.{range_with_len}
-use Rattle.heap_model.specs.account.Cycles.{brings, all_bring}
-use Rattle.heap_model.specs.account.Effects.{effect_of, is_of}
-use Rattle.heap_model.specs.account.Space.{taken_of, spent_of}
-use Rattle.heap_model.specs.account.Windows.{is_reply_to}
-use Rattle.heap_model.specs.declared.entry.Entry.{Entry}
-use Rattle.heap_model.specs.declared.heap.Heap.{Heap}
+use Rattle.core_rule.proofs.Terms.{brings, all_bring, effect_of, is_of, taken_of, spent_of, is_reply_to, Entry, Heap, sum_upto}
 use Rattle.heap_model.proofs.account_lemmas.CycleLemmas.{sum-range-more}
 use Rattle.heap_model.proofs.account_lemmas.Windows.{sum-parts}
-use Rattle.core_machine.specs.machine.Sums.{sum_upto}
 use Rattle.core_machine.proofs.table_lemmas.Free.{sum_upto-none}
 use Rattle.core_rule.proofs.lists.SumLemmas.{sum-suc, sum_le}
 

@@ -1,21 +1,13 @@
 -- What stands of a cycle is carried over a step that begins none.
 use Rattle.std.specs.List.{list_any}
 use Rattle.std.proofs.Common.{◌≡◌, ◌≢◌, ◌+◌, ◌%◌, false, List, ◌++◌, sym, ap, ◌∙◌, subst}
-use Rattle.heap_model.specs.declared.entry.Entry.{Entry}
-use Rattle.heap_model.specs.declared.heap.Heap.{Heap}
-use Rattle.heap_model.specs.declared.id.Id.{Id}
-use Rattle.heap_model.specs.account.Cycles.{graph_of, bound}
-use Rattle.heap_model.specs.account.PhaseCounts.{phase}
-use Rattle.heap_model.specs.account.Space.{total}
-use Rattle.heap_model.specs.account.Windows.{up_to_cycle, begins_cycle}
-use Rattle.heap_model.specs.graph.Reach.{IsReach}
-use Rattle.core_machine.specs.machine.Machine.{State}
-use Rattle.core_rule.specs.Book.{Book}
-use Rattle.core_rule.specs.Footprint.{Footprint, CycleStands, is_inside}
+use Rattle.core_rule.proofs.Terms.{cycle_phases, Entry, Heap, Id, graph_of, bound, phase, total, up_to_cycle, begins_cycle, IsReach, State, Book}
+use Rattle.heap_model.specs.PhasePlan.{rest as resting}
+use Rattle.core_rule.specs.footprint.Footprint.{Footprint, CycleStands, is_inside}
 use Rattle.core_rule.proofs.footprint.Bounds.{up_to_cycle-none, bound_grows}
 
 pub carry_cycle : (heap : Heap) (state new : State) (book now : Book) (added : List Entry) → now.history ≡ book.history ++ added → list_any begins_cycle added ≡ false
-    → (phase now.history % 7 ≢ 0 → phase book.history % 7 ≢ 0) → CycleStands heap state book
+    → (phase now.history % cycle_phases ≢ resting → phase book.history % cycle_phases ≢ resting) → CycleStands heap state book
     → ((begun : List Id) → IsReach (graph_of heap (up_to_cycle book.history)) begun
     → Footprint heap state book begun (is_inside (graph_of heap (up_to_cycle book.history)) begun) (bound heap begun book.history)
     → Footprint heap new now begun (is_inside (graph_of heap (up_to_cycle book.history)) begun) (bound heap begun book.history + total (λ e. e.taken) added))

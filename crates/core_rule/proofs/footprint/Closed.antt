@@ -2,19 +2,11 @@
 use Rattle.std.proofs.Common.{◌≡◌, ℕ, ◌⊎◌, inl, inr, Bool, true, is_some, List, [], ◌∷◌, ◌++◌, Contains, sym, ap, ◌∙◌, subst}
 use Rattle.std.proofs.lemmas.Bool.{cases_Bool, both_ways}
 use Rattle.std.proofs.lemmas.List.Sums.{fold-append}
-use Rattle.heap_model.specs.account.Cycles.{graph_of}
-use Rattle.heap_model.specs.account.Windows.{begins_cycle, up_to_cycle, since_cycle}
-use Rattle.heap_model.specs.declared.entry.Entry.{Entry}
-use Rattle.heap_model.specs.declared.heap.Heap.{Heap}
-use Rattle.heap_model.specs.declared.id.Id.{Id}
+use Rattle.core_rule.proofs.Terms.{graph_of, begins_cycle, up_to_cycle, since_cycle, Entry, Heap, Id, Graph, opening, after_entry, graph_after, AcceptsAll, IsObjectLegal, node}
+use Rattle.core_rule.proofs.Terms.{register_value, IsMade, Points, Reaches, from_register, from_cell, IsReach}
 use Rattle.heap_model.specs.declared.id.Value.TheVariants.{Object}
-use Rattle.heap_model.specs.graph.Graph.{Graph, opening}
-use Rattle.heap_model.specs.graph.Growth.{after_entry, graph_after}
-use Rattle.heap_model.specs.graph.Legal.{AcceptsAll, IsObjectLegal}
-use Rattle.heap_model.specs.graph.Objects.{node, register_value}
-use Rattle.heap_model.specs.graph.Reach.{IsMade, Points, Reaches, from_register, from_cell, IsReach}
 use Rattle.heap_model.proofs.account_lemmas.Windows.{parts}
-use Rattle.core_rule.specs.Footprint.{is_inside}
+use Rattle.core_rule.specs.footprint.Footprint.{is_inside}
 use Rattle.core_rule.proofs.footprint.Inside.{inside_begun, inside_new, begun_inside}
 use Rattle.core_rule.proofs.growth.EntryGrowth.{grows_after}
 use Rattle.core_rule.proofs.growth.Growing.{CameFrom, was_held, was_read, was_unmade, GrowsFrom, holder_made}

@@ -2,39 +2,22 @@
 use Rattle.std.proofs.Common.{◌≡◌, ◌≢◌, ℕ, ◌+◌, ◌*◌, ◌%◌, ◌<◌, ◌≤◌, inl, inr, ◌==◌, Bool, true, List, [], ◌∷◌, length, IsSome, refl, sym, ap, ◌∙◌, subst, arith}
 use Rattle.std.proofs.lemmas.Bool.{both_ways}
 use Rattle.std.proofs.lemmas.Bool.Decides.{eqb_tells}
-use Rattle.heap_model.specs.declared.entry.Entry.TheVariants.{Advance}
-use Rattle.heap_model.specs.declared.heap.Heap.{Heap}
-use Rattle.heap_model.specs.declared.id.Id.{Id}
+use Rattle.core_rule.proofs.Terms.{cycle_phases, Advance, Heap, Id, graph_of, bound, all_bring, phase, begins_cycle, up_to_cycle, register_value, IsReach, fragments_of_all}
+use Rattle.core_rule.proofs.Terms.{HasLooked, ShadingOld, State, seat_at, sum_upto, has_barrier_of, Seat, head_of, Book, id_at, IsMarked, fragments_in_hand, Kept, Rule}
+use Rattle.heap_model.specs.PhasePlan.{barriers as barriers_phase, rest as resting}
 use Rattle.heap_model.specs.declared.id.Value.TheVariants as values
-use Rattle.heap_model.specs.account.Cycles.{graph_of, bound, all_bring}
-use Rattle.heap_model.specs.account.PhaseCounts.{phase}
-use Rattle.heap_model.specs.account.Windows.{begins_cycle, up_to_cycle}
-use Rattle.heap_model.specs.graph.Objects.{register_value}
-use Rattle.heap_model.specs.graph.Reach.{IsReach}
-use Rattle.heap_model.specs.graph.Sizes.{fragments_of_all}
-use Rattle.core_machine.specs.collector.FitsTurns.{FitsStage, HasLooked}
+use Rattle.core_machine.specs.collector.FitsTurns.{FitsStage}
 use Rattle.core_machine.specs.declared.collector.stage.Stage.TheVariants as stages
-use Rattle.core_machine.specs.declared.place.Access.TheVariants.{ShadingOld}
 use Rattle.core_machine.specs.declared.place.Place.TheVariants as places
-use Rattle.core_machine.specs.machine.Machine.{State, seat_at}
-use Rattle.core_machine.specs.machine.Sums.{sum_upto}
-use Rattle.core_machine.specs.seat.Access.{has_barrier_of}
 use Rattle.core_machine.specs.seat.FitsAccess.{SeatIsAtSet}
-use Rattle.core_machine.specs.seat.Seat.{Seat}
-use Rattle.heap_words.specs.Loaded.{head_of}
-use Rattle.core_rule.specs.Book.{Book, id_at}
-use Rattle.core_rule.specs.Colours.{IsMarked}
-use Rattle.core_rule.specs.Footprint.{StageStandsInside, is_inside, inside_bit}
-use Rattle.core_rule.specs.Holding.{fragments_in_hand}
-use Rattle.core_rule.specs.Owners.{Kept}
-use Rattle.core_rule.specs.Rule.{Rule}
-use Rattle.core_rule.specs.Looks.{AllLooksStand}
+use Rattle.core_rule.specs.footprint.Footprint.{StageStandsInside, is_inside, inside_bit}
+use Rattle.core_rule.specs.looks.Looks.{AllLooksStand}
 use Rattle.core_rule.specs.Stands.{Stands}
 use Rattle.core_rule.proofs.cycle.Barriers.{barrier_window}
 use Rattle.core_rule.proofs.entries.AtRest.{seat_fits, in_flight}
 use Rattle.core_rule.proofs.entries.PhaseEntries.{phase_rises}
-use Rattle.core_rule.proofs.footprint.BeginSize.{size_begins}
-use Rattle.core_rule.proofs.footprint.BookGoing.{IsNamed, by_register, by_set, by_scan, by_spine}
+use Rattle.core_rule.proofs.sweep_exact.BeginSize.{size_begins}
+use Rattle.core_rule.proofs.book.BookGoing.{IsNamed, by_register, by_set, by_scan, by_spine}
 use Rattle.core_rule.proofs.footprint.Bounds.{up_to_cycle-begin, graph-begin, all_bring-begin, bound-begin}
 use Rattle.core_rule.proofs.footprint.Brought.{counted_brought}
 use Rattle.core_rule.proofs.footprint.Closed.{registers_inside}
@@ -50,14 +33,14 @@ module _ (heap : Heap) (state new : State) (book : Book) (begun_at : ℕ → ℕ
   abbrev now : Book
   now = keeps.now
 
-  is_first : p % 7 ≡ 1
-  is_first = elim (eqb_tells (p % 7) 1) [ inl e ↦ e.1 | inr e ↦ absurd (both_ways (p % 7 == 1) e.0 begins) ]
+  is_first : p % cycle_phases ≡ barriers_phase
+  is_first = elim (eqb_tells (p % cycle_phases) barriers_phase) [ inl e ↦ e.1 | inr e ↦ absurd (both_ways (p % cycle_phases == barriers_phase) e.0 begins) ]
 
   -- until now no cycle was under way
-  rested : phase book.history % 7 ≡ 0
+  rested : phase book.history % cycle_phases ≡ resting
   rested = let told : state.collector.phase ≡ phase book.history = rule.collector_stands.phase_told in omega (arith, told, next, is_first)
 
-  is_begun : phase now.history % 7 ≡ 1
+  is_begun : phase now.history % cycle_phases ≡ barriers_phase
   is_begun = let rises : phase now.history ≡ phase book.history + 1 = ap phase keeps.grown ∙ phase_rises book.history (Advance p) refl in omega (arith, rises, rested)
 
   -- the entry leaves the graph

@@ -1,28 +1,15 @@
 -- How the footprint of a cycle goes on by a step that begins no cycle.
 use Rattle.std.proofs.Common.{◌≡◌, ℕ, ◌+◌, ◌%◌, ◌<◌, inl, inr, true, Bool, List, ◌++◌, length, Some, subst, arith}
-use Rattle.heap_model.specs.declared.entry.Entry.{Entry}
-use Rattle.heap_model.specs.declared.heap.Heap.{Heap}
-use Rattle.heap_model.specs.declared.id.Id.{Id}
-use Rattle.heap_model.specs.account.Cycles.{graph_of}
-use Rattle.heap_model.specs.account.PhaseCounts.{phase}
-use Rattle.heap_model.specs.account.Space.{total}
-use Rattle.heap_model.specs.account.Windows.{up_to_cycle}
-use Rattle.heap_model.specs.graph.Reach.{IsReach}
-use Rattle.core_machine.specs.declared.collector.stage.Stage.{Stage}
+use Rattle.core_rule.proofs.Terms.{cycle_phases, Entry, Heap, Id, graph_of, phase, total, up_to_cycle, IsReach, Stage, ShadingOld, State, seat_at, head_of, Book, id_at, AreUsed}
+use Rattle.core_rule.proofs.Terms.{Kept, Rule}
+use Rattle.heap_model.specs.PhasePlan.{clearing as clearing_phase}
 use Rattle.core_machine.specs.declared.collector.stage.Stage.TheVariants as stages
-use Rattle.core_machine.specs.declared.place.Access.TheVariants.{ShadingOld}
 use Rattle.core_machine.specs.declared.place.Place.TheVariants as places
-use Rattle.core_machine.specs.machine.Machine.{State, seat_at}
-use Rattle.heap_words.specs.Loaded.{head_of}
-use Rattle.core_rule.specs.Book.{Book, id_at}
-use Rattle.core_rule.specs.Counts.{AreUsed}
-use Rattle.core_rule.specs.Footprint.{Footprint, StageStandsInside, is_inside}
-use Rattle.core_rule.specs.Owners.{Kept}
-use Rattle.core_rule.specs.Rule.{Rule}
-use Rattle.core_rule.proofs.footprint.BookGoing.{BookGoesOn}
+use Rattle.core_rule.specs.footprint.Footprint.{Footprint, StageStandsInside, is_inside}
+use Rattle.core_rule.proofs.book.BookGoing.{BookGoesOn}
 use Rattle.core_rule.proofs.footprint.Named.{named_inside}
 use Rattle.core_rule.proofs.footprint.StaysInside.{inside_from, new_apart}
-use Rattle.core_rule.proofs.footprint.WeightGrowth.{size_grows, cleared_goes_on}
+use Rattle.core_rule.proofs.kept.WeightGrowth.{size_grows, cleared_goes_on}
 
 module _ (heap : Heap) (state new : State) (book now : Book) (added : List Entry) (rule : Rule heap state book) (after : Rule heap new now) (grown : now.history ≡ book.history ++ added)
     (goes : BookGoesOn heap state book now) (begun : List Id) (reach : IsReach (graph_of heap (up_to_cycle book.history)) begun) (most : ℕ) where
@@ -58,7 +45,7 @@ module _ (heap : Heap) (state new : State) (book now : Book) (added : List Entry
         inside_from heap state new book now rule after goes begun reach f i k owned (λ was below. foot.olds number f i k here placed loads was)
 
     -- the footprint goes on where all that is kept is inside in the last phase, and what sets and the collector have loaded is
-    pub footprint_goes : (phase now.history % 7 ≡ 6 → (f i k : ℕ) → book.owner f ≡ Kept i k → inside (id_at book.made i) ≡ true)
+    pub footprint_goes : (phase now.history % cycle_phases ≡ clearing_phase → (f i k : ℕ) → book.owner f ≡ Kept i k → inside (id_at book.made i) ≡ true)
         → ((number f i k : ℕ) → number < heap.seats → (seat_at new number).place ≡ places.Access ShadingOld → head_of (seat_at new number).loaded ≡ Some f
         → now.owner f ≡ Kept i k → inside (id_at now.made i) ≡ true)
         → StageStandsInside heap now.made begun inside now.owner (most + taken) new.collector.stage

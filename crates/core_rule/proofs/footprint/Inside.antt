@@ -2,12 +2,8 @@
 use Rattle.std.proofs.Common.{◌≡◌, ◌⊎◌, inl, inr, true, not, is_some, List, Contains, refl, sym, ◌∙◌, subst, Any}
 use Rattle.std.proofs.lemmas.Bool.{cases_Bool, cond-true, cond-false, both_ways, not-true, not_from_false, false_from_ne_true}
 use Rattle.std.proofs.lemmas.List.Folds.{Any-from_list_any, list_any-from_Any}
-use Rattle.heap_model.specs.declared.id.Id.{Id}
-use Rattle.heap_model.specs.graph.Graph.{Graph}
-use Rattle.heap_model.specs.graph.Objects.{node}
-use Rattle.heap_model.specs.graph.Reach.{IsMade}
-use Rattle.core_machine.specs.seat.Registers.{is_same_id}
-use Rattle.core_rule.specs.Footprint.{is_among, is_inside}
+use Rattle.core_rule.proofs.Terms.{Id, Graph, node, IsMade, is_same_id}
+use Rattle.core_rule.specs.footprint.Footprint.{is_among, is_inside}
 use Rattle.core_rule.proofs.graph.Numbering.{id_tells}
 
 -- the test of two ids

@@ -3,22 +3,11 @@ use Rattle.std.specs.Option.{IsSomeAnd}
 use Rattle.std.proofs.Common.{◌≡◌, ℕ, true, Bool, List, slice_get, Option, Some, None, sym, ap, ◌∙◌, subst}
 use Rattle.std.proofs.lemmas.Option.{slice_get_within, get_or_from_slice_get}
 use Rattle.heap_model.specs.declared.graph.cell.Cell.{Cell}
-use Rattle.heap_model.specs.declared.heap.Heap.{Heap}
-use Rattle.heap_model.specs.declared.id.Id.{Id}
-use Rattle.heap_model.specs.declared.id.Value.{Value}
+use Rattle.core_rule.proofs.Terms.{Heap, Id, Value, graph_of, up_to_cycle, Graph, Node, node, register_value, IsReach, PointsTo, State, Book, id_at, object_number, node_in, Kept}
+use Rattle.core_rule.proofs.Terms.{Rule}
 use Rattle.heap_model.specs.declared.id.Value.TheVariants as values
-use Rattle.heap_model.specs.account.Cycles.{graph_of}
-use Rattle.heap_model.specs.account.Windows.{up_to_cycle}
-use Rattle.heap_model.specs.graph.Graph.{Graph, Node}
-use Rattle.heap_model.specs.graph.Objects.{node, register_value}
-use Rattle.heap_model.specs.graph.Reach.{IsReach, PointsTo}
-use Rattle.core_machine.specs.machine.Machine.{State}
-use Rattle.core_rule.specs.Book.{Book, id_at, object_number}
-use Rattle.core_rule.specs.Footprint.{Footprint, StageStandsInside, is_inside}
-use Rattle.core_rule.specs.Objects.{node_in}
-use Rattle.core_rule.specs.Owners.{Kept}
-use Rattle.core_rule.specs.Rule.{Rule}
-use Rattle.core_rule.proofs.footprint.BookGoing.{IsNamed, by_register, by_set, by_scan, by_spine}
+use Rattle.core_rule.specs.footprint.Footprint.{Footprint, StageStandsInside, is_inside}
+use Rattle.core_rule.proofs.book.BookGoing.{IsNamed, by_register, by_set, by_scan, by_spine}
 use Rattle.core_rule.proofs.footprint.Closed.{registers_inside, cells_inside}
 use Rattle.core_rule.proofs.graph.Numbering.{id_at-number_of}
 use Rattle.core_rule.proofs.ways.LoadedObjects.{RefersTo, CellRefers}

@@ -1,14 +1,8 @@
 -- Where the graph stays, no object is new, and what is kept was so.
 use Rattle.std.proofs.Common.{◌≡◌, ℕ, ◌<◌, inl, inr, length, sym, ap, ◌∙◌, subst, arith}
 use Rattle.std.proofs.lemmas.Bool.{cases_lt}
-use Rattle.heap_model.specs.declared.heap.Heap.{Heap}
-use Rattle.heap_model.specs.account.Cycles.{graph_of}
-use Rattle.heap_model.specs.graph.Reach.{IsMade}
-use Rattle.core_machine.specs.machine.Machine.{State}
-use Rattle.core_rule.specs.Book.{Book, id_at, object_number}
-use Rattle.core_rule.specs.Owners.{Kept}
-use Rattle.core_rule.specs.Rule.{Rule}
-use Rattle.core_rule.proofs.footprint.BookGoing.{BookGoesOn}
+use Rattle.core_rule.proofs.Terms.{Heap, graph_of, IsMade, State, Book, id_at, object_number, Kept, Rule}
+use Rattle.core_rule.proofs.book.BookGoing.{BookGoesOn}
 use Rattle.core_rule.proofs.footprint.StaysInside.{kept_came}
 
 module _ (heap : Heap) (state new : State) (book now : Book) (rule : Rule heap state book) (after : Rule heap new now) (goes : BookGoesOn heap state book now) (graph : graph_of heap now.history ≡ graph_of heap book.history) where

@@ -2,50 +2,28 @@
 use Rattle.std.proofs.Common.{◌≡◌, ◌≢◌, ℕ, ◌+◌, ◌%◌, ◌<◌, ◌⊎◌, inl, inr, true, List, [], length, Option, Some, None, refl, sym, ap, ◌∙◌, subst, arith}
 use Rattle.std.proofs.lemmas.Bool.Decides.{eqb_tells}
 use Rattle.std.proofs.lemmas.List.{get_or-set_same, get_or-set_other}
-use Rattle.heap_model.specs.declared.command.Command.{Command}
-use Rattle.heap_model.specs.declared.entry.Entry.{Entry}
-use Rattle.heap_model.specs.declared.heap.Heap.{Heap}
-use Rattle.heap_model.specs.declared.id.Id.{Id}
-use Rattle.heap_model.specs.account.Cycles.{graph_of, bound}
-use Rattle.heap_model.specs.account.PhaseCounts.{phase}
-use Rattle.heap_model.specs.account.Space.{total}
-use Rattle.heap_model.specs.account.Windows.{up_to_cycle}
-use Rattle.heap_model.specs.graph.Graph.{Graph}
-use Rattle.heap_model.specs.graph.Objects.{register_value}
-use Rattle.heap_model.specs.graph.Reach.{IsReach}
-use Rattle.core_machine.specs.declared.place.Access.TheVariants.{LoadingOld, ShadingOld}
+use Rattle.core_rule.proofs.Terms.{cycle_phases, Command, Entry, Heap, Id, graph_of, bound, phase, total, up_to_cycle, Graph, register_value, IsReach, LoadingOld, ShadingOld, Word}
+use Rattle.core_rule.proofs.Terms.{Collector, State, seat_at, Begins, BeginsInner, Steps, Can, state_after, state_after_due, entries, found_by, after_begin, Move, next_move}
+use Rattle.core_rule.proofs.Terms.{move_at, seat_after_due, has_barrier_of, after_old_load, object_of, target_of, register_in, Seat, absent_seat, head_of, at, Book, id_at, node_at}
+use Rattle.core_rule.proofs.Terms.{Kept, HoldsValue, IsAwaited, Rule, Finds}
 use Rattle.core_machine.specs.declared.place.Place.TheVariants as places
-use Rattle.core_machine.specs.declared.table.address.Address.TheVariants.{Word}
-use Rattle.core_machine.specs.collector.Collector.{Collector}
-use Rattle.core_machine.specs.machine.Machine.{State, seat_at, Begins, BeginsInner, Steps, Can, state_after, state_after_due, entries, found_by, after_begin}
-use Rattle.core_machine.specs.Moves.{Move, next_move, move_at, seat_after_due}
-use Rattle.core_machine.specs.seat.Access.{has_barrier_of, after_old_load}
-use Rattle.core_machine.specs.seat.Commands.{object_of, target_of}
 use Rattle.core_machine.specs.seat.FitsAccess.{SeatIsAtSet}
-use Rattle.core_machine.specs.seat.Registers.{register_in}
-use Rattle.core_machine.specs.seat.Seat.{Seat, absent_seat}
-use Rattle.heap_words.specs.Loaded.{head_of}
-use Rattle.core_machine.specs.table.Layout.{at}
-use Rattle.core_rule.specs.Book.{Book, id_at}
-use Rattle.core_rule.specs.Footprint.{CycleStands, StageStandsInside, is_inside}
-use Rattle.core_rule.specs.Objects.{node_at}
-use Rattle.core_rule.specs.Owners.{Kept}
-use Rattle.core_rule.specs.Registers.{HoldsValue, IsAwaited}
-use Rattle.core_rule.specs.Rule.{Rule}
+use Rattle.core_rule.specs.footprint.Footprint.{CycleStands, StageStandsInside, is_inside}
 use Rattle.core_rule.specs.Stands.{Stands}
-use Rattle.core_rule.specs.Ways.{Finds}
 use Rattle.core_rule.proofs.entries.AtRest.{seat_fits}
 use Rattle.core_rule.proofs.footprint.CarryCycle.{carry_cycle}
 use Rattle.core_rule.proofs.footprint.Closed.{registers_inside}
 use Rattle.core_rule.proofs.footprint.FootprintGoes.{footprint_goes, stage_goes, old_goes}
 use Rattle.core_rule.proofs.footprint.Named.{cell_inside}
-use Rattle.core_rule.proofs.looks.Origins.{ComesFrom, comes_from, IsOld, begin_old, inner_old}
+use Rattle.core_rule.proofs.looks.Origins.{ComesFrom, IsOld, begin_old, inner_old}
 use Rattle.core_rule.proofs.looks.Stays.{step_looks, begin_looks, inner_looks}
 use Rattle.core_machine.specs.seat.Collecting.{inner_place}
 use Rattle.heap_model.specs.declared.calls.collect.Inner.{Inner}
-use Rattle.core_rule.proofs.footprint.Shown.{AreMute, mute_begins, mute_phase, shown_mute}
+use Rattle.core_rule.proofs.footprint.Mute.{AreMute, mute_begins, mute_phase}
+use Rattle.core_rule.proofs.entries.StepTells.{shows_mute}
+use Rattle.core_rule.proofs.steps.Seats.{step_kind}
 use Rattle.core_rule.proofs.footprint.StaysInside.{inside_from}
-use Rattle.core_rule.proofs.footprint.WeightGrowth.{total-added}
+use Rattle.core_rule.proofs.kept.WeightGrowth.{total-added}
 use Rattle.core_rule.proofs.steps.Assemble.{Keeps}
 use Rattle.core_rule.proofs.ways.LoadedObjects.{loaded_refers}
 
@@ -86,10 +64,10 @@ module _ (heap : Heap) (state new : State) (book : Book) (begun_at : ℕ → ℕ
       → head_of (seat_at new number).loaded ≡ Some f → (seat_at new number ≡ seat_at state number)
       ⊎ (book.owner f ≡ Kept i k → is_inside (graph_of heap (up_to_cycle book.history)) begun (id_at book.made i) ≡ true))
       → CycleStands heap new now
-  quiet_cycle same olds = carry_cycle heap state new book now added keeps.grown (mute_begins added mute) (λ running rests. running (ap (λ p. p % 7) phase_same ∙ rests)) stands.cycle (λ begun reach foot.
+  quiet_cycle same olds = carry_cycle heap state new book now added keeps.grown (mute_begins added mute) (λ running rests. running (ap (λ p. p % cycle_phases) phase_same ∙ rests)) stands.cycle (λ begun reach foot.
       let most : ℕ = bound heap begun book.history in
       footprint_goes heap state new book now added rule keeps.rule keeps.grown keeps.goes begun reach most foot
-      (λ last f i k owned. foot.kept f i k owned (inr (ap (λ p. p % 7) (sym phase_same) ∙ last)))
+      (λ last f i k owned. foot.kept f i k owned (inr (ap (λ p. p % cycle_phases) (sym phase_same) ∙ last)))
       (λ number f i k here placed loads owned. elim (olds begun reach number f i k here placed loads) [
         | inl stays ↦ old_goes heap state new book now added rule keeps.rule keeps.grown keeps.goes begun reach most foot number f i k here
             (ap (λ (s : Seat). s.place) (sym stays) ∙ placed) (ap (λ (s : Seat). head_of s.loaded) (sym stays) ∙ loads) owned
@@ -128,7 +106,7 @@ module _ (heap : Heap) (state : State) (book : Book) (stands : Stands heap state
   after = state_after heap state (Steps number)
 
   step_mute : AreMute (entries heap state (Steps number))
-  step_mute = shown_mute heap state number seat.place
+  step_mute = shows_mute number seat seat.place (entries heap state (Steps number)) ((step_kind seat.place).shows heap state number)
 
   step_olds : (begun : List Id) → IsReach (graph_of heap (up_to_cycle book.history)) begun → (r f i k : ℕ) → r < heap.seats → (seat_at after r).place ≡ places.Access ShadingOld
       → head_of (seat_at after r).loaded ≡ Some f → (seat_at after r ≡ seat_at state r)
@@ -143,7 +121,7 @@ module _ (heap : Heap) (state : State) (book : Book) (stands : Stands heap state
           let moved = due_own heap state number (next_move heap number seat) seated in
           let is_now : (seat_at after number).place ≡ places.Access ShadingOld = subst (λ n. (seat_at after n).place ≡ places.Access ShadingOld) same placed in
           let old : (seat_after_due seat (move_at heap number seat seat.place) moved.0).place ≡ places.Access ShadingOld = sym (ap (λ (s : Seat). s.place) moved.1) ∙ is_now in
-          let before : seat.place ≡ places.Access LoadingOld = subst (ComesFrom seat.place) old (comes_from heap number seat moved.0 seat.place refl) in
+          let before : seat.place ≡ places.Access LoadingOld = subst (ComesFrom seat.place) old ((step_kind seat.place).looks.comes heap number seat moved.0 refl) in
           let loaded : head_of (seat_at after number).loaded ≡ Some f = subst (λ n. head_of (seat_at after n).loaded ≡ Some f) same loads in
           loads_inside begun reach before f i k (sym (ap head_of (found_now before)) ∙ loaded)
         where

@@ -1,79 +1,69 @@
 -- What the collector comes to by a turn that begins no phase is inside, and what it counts is right.
 use Rattle.std.specs.Prelude.{if◌then◌else◌}
-use Rattle.std.proofs.Common.{◌≡◌, ℕ, ◌+◌, ◌*◌, ◌%◌, ◌==◌, inl, inr, true, false, nat_lt, Bool, List, Option, Some, None, refl, sym, ap, ◌∙◌, subst, arith}
-use Rattle.heap_model.specs.declared.heap.Heap.{Heap}
-use Rattle.heap_model.specs.declared.id.Id.{Id}
-use Rattle.heap_model.specs.account.Cycles.{graph_of}
-use Rattle.heap_model.specs.account.PhaseCounts.{phase}
-use Rattle.heap_model.specs.account.Windows.{up_to_cycle}
-use Rattle.heap_model.specs.graph.Graph.{Graph}
-use Rattle.heap_model.specs.graph.Reach.{IsReach}
-use Rattle.core_machine.specs.collector.Collector.{turn_at, first_work, after_last_look, after_counted_look, after_look, has_answered_of}
-use Rattle.core_machine.specs.collector.FitsTurns.{IsScanning, IsIndexing, IsClearing}
+use Rattle.std.proofs.Common.{◌≡◌, ℕ, ◌+◌, ◌%◌, ◌==◌, inl, inr, true, false, nat_lt, Bool, List, Option, Some, None, refl, sym, ap, ◌∙◌, subst, arith}
+use Rattle.core_rule.proofs.Terms.{cycle_phases, Heap, Id, graph_of, phase, up_to_cycle, Graph, IsReach, turn_at, first_work, after_last_look, after_counted_look, after_look}
+use Rattle.core_rule.proofs.Terms.{has_answered_of, IsScanning, IsIndexing, IsClearing, Stage, Control, Word, State, found_by, pointer_in, payload_in, at, spine_place, Book, Grey}
+use Rattle.core_rule.proofs.Terms.{id_at, WordPointsTo, IsPart, ScanStands, Kept, Rule}
+use Rattle.heap_model.specs.PhasePlan.{clearing as clearing_phase}
 use Rattle.core_machine.specs.collector.Marking.{after_last_group, after_pass, scan_step, scan_at, after_scan_load, after_first_load, spine_step, spine_scan_at}
-use Rattle.core_machine.specs.collector.Sweeping.{after_swept, after_examined, after_freed, after_cleared, taken_count_of, next_place_of, dead_bits_of}
+use Rattle.core_machine.specs.collector.Sweeping.{after_swept, after_examined, after_freed, after_cleared, taken_count_of}
 use Rattle.core_machine.specs.declared.collector.stage.Scan.{Scan}
 use Rattle.core_machine.specs.declared.collector.stage.SpineScan.{SpineScan}
-use Rattle.core_machine.specs.declared.collector.stage.Stage.{Stage}
 use Rattle.core_machine.specs.declared.collector.stage.Stage.TheVariants as stages
-use Rattle.core_machine.specs.declared.table.address.Address.TheVariants.{Control, Word}
-use Rattle.core_machine.specs.machine.Machine.{State, found_by}
-use Rattle.heap_words.specs.Loaded.{pointer_in, payload_in}
-use Rattle.core_machine.specs.table.Decode.{spine_words_in}
-use Rattle.core_machine.specs.table.Layout.{at, spine_place}
 use Rattle.core_machine.proofs.collector_lemmas.SpineTurns.{spine_cases}
-use Rattle.core_rule.specs.Book.{Book, Grey, id_at}
-use Rattle.core_rule.specs.Colours.{WordPointsTo}
-use Rattle.core_rule.specs.Footprint.{Footprint, StageStandsInside, ClearedWithin, is_inside}
-use Rattle.core_rule.specs.Marking.{IsPart, ScanStands}
-use Rattle.core_rule.specs.Owners.{Kept}
-use Rattle.core_rule.specs.Rule.{Rule}
+use Rattle.core_rule.specs.footprint.Footprint.{Footprint, StageStandsInside, ClearedWithin, is_inside}
 use Rattle.core_rule.proofs.colours.SourceCases.{word_leads}
-use Rattle.core_rule.proofs.footprint.Clears.{clears_on, clears_begin}
+use Rattle.core_rule.proofs.kept.Clears.{clears_on, clears_begin}
 use Rattle.core_rule.proofs.footprint.Named.{cell_inside}
 use Rattle.core_rule.proofs.marking.Marks.{settled_phase}
 use Rattle.core_rule.proofs.marking.ObjectEdges.{kept_refers, part_owned}
 use Rattle.core_rule.proofs.marking.Scans.{spine_points}
 use Rattle.core_rule.proofs.marking.SweepMarks.{after_swept_either, after_cleared_either}
-use Rattle.core_rule.proofs.turns.WorkCases.{work_either, copying_on}
+use Rattle.core_rule.proofs.turns.WorkCases.{work_either}
 
-module _ (heap : Heap) (state : State) (book : Book) (rule : Rule heap state book) (begun : List Id) (reach : IsReach (graph_of heap (up_to_cycle book.history)) begun) (most : ℕ)
-    (foot : Footprint heap state book begun (is_inside (graph_of heap (up_to_cycle book.history)) begun) most) where
+-- a cycle under way: what was reached when it began has its footprint
+pub record UnderWay (heap : Heap) (state : State) (book : Book) : Type 0 where
+  pub begun : List Id
+  pub reach : IsReach (graph_of heap (up_to_cycle book.history)) begun
+  pub most : ℕ
+  pub foot : Footprint heap state book begun (is_inside (graph_of heap (up_to_cycle book.history)) begun) most
+
+module _ (heap : Heap) (state : State) (book : Book) (rule : Rule heap state book) (cycle : UnderWay heap state book) where
   abbrev inside : Id → Bool
-  inside = is_inside (graph_of heap (up_to_cycle book.history)) begun
+  inside = is_inside (graph_of heap (up_to_cycle book.history)) cycle.begun
 
   -- it stands so at the stage
   abbrev pub Inside : Stage → Type 0
-  Inside stage = StageStandsInside heap book.made begun inside book.owner most stage
+  Inside stage = StageStandsInside heap book.made cycle.begun inside book.owner cycle.most stage
 
   abbrev g : Graph
   g = graph_of heap book.history
 
   -- in the last phase all is inside that is kept, and nothing is to be freed
-  begins_clearing : state.collector.phase % 7 ≡ 6 → ClearedWithin heap book.made begun book.owner most 0 0
+  begins_clearing : state.collector.phase % cycle_phases ≡ clearing_phase → ClearedWithin heap book.made cycle.begun book.owner cycle.most 0 0
   begins_clearing last =
-      let told : phase book.history % 7 ≡ 6 = ap (λ p. p % 7) (sym rule.collector_stands.phase_told) ∙ last in
-      clears_begin heap book.made book.owner inside (λ f i k owned. foot.kept f i k owned (inr told))
+      let told : phase book.history % cycle_phases ≡ clearing_phase = ap (λ p. p % cycle_phases) (sym rule.collector_stands.phase_told) ∙ last in
+      clears_begin heap book.made book.owner inside (λ f i k owned. cycle.foot.kept f i k owned (inr told))
       (rule.marks_stand.heap_marks.alive (λ settled. let between = settled_phase state.collector.phase state.collector.stage settled in omega (arith, between.upto, last)))
-      begun most foot.size
+      cycle.begun cycle.most cycle.foot.size
 
   -- after a look
   work_inside : Inside (first_work state.collector.phase)
-  work_inside = work_either (λ stage most_turns. Inside stage) heap.groups state.collector.phase (λ marks. tt) (λ copies. tt) (λ sweeps. tt) begins_clearing tt
+  work_inside = work_either (λ stage turns. Inside stage) heap.groups state.collector.phase (λ marks. tt) (λ copies. tt) (λ sweeps. tt) begins_clearing (λ nothing. tt)
 
-  look_inside : (found : ℕ) → Inside (after_look heap state.collector found).stage
+  pub look_inside : (found : ℕ) → Inside (after_look heap state.collector found).stage
   look_inside found = by (has_answered_of state.collector.phase found)
     where
       last : (b : Bool) → Inside (if b then record state.collector { looked = state.collector.looked + 1 } else after_last_look heap state.collector).stage
-      last true = foot.stage
+      last true = cycle.foot.stage
       last false = work_inside
 
       by : (b : Bool) → Inside (if b then after_counted_look heap state.collector else state.collector).stage
       by true = last (nat_lt (state.collector.looked + 1) heap.seats)
-      by false = foot.stage
+      by false = cycle.foot.stage
 
   -- after a pass
-  pass_inside : (group : ℕ) (found : Bool) (place : Option ℕ) → Inside (after_pass heap group found place)
+  pub pass_inside : (group : ℕ) (found : Bool) (place : Option ℕ) → Inside (after_pass heap group found place)
   pass_inside group found (Some place) = tt
   pass_inside group found None = by (nat_lt (group + 1) heap.groups)
     where
@@ -85,27 +75,27 @@ module _ (heap : Heap) (state : State) (book : Book) (rule : Rule heap state boo
       by true = tt
       by false = last found
 
-  at_inside : (scan : Scan) (part : ℕ) → Inside (scan_at scan part)
+  pub at_inside : (scan : Scan) (part : ℕ) → Inside (scan_at scan part)
   at_inside scan part = by (nat_lt part 4)
     where
       by : (b : Bool) → Inside (if b then stages.Scanning (record scan { part = part }) else stages.Blackening (record scan { part = part }))
       by true = tt
       by false = tt
 
-  spine_at_inside : (s : SpineScan) → Inside (spine_scan_at s)
+  pub spine_at_inside : (s : SpineScan) → Inside (spine_scan_at s)
   spine_at_inside s = spine_cases Inside s (λ more. tt) (λ done. tt)
 
   -- what a grey fragment leads to is inside, since its object is
   leads_inside : (f source target : ℕ) → book.colour f ≡ Grey → WordPointsTo heap state.words f source target → (i k : ℕ) → book.owner target ≡ Kept i k → inside (id_at book.made i) ≡ true
   leads_inside f source target grey leads i k owned =
       let part : IsPart book.owner f = rule.marks_stand.heap_marks.grey f grey in
-      let holder = foot.kept f part.index part.place part.kept (inl (λ white. absurd (cc (grey, white)))) in
+      let holder = cycle.foot.kept f part.index part.place part.kept (inl (λ white. absurd (cc (grey, white)))) in
       elim (kept_refers heap state book rule f part.index part.place part.kept source target leads) as (λ _. inside (id_at book.made i) ≡ true) [
         | inl its ↦
             let same : Kept part.index its.place ≡ Kept i k = sym (part_owned heap state book rule f part.index part.place part.kept target its) ∙ owned in
             let index : part.index ≡ i = cc in
             subst (λ n. inside (id_at book.made n) ≡ true) index holder
-        | inr cell ↦ cell_inside heap state book rule begun reach part.index target i k holder cell owned
+        | inr cell ↦ cell_inside heap state book rule cycle.begun cycle.reach part.index target i k holder cell owned
       ]
 
   -- so is what a scanned word leads to
@@ -117,23 +107,23 @@ module _ (heap : Heap) (state : State) (book : Book) (rule : Rule heap state boo
       let stands = subst (ScanStands heap state.words book.owner book.colour book.fragments) scanning rule.marks_stand.heap_marks.scan in
       leads_inside scan.fragment scan.part target stands.0.grey (word_leads heap state.words scan.fragment scan.part target fits.fragment_within fits.part_within is)
 
-  scan_inside : (scan : Scan) → state.collector.stage ≡ stages.Scanning scan → (length : Option ℕ) (next : ℕ)
+  pub scan_inside : (scan : Scan) → state.collector.stage ≡ stages.Scanning scan → (length : Option ℕ) (next : ℕ)
       → Inside (after_first_load scan length next (pointer_in scan.part (at heap state.words (Word scan.fragment scan.part))))
   scan_inside scan scanning None next = word_inside scan scanning next (pointer_in scan.part (at heap state.words (Word scan.fragment scan.part))) refl
   scan_inside scan scanning (Some cells) next = tt
 
   -- and what a word of a spine names
-  index_inside : (s : SpineScan) → state.collector.stage ≡ stages.Indexing s → Inside (stages.Spreading (spine_step s) (payload_in (at heap state.words (spine_place s.spine s.index))))
+  pub index_inside : (s : SpineScan) → state.collector.stage ≡ stages.Indexing s → Inside (stages.Spreading (spine_step s) (payload_in (at heap state.words (spine_place s.spine s.index))))
   index_inside s indexing =
       let fits : IsIndexing heap state.collector.phase state.collector.looked s = rw indexing at rule.machine.collector_fit.at_stage in
       let stands = subst (ScanStands heap state.words book.owner book.colour book.fragments) indexing rule.marks_stand.heap_marks.scan in
-      leads_inside s.scan.fragment (4 + s.index) _ stands.0.grey (spine_points heap state.words s stands.1 fits.fragment_within fits.index_within)
+      leads_inside s.scan.fragment (4 + s.index) _ stands.0.grey (spine_points heap state.words s stands.1 fits.on.fragment_within fits.on.index_within)
 
   -- after a group of the sweep
-  swept_inside : (group : ℕ) → Inside (after_swept heap group)
+  pub swept_inside : (group : ℕ) → Inside (after_swept heap group)
   swept_inside group = after_swept_either Inside heap group tt (λ all. tt)
 
-  examined_inside : (group dead words : ℕ) (place : Option ℕ) → Inside (after_examined heap group dead words place)
+  pub examined_inside : (group dead words : ℕ) (place : Option ℕ) → Inside (after_examined heap group dead words place)
   examined_inside group dead words (Some place) = tt
   examined_inside group dead words None = by (dead == 0)
     where
@@ -141,7 +131,7 @@ module _ (heap : Heap) (state : State) (book : Book) (rule : Rule heap state boo
       by true = swept_inside group
       by false = tt
 
-  freed_inside : (group words : ℕ) → Inside (after_freed heap group words)
+  pub freed_inside : (group words : ℕ) → Inside (after_freed heap group words)
   freed_inside group words = by (words == 0)
     where
       by : (b : Bool) → Inside (if b then after_swept heap group else stages.Returning group words)
@@ -149,33 +139,16 @@ module _ (heap : Heap) (state : State) (book : Book) (rule : Rule heap state boo
       by false = tt
 
   -- after one of the clearing
-  cleared_inside : (group kept : ℕ) → state.collector.stage ≡ stages.Clearing group kept → Inside (after_cleared heap group (kept + taken_count_of (at heap state.words (Control group))))
+  pub cleared_inside : (group kept : ℕ) → state.collector.stage ≡ stages.Clearing group kept → Inside (after_cleared heap group (kept + taken_count_of (at heap state.words (Control group))))
   cleared_inside group kept clearing =
       let fits : IsClearing heap state.collector.phase state.collector.looked group kept = rw clearing at rule.machine.collector_fit.at_stage in
-      let stands : ClearedWithin heap book.made begun book.owner most group kept = subst Inside clearing foot.stage in
-      let on = clears_on heap state.words book.owner rule.heap_stands.control_words group fits.group_within book.made begun most kept stands in
+      let stands : ClearedWithin heap book.made cycle.begun book.owner cycle.most group kept = subst Inside clearing cycle.foot.stage in
+      let on = clears_on heap state.words book.owner rule.heap_stands.control_words group fits.group_within book.made cycle.begun cycle.most kept stands in
       after_cleared_either Inside heap group (kept + taken_count_of (at heap state.words (Control group))) on
       (λ all. let last : group + 1 ≡ heap.groups = omega (arith, all, fits.group_within) in
-      subst (λ n. ClearedWithin heap book.made begun book.owner most n (kept + taken_count_of (at heap state.words (Control group)))) last on)
+      subst (λ n. ClearedWithin heap book.made cycle.begun book.owner cycle.most n (kept + taken_count_of (at heap state.words (Control group)))) last on)
 
-  -- so it is after each turn
-  pub turn_inside : (stage : Stage) → state.collector.stage ≡ stage → Inside ((turn_at heap state.collector stage).told (found_by heap state (turn_at heap state.collector stage).step)).stage
-  turn_inside stages.Looking is = look_inside _
-  turn_inside (stages.Passing group found) is = pass_inside group found _
-  turn_inside (stages.Scanning scan) is = scan_inside scan is _ _
-  turn_inside (stages.Shading scan target next) is = at_inside (scan_step scan) next
-  turn_inside (stages.Locating scan count) is = spine_at_inside _
-  turn_inside (stages.Indexing s) is = index_inside s is
-  turn_inside (stages.Spreading s target) is = spine_at_inside _
-  turn_inside (stages.Blackening scan) is = tt
-  turn_inside stages.Flipping is = tt
-  turn_inside (stages.Copying stage) is = copying_on Inside (λ stage. tt) tt heap state.collector.phase stage _
-  turn_inside (stages.Sweeping group) is =
-      let dead : ℕ = dead_bits_of (at heap state.words (Control group)) in
-      examined_inside group dead 0 (next_place_of dead 0)
-  turn_inside (stages.Examining group dead place words) is = examined_inside group dead (words + spine_words_in (at heap state.words (Word (16 * group + place) 0))) (next_place_of dead (place + 1))
-  turn_inside (stages.Freeing group dead words) is = freed_inside group words
-  turn_inside (stages.Returning group words) is = swept_inside group
-  turn_inside (stages.Clearing group kept) is = cleared_inside group kept is
-  turn_inside (stages.Ending kept) is = tt
-  turn_inside stages.Advancing is = tt
+-- so is the stage to which a turn leads
+abbrev pub LeadsInside : Stage → Type 0
+LeadsInside stage = (heap : Heap) (state : State) (book : Book) (rule : Rule heap state book) (cycle : UnderWay heap state book) → state.collector.stage ≡ stage
+    → Inside heap state book rule cycle ((turn_at heap state.collector stage).told (found_by heap state (turn_at heap state.collector stage).step)).stage

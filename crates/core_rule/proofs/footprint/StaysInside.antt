@@ -1,23 +1,14 @@
 -- What was inside stays so by a step that begins no cycle, and what is new is inside.
 use Rattle.std.proofs.Common.{◌≡◌, ℕ, ◌<◌, ◌≤◌, ◌⊎◌, inl, inr, true, false, Bool, List, length, refl, sym, ap, ◌∙◌, subst, arith}
 use Rattle.std.proofs.lemmas.Bool.{cases_lt}
-use Rattle.heap_model.specs.declared.heap.Heap.{Heap}
-use Rattle.heap_model.specs.declared.id.Id.{Id}
-use Rattle.heap_model.specs.account.Cycles.{graph_of}
-use Rattle.heap_model.specs.account.Windows.{up_to_cycle, since_cycle, begins_cycle}
-use Rattle.heap_model.specs.graph.Graph.{Graph}
-use Rattle.heap_model.specs.graph.Reach.{IsReach, IsMade}
+use Rattle.core_rule.proofs.Terms.{Heap, Id, graph_of, up_to_cycle, since_cycle, begins_cycle, Graph, IsReach, IsMade, State, Book, id_at, object_number, Owner, Kept, Rule}
 use Rattle.heap_model.proofs.account_lemmas.Windows.{parts}
-use Rattle.core_machine.specs.machine.Machine.{State}
-use Rattle.core_rule.specs.Book.{Book, id_at, object_number}
-use Rattle.core_rule.specs.Footprint.{is_inside, is_among}
-use Rattle.core_rule.specs.Owners.{Owner, Kept}
-use Rattle.core_rule.specs.Rule.{Rule}
-use Rattle.core_rule.proofs.footprint.BookGoing.{BookGoesOn}
+use Rattle.core_rule.specs.footprint.Footprint.{is_inside, is_among}
+use Rattle.core_rule.proofs.book.BookGoing.{BookGoesOn}
 use Rattle.core_rule.proofs.footprint.Closed.{legal_parts}
-use Rattle.core_rule.proofs.footprint.Going.{OwnerGoes, stays, takes_part, becomes_part}
+use Rattle.core_rule.proofs.book.Going.{OwnerGoes, stays, takes_part, becomes_part}
 use Rattle.core_rule.proofs.footprint.Inside.{inside_new, contains_by_test}
-use Rattle.core_rule.proofs.footprint.ReachLists.{reached_made}
+use Rattle.core_rule.proofs.reach.ReachLists.{reached_made}
 use Rattle.core_rule.proofs.growth.LaterGraphs.{each_object_stays}
 
 -- what is kept was so, or is of a new object

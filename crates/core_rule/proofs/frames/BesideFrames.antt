@@ -1,23 +1,9 @@
 -- What stands of the heap and of the seats at a step on the budget, the spot or a spine word: no fragment's word changes, no control word and no answer.
 use Rattle.std.proofs.Common.{◌≡◌, ℕ, ◌*◌, ◌/◌, ◌%◌, ◌+◌, ◌<◌, ◌≤◌, List, length, inl, refl, ◌∙◌, arith}
-use Rattle.heap_model.specs.declared.heap.Heap.{Heap}
-use Rattle.heap_model.specs.account.Cycles.{graph_of}
-use Rattle.heap_model.specs.account.PhaseCounts.{phase, last_answer, has_left}
-use Rattle.heap_model.specs.graph.Graph.{Graph}
-use Rattle.heap_model.specs.graph.Sizes.{spine_words_of}
+use Rattle.core_rule.proofs.Terms.{Heap, graph_of, phase, last_answer, has_left, Graph, spine_words_of, Control, Word, State, seat_at, Seat, at, put, index_of, spine_place, Book}
+use Rattle.core_rule.proofs.Terms.{Black, fragment_at, WordPointsTo, SeatInCycle, IsStored, IsKept, node_at, SpineOwner, Rule, HeapStands, SeatStands, SpinesStand}
 use Rattle.core_machine.specs.declared.table.address.Address.{Address}
-use Rattle.core_machine.specs.declared.table.address.Address.TheVariants.{Phase, Answer, Control, Word}
-use Rattle.core_machine.specs.machine.Machine.{State, seat_at}
-use Rattle.core_machine.specs.seat.Seat.{Seat}
-use Rattle.core_machine.specs.table.Layout.{at, put, index_of, spine_place}
-use Rattle.core_rule.specs.Book.{Book, Black, fragment_at}
-use Rattle.core_rule.specs.Colours.{WordPointsTo}
-use Rattle.core_rule.specs.Cycle.{SeatInCycle}
-use Rattle.core_rule.specs.Holding.{IsStored}
-use Rattle.core_rule.specs.Objects.{IsKept, node_at}
-use Rattle.core_rule.specs.Owners.{SpineOwner}
-use Rattle.core_rule.specs.Rule.{Rule, HeapStands, SeatStands}
-use Rattle.core_rule.specs.Spines.{SpinesStand}
+use Rattle.core_machine.specs.declared.table.address.Address.TheVariants.{Phase, Answer}
 use Rattle.core_rule.proofs.colours.LeadsFrames.{leads_same}
 use Rattle.core_rule.proofs.colours.MarkWords.{marks_same}
 use Rattle.core_rule.proofs.cycle.CycleFrames.{cycle_watched}

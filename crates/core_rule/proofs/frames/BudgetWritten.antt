@@ -1,13 +1,6 @@
 -- What stands of the heap and of the seats where the budget is written: all of it.
 use Rattle.std.proofs.Common.{ℕ, ◌<◌, List, length, arith}
-use Rattle.heap_model.specs.declared.heap.Heap.{Heap}
-use Rattle.heap_model.specs.account.Cycles.{graph_of}
-use Rattle.core_machine.specs.declared.table.address.Address.TheVariants.{Budget, Word}
-use Rattle.core_machine.specs.machine.Machine.{State, seat_at}
-use Rattle.core_machine.specs.table.Layout.{put}
-use Rattle.core_rule.specs.Book.{Book}
-use Rattle.core_rule.specs.Objects.{node_at}
-use Rattle.core_rule.specs.Rule.{Rule, HeapStands, SeatStands}
+use Rattle.core_rule.proofs.Terms.{Heap, graph_of, Budget, Word, State, seat_at, put, Book, node_at, Rule, HeapStands, SeatStands}
 use Rattle.core_rule.proofs.colours.LeadsFrames.{SameSources, leads_same, same_ahead}
 use Rattle.core_rule.proofs.frames.BesideFrames.{LeavesBeside, ArraysStay, beside_aside, arrays_stay, heap_beside, seat_beside}
 use Rattle.core_rule.proofs.spines.OtherWords.{LeavesPlaces, places_left_budget}

@@ -3,26 +3,11 @@ use Rattle.std.proofs.Common.{◌≡◌, ◌≢◌, ℕ, ◌+◌, ◌*◌, ◌/�
 use Rattle.std.proofs.lemmas.Bool.{eq-eqb}
 use Rattle.std.proofs.lemmas.Bool.Decides.{eqb_tells}
 use Rattle.std.proofs.lemmas.List.{append-nil}
-use Rattle.heap_model.specs.declared.entry.Entry.{Entry}
+use Rattle.core_rule.proofs.Terms.{Entry, Heap, IsLegal, graph_of, is_of, graph_seat, phase, last_answer, has_left, Place, tally, State, seat_at, takes_some, Seat, Book, Colour}
+use Rattle.core_rule.proofs.Terms.{CountsAgree, AreUsed, HeapInCycle, SeatInCycle, GathersRight, Began, IsAnswered, fragments_in_hand, Owner, Free, Taken, free_bit, owner_after}
+use Rattle.core_rule.proofs.Terms.{Rule}
 use Rattle.heap_model.specs.declared.entry.Entry.TheVariants as entries
-use Rattle.heap_model.specs.declared.heap.Heap.{Heap}
-use Rattle.heap_model.specs.account.Account.{IsLegal}
-use Rattle.heap_model.specs.account.Cycles.{graph_of}
-use Rattle.heap_model.specs.account.Effects.{is_of}
-use Rattle.heap_model.specs.graph.Objects.{graph_seat}
-use Rattle.heap_model.specs.account.PhaseCounts.{phase, last_answer, has_left}
-use Rattle.core_machine.specs.declared.place.Place.{Place}
-use Rattle.core_machine.specs.table.Fragments.{tally}
-use Rattle.core_machine.specs.machine.Machine.{State, seat_at}
-use Rattle.core_machine.specs.Moves.{takes_some}
-use Rattle.core_machine.specs.seat.Seat.{Seat}
-use Rattle.core_rule.specs.Book.{Book, Colour}
-use Rattle.core_rule.specs.Counts.{CountsAgree, AreUsed, is_collectors}
-use Rattle.core_rule.specs.Cycle.{HeapInCycle, SeatInCycle}
-use Rattle.core_rule.specs.Gathers.{GathersRight, Began, IsAnswered}
-use Rattle.core_rule.specs.Holding.{fragments_in_hand}
-use Rattle.core_rule.specs.Owners.{Owner, Free, Taken, free_bit, owner_after}
-use Rattle.core_rule.specs.Rule.{Rule}
+use Rattle.core_rule.specs.counts.Counts.{is_collectors}
 use Rattle.core_rule.proofs.counts.CountMoves.{claim_used, claim_none, claim_room}
 use Rattle.core_rule.proofs.cycle.CycleHistory.{heap_cycle_more, cycle_own}
 use Rattle.core_rule.proofs.gather.GatherSteps.{no_more, own_claims, own_claims_none, other_claims, other_claims_none}
@@ -30,7 +15,7 @@ use Rattle.core_rule.proofs.entries.InFlight.{began_past}
 use Rattle.core_rule.proofs.entries.Others.{of_other}
 use Rattle.core_rule.proofs.entries.OwnEntries.{counts_own, counts_same, own_grows}
 use Rattle.core_rule.proofs.frames.SeatFrames.{SameTold, told_nothing, told_other}
-use Rattle.core_rule.proofs.spines.BudgetFrames as budgets
+use Rattle.core_rule.proofs.budgets.BudgetFrames as budgets
 use Rattle.core_rule.proofs.entries.ToldSpines.{seats_tell, told_spines}
 use Rattle.core_rule.proofs.entries.SpaceEntries.{graph_takes, legal_takes}
 

@@ -1,25 +1,11 @@
 -- What stands of the heap and of each seat when a group's marks are cleared.
 use Rattle.std.proofs.Common.{◌≡◌, ◌≢◌, ℕ, ◌%◌, ◌<◌, Bool, true, false, List, length, bit_and, refl, ap, ◌∙◌, arith}
-use Rattle.heap_model.specs.declared.heap.Heap.{Heap}
-use Rattle.heap_model.specs.account.Cycles.{graph_of}
-use Rattle.heap_model.specs.account.PhaseCounts.{phase}
-use Rattle.core_machine.specs.declared.place.Place.{Place}
+use Rattle.core_rule.proofs.Terms.{cycle_phases, Heap, graph_of, phase, Place, Control, State, seat_at, IsAtRest, Seat, tally, at, put, Book, Colour, Coloured, BornColours}
+use Rattle.core_rule.proofs.Terms.{RootsStand, WhilePolling, node_at, Borne, AnswerStands, Rule, HeapStands, SeatStands}
+use Rattle.heap_model.specs.PhasePlan.{clearing as clearing_phase, marking as marking_phase}
 use Rattle.core_machine.specs.declared.place.Place.TheVariants as places
 use Rattle.core_machine.specs.declared.place.Polling.TheVariants.{Asking, Shading, Answering}
-use Rattle.core_machine.specs.declared.table.address.Address.TheVariants.{Control}
-use Rattle.core_machine.specs.machine.Machine.{State, seat_at}
-use Rattle.core_machine.specs.seat.Fits.{IsAtRest}
-use Rattle.core_machine.specs.seat.Seat.{Seat}
-use Rattle.core_machine.specs.table.Fragments.{tally}
-use Rattle.core_machine.specs.table.Layout.{at, put}
 use Rattle.core_machine.specs.table.Operation.{marks_cleared}
-use Rattle.core_rule.specs.Book.{Book, Colour}
-use Rattle.core_rule.specs.Colours.{Coloured, BornColours}
-use Rattle.core_rule.specs.Flight.{RootsStand, WhilePolling}
-use Rattle.core_rule.specs.Objects.{node_at}
-use Rattle.core_rule.specs.Owners.{Borne}
-use Rattle.core_rule.specs.Phases.{AnswerStands}
-use Rattle.core_rule.specs.Rule.{Rule, HeapStands, SeatStands}
 use Rattle.core_rule.proofs.frames.SeatFrames.{names_words}
 use Rattle.core_rule.proofs.cycle.CycleFrames.{answers_same}
 use Rattle.core_rule.proofs.cycle.MakingCycle.{phase_after_control, answer_after_control}
@@ -31,10 +17,10 @@ use Rattle.core_rule.proofs.owners.Seated.{borne_by_seat}
 use Rattle.core_rule.proofs.spines.OtherWords.{LeavesSpines, spines_left_control}
 use Rattle.core_rule.proofs.spines.SpineFrames.{spines_words, spine_after}
 use Rattle.core_rule.proofs.words.SweepWords.{cleared_in, cleared_white, cleared_marks, cleared_bits}
-use Rattle.core_rule.proofs.spines.DeadWords.{dead_after_control}
+use Rattle.core_rule.proofs.dying.DeadWords.{dead_after_control}
 
 -- in the last phase nobody is about to answer that marking begins
-nobody_marks : (now answer : ℕ) (colour : ℕ → Colour) (seat : Seat) → now % 7 ≡ 6 → seat.asked % 7 ≡ 3 → (place : Place) → AnswerStands now answer seat.asked place
+nobody_marks : (now answer : ℕ) (colour : ℕ → Colour) (seat : Seat) → now % cycle_phases ≡ clearing_phase → seat.asked % cycle_phases ≡ marking_phase → (place : Place) → AnswerStands now answer seat.asked place
     → WhilePolling (RootsStand colour seat) place
 nobody_marks now answer colour seat last begins (places.Polling Asking) asks = tt
 nobody_marks now answer colour seat last begins (places.Polling Shading) asks = absurd (omega (arith, asks.now, begins, last))
@@ -59,7 +45,7 @@ module _ (heap : Heap) (state : State) (book : Book) (rule : Rule heap state boo
   pub leaves_spines : LeavesSpines heap state.words words_cleared
   leaves_spines = spines_left_control heap state.words word g below
 
-  module _ (last : phase book.history % 7 ≡ 6) where
+  module _ (last : phase book.history % cycle_phases ≡ clearing_phase) where
     -- what is marked then was, and is born; of the last phase nothing else is said
     coloured : Coloured heap words_cleared book.owner colour book.fragments (phase book.history)
     coloured = record {

@@ -1,28 +1,16 @@
 -- What stands of the heap and of another's seat when an entry is added that changes no object and nothing of what is in use, and no fragment's word changes.
 use Rattle.std.proofs.Common.{◌≡◌, ℕ, ◌<◌, false, List, [], ◌∷◌, ◌++◌, length, refl, ◌∙◌, arith}
-use Rattle.heap_model.specs.declared.entry.Entry.{Entry}
-use Rattle.heap_model.specs.declared.heap.Heap.{Heap}
-use Rattle.heap_model.specs.account.Account.{IsLegal}
-use Rattle.heap_model.specs.account.Cycles.{graph_of}
-use Rattle.heap_model.specs.account.Effects.{effect_of, is_of}
-use Rattle.heap_model.specs.graph.Objects.{graph_seat}
-use Rattle.heap_model.specs.account.PhaseCounts.{phase, last_answer, has_left}
-use Rattle.heap_model.specs.graph.Graph.{Graph}
+use Rattle.core_rule.proofs.Terms.{Entry, Heap, IsLegal, graph_of, effect_of, is_of, graph_seat, phase, last_answer, has_left, Graph, Control, Word, at, put, Seat, Book}
+use Rattle.core_rule.proofs.Terms.{HeapInCycle, SeatInCycle, node_at, HeapStands, SeatStands}
 use Rattle.heap_model.proofs.Histories.{total-more}
-use Rattle.core_machine.specs.declared.table.address.Address.TheVariants.{Phase, Control, Word}
-use Rattle.core_machine.specs.table.Layout.{at, put}
-use Rattle.core_machine.specs.seat.Seat.{Seat}
-use Rattle.core_rule.specs.Book.{Book}
-use Rattle.core_rule.specs.Cycle.{HeapInCycle, SeatInCycle}
-use Rattle.core_rule.specs.Objects.{node_at}
-use Rattle.core_rule.specs.Rule.{HeapStands, SeatStands}
+use Rattle.core_machine.specs.declared.table.address.Address.TheVariants.{Phase}
 use Rattle.core_rule.proofs.words.Addresses.{at-put_apart}
 use Rattle.core_rule.proofs.words.ControlLemmas.{bits_same}
 use Rattle.core_rule.proofs.objects.ObjectFrames.{objects_words}
 use Rattle.core_rule.proofs.graph.SameNodes.{SameNodes, ids_stay, objects_stay, shapes_stay}
 use Rattle.core_rule.proofs.frames.SeatFrames.{with_entry, seat_stays, same_party}
-use Rattle.core_rule.proofs.spines.BudgetFrames.{SameGrants, SameTold}
-use Rattle.core_rule.proofs.spines.SameBooks.{grants_alike}
+use Rattle.core_rule.proofs.budgets.BudgetFrames.{SameGrants, SameTold}
+use Rattle.core_rule.proofs.budgets.SameBooks.{grants_alike}
 use Rattle.core_rule.proofs.spines.OtherWords.{LeavesPlaces, places_of, spines_left_none, spines_left_phase}
 use Rattle.core_rule.proofs.spines.SpineFrames.{same_kept, spines_at_places}
 

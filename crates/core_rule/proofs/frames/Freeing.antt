@@ -1,31 +1,11 @@
 -- What stands of the heap and of each seat when dead fragments of a group are freed.
 use Rattle.std.proofs.Common.{◌≡◌, ℕ, ◌+◌, ◌*◌, ◌%◌, ◌^◌, ◌<◌, ◌≤◌, false, List, [], ◌∷◌, ◌++◌, length, inl, bit_and, refl, ap, ◌∙◌, arith}
-use Rattle.heap_model.specs.declared.entry.Entry.{Entry}
-use Rattle.heap_model.specs.declared.entry.Entry.TheVariants.{Frees}
-use Rattle.heap_model.specs.declared.heap.Heap.{Heap}
-use Rattle.heap_model.specs.account.Account.{IsLegal}
-use Rattle.heap_model.specs.account.Cycles.{graph_of}
-use Rattle.heap_model.specs.account.PhaseCounts.{phase, last_answer, has_left}
-use Rattle.heap_model.specs.account.Space.{fragments_gained, fragments_lost}
-use Rattle.heap_model.specs.graph.Graph.{Graph, opening}
-use Rattle.heap_model.specs.graph.Objects.{graph_seat}
+use Rattle.core_rule.proofs.Terms.{cycle_phases, Entry, Frees, Heap, IsLegal, graph_of, phase, last_answer, has_left, fragments_gained, fragments_lost, Graph, opening, graph_seat}
+use Rattle.core_rule.proofs.Terms.{Control, State, seat_at, sum_upto, Seat, tally, at, put, Book, IsMarked, AreUsed, HeapInCycle, AfterMarking, node_at, AreDead, Owner, Free}
+use Rattle.core_rule.proofs.Terms.{taken_bit, born_bit, dead_bit, owner_after, Rule, HeapStands, SeatStands}
+use Rattle.heap_model.specs.PhasePlan.{sweep as sweep_phase}
 use Rattle.heap_model.proofs.Histories.{graph_after-more, total-more}
-use Rattle.core_machine.specs.declared.table.address.Address.TheVariants.{Control}
-use Rattle.core_machine.specs.machine.Machine.{State, seat_at}
-use Rattle.core_machine.specs.machine.Sums.{sum_upto}
-use Rattle.core_machine.specs.seat.Seat.{Seat}
-use Rattle.core_machine.specs.table.Fragments.{tally}
-use Rattle.core_machine.specs.table.Layout.{at, put}
 use Rattle.core_machine.specs.table.Operation.{free_mask_of}
-use Rattle.core_rule.specs.Book.{Book}
-use Rattle.core_rule.specs.Colours.{IsMarked}
-use Rattle.core_rule.specs.Counts.{AreUsed}
-use Rattle.core_rule.specs.Cycle.{HeapInCycle}
-use Rattle.core_rule.specs.Marking.{AfterMarking}
-use Rattle.core_rule.specs.Objects.{node_at}
-use Rattle.core_rule.specs.Sweep.{AreDead}
-use Rattle.core_rule.specs.Owners.{Owner, Free, taken_bit, born_bit, dead_bit, owner_after}
-use Rattle.core_rule.specs.Rule.{Rule, HeapStands, SeatStands}
 use Rattle.core_rule.proofs.colours.LeadsFrames.{leads_control}
 use Rattle.core_rule.proofs.cycle.CycleFrames.{coloured_stays}
 use Rattle.core_rule.proofs.cycle.CycleHistory.{heap_cycle_more, cycle_other}
@@ -41,13 +21,13 @@ use Rattle.core_rule.proofs.objects.ObjectFrames.{SameKept, objects_owners, obje
 use Rattle.core_rule.proofs.owners.DeadOwners.{of_dead, set_dead, kept_freed, hand_freed, owners_freed, dead_before}
 use Rattle.core_rule.proofs.owners.Handed.{fewer, handed_cases}
 use Rattle.core_rule.proofs.owners.OwnerLemmas.{is_dead}
-use Rattle.core_rule.proofs.spines.BudgetFrames as budgets
+use Rattle.core_rule.proofs.budgets.BudgetFrames as budgets
 use Rattle.core_rule.proofs.entries.ToldSpines.{told_spines}
 use Rattle.core_rule.proofs.spines.OtherWords.{LeavesSpines, spines_left_control}
 use Rattle.core_rule.proofs.spines.SpineFrames.{same_shapes, spines_stay, spine_stored, spines_left, places_same}
 use Rattle.core_rule.proofs.words.SetBits.{set_in, set_once, set_group}
 use Rattle.core_rule.proofs.words.SweepWords.{freed_bits, freed_marks}
-use Rattle.core_rule.proofs.spines.DeadWords.{dead_after_control}
+use Rattle.core_rule.proofs.dying.DeadWords.{dead_after_control}
 
 module _ (heap : Heap) (state : State) (book : Book) (rule : Rule heap state book) (g dead : ℕ) (below : g < heap.groups) (small : dead < 2 ^ 16) (are : AreDead book.owner g dead) where
   abbrev fs : List ℕ
@@ -112,7 +92,7 @@ module _ (heap : Heap) (state : State) (book : Book) (rule : Rule heap state boo
   room : fragments_lost book.history + length fs ≤ fragments_gained heap book.history
   room = omega (arith, rule.heap_stands.used, fewer_taken)
 
-  module _ (sweeps : phase book.history % 7 ≡ 5) (some : 1 ≤ length fs) (after : AfterMarking book.owner book.colour) where
+  module _ (sweeps : phase book.history % cycle_phases ≡ sweep_phase) (some : 1 ≤ length fs) (after : AfterMarking book.owner book.colour) where
     legal : IsLegal heap false book_freed.history
     legal = legal_more heap false book.history entry rule.heap_stands.legal tt (keeps_frees heap false book.history (length fs) (sweeps, some, room))
 

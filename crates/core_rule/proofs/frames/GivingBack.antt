@@ -1,25 +1,9 @@
 -- What stands of the heap and of each seat when fragments of a group that a seat holds are given back.
 use Rattle.std.proofs.Common.{◌≡◌, ◌≢◌, ℕ, ◌+◌, ◌<◌, ◌≤◌, false, List, [], ◌∷◌, ◌++◌, length, refl, ap, arith, ◌*◌, subst}
-use Rattle.heap_model.specs.declared.entry.Entry.{Entry}
+use Rattle.core_rule.proofs.Terms.{Entry, Heap, graph_of, graph_seat, phase, last_answer, has_left, taken_of, spent_of, Graph, Control, mask_of, tally, at, put, State, seat_at}
+use Rattle.core_rule.proofs.Terms.{word_without_taken, Seat, Book, Bits, SeatInCycle, Owner, Free, Borne, Taken, born_bit, owner_after, IsBoards, node_at, Rule, HeapStands}
+use Rattle.core_rule.proofs.Terms.{SeatStands}
 use Rattle.heap_model.specs.declared.entry.Entry.TheVariants as entries
-use Rattle.heap_model.specs.declared.heap.Heap.{Heap}
-use Rattle.heap_model.specs.account.Cycles.{graph_of}
-use Rattle.heap_model.specs.graph.Objects.{graph_seat}
-use Rattle.heap_model.specs.account.PhaseCounts.{phase, last_answer, has_left}
-use Rattle.heap_model.specs.account.Space.{taken_of, spent_of}
-use Rattle.heap_model.specs.graph.Graph.{Graph}
-use Rattle.core_machine.specs.declared.table.address.Address.TheVariants.{Control}
-use Rattle.core_machine.specs.table.Fragments.{mask_of, tally}
-use Rattle.core_machine.specs.table.Layout.{at, put}
-use Rattle.core_machine.specs.machine.Machine.{State, seat_at}
-use Rattle.core_machine.specs.table.Operation.{word_without_taken}
-use Rattle.core_machine.specs.seat.Seat.{Seat}
-use Rattle.core_rule.specs.Book.{Book}
-use Rattle.core_rule.specs.ControlWords.{Bits}
-use Rattle.core_rule.specs.Cycle.{SeatInCycle}
-use Rattle.core_rule.specs.Owners.{Owner, Free, Borne, Taken, born_bit, owner_after, IsBoards}
-use Rattle.core_rule.specs.Objects.{node_at}
-use Rattle.core_rule.specs.Rule.{Rule, HeapStands, SeatStands}
 use Rattle.core_rule.proofs.marking.MakingMarks.{leaves_handed}
 use Rattle.core_rule.proofs.marking.Marks.{MarksGoOn, IsOffWay, marks_off_way}
 use Rattle.core_rule.proofs.cycle.FieldFrames.{watched_born}
@@ -33,8 +17,8 @@ use Rattle.core_rule.proofs.entries.AtRest.{seat_fits}
 use Rattle.core_rule.proofs.entries.InFlight.{tried_within}
 use Rattle.core_rule.proofs.cycle.MakingCycle.{cycle_goes_on, answer_after_control, heap_hands, borne_before, cycle_control}
 use Rattle.core_rule.proofs.objects.ObjectFrames.{SameKept, objects_owners, part_kept, objects_control, free_keeps_none}
-use Rattle.core_rule.proofs.spines.BudgetFrames.{SameGrants}
-use Rattle.core_rule.proofs.spines.SameBooks.{grants_owned, dead_handed}
+use Rattle.core_rule.proofs.budgets.BudgetFrames.{SameGrants}
+use Rattle.core_rule.proofs.budgets.SameBooks.{grants_owned, dead_handed}
 use Rattle.core_rule.proofs.entries.ToldSpines.{seats_tell, told_spines}
 use Rattle.core_rule.proofs.spines.OtherWords.{LeavesSpines, spines_left_control}
 use Rattle.core_rule.proofs.spines.SpineFrames.{same_shapes, spines_stay, spine_stored, spines_left, places_same}
@@ -44,7 +28,7 @@ use Rattle.core_rule.proofs.frames.SeatFrames.{KeptStays, same_party, told_other
 use Rattle.core_rule.proofs.entries.SpaceEntries.{graph_gives, legal_gives}
 use Rattle.core_rule.proofs.hand.StoredFrames.{stored_control}
 use Rattle.core_rule.proofs.cycle.Unwatched.{IsApart}
-use Rattle.core_rule.proofs.spines.DeadWords.{dead_after_control}
+use Rattle.core_rule.proofs.dying.DeadWords.{dead_after_control}
 use Rattle.core_rule.proofs.owners.Handed.{dead_unhanded}
 use Rattle.core_rule.proofs.owners.DeadOwners.{free_no_dead}
 

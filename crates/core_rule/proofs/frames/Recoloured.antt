@@ -1,17 +1,8 @@
 -- A control word gets other marks: what stays of the heap and of each seat.
 use Rattle.std.proofs.Common.{◌≡◌, ℕ, ◌<◌, List, length, inl, ◌∙◌, arith}
-use Rattle.heap_model.specs.declared.heap.Heap.{Heap}
-use Rattle.heap_model.specs.account.Cycles.{graph_of}
-use Rattle.heap_model.specs.account.PhaseCounts.{phase, last_answer, has_left}
-use Rattle.core_machine.specs.declared.table.address.Address.TheVariants.{Answer, Control, Phase}
-use Rattle.core_machine.specs.machine.Machine.{State, seat_at}
-use Rattle.core_machine.specs.table.Layout.{put}
-use Rattle.core_rule.specs.Book.{Book, Colour}
-use Rattle.core_rule.specs.Colours.{Marks, IsMarked, Coloured}
-use Rattle.core_rule.specs.ControlWords.{Bits}
-use Rattle.core_rule.specs.Owners.{Borne}
-use Rattle.core_rule.specs.Objects.{node_at}
-use Rattle.core_rule.specs.Rule.{Rule, HeapStands, SeatStands}
+use Rattle.core_rule.proofs.Terms.{Heap, graph_of, phase, last_answer, has_left, Control, State, seat_at, put, Book, Colour, Marks, IsMarked, Coloured, Bits, Borne, node_at, Rule}
+use Rattle.core_rule.proofs.Terms.{HeapStands, SeatStands}
+use Rattle.core_machine.specs.declared.table.address.Address.TheVariants.{Answer, Phase}
 use Rattle.core_rule.proofs.frames.SeatFrames.{names_words}
 use Rattle.core_rule.proofs.colours.LeadsFrames.{leads_control}
 use Rattle.core_rule.proofs.cycle.CycleFrames.{LeavesCycle, cycle_stays}
@@ -21,7 +12,7 @@ use Rattle.core_rule.proofs.objects.ObjectFrames.{objects_control}
 use Rattle.core_rule.proofs.spines.OtherWords.{LeavesSpines, spines_left_control}
 use Rattle.core_rule.proofs.spines.SpineFrames.{spines_words, spine_after}
 use Rattle.core_rule.proofs.words.Addresses.{at-put_apart}
-use Rattle.core_rule.proofs.spines.DeadWords.{dead_after_control}
+use Rattle.core_rule.proofs.dying.DeadWords.{dead_after_control}
 
 -- the control words tell the same owners and the new colours, which are right; what was marked is, and what seats bear has its colour
 pub record Recolours (heap : Heap) (words : List ℕ) (book : Book) (coloured : ℕ → Colour) : Type 0 where

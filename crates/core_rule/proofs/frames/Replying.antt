@@ -2,25 +2,15 @@
 use Rattle.std.proofs.Common.{◌≡◌, ℕ, List, [], ◌∷◌, ◌++◌, false, refl, arith}
 use Rattle.std.proofs.lemmas.List.{length-append}
 use Rattle.heap_model.specs.declared.account.effect.Effect.{Effect}
-use Rattle.heap_model.specs.declared.entry.Entry.{Entry}
-use Rattle.heap_model.specs.declared.heap.Heap.{Heap}
-use Rattle.heap_model.specs.account.Account.{KeepsSpace}
-use Rattle.heap_model.specs.account.Cycles.{graph_of}
-use Rattle.heap_model.specs.account.Effects.{effect_of, no_effect, is_of}
-use Rattle.heap_model.specs.graph.Legal.{Accepts}
-use Rattle.heap_model.specs.graph.Objects.{graph_seat}
-use Rattle.core_machine.specs.declared.place.Place.{Place}
-use Rattle.core_machine.specs.seat.Seat.{Seat}
-use Rattle.core_rule.specs.Book.{Book}
-use Rattle.core_rule.specs.Gathers.{Began, IsAnswered}
-use Rattle.core_rule.specs.Counts.{is_collectors}
-use Rattle.core_rule.specs.Rule.{HeapStands, SeatStands}
+use Rattle.core_rule.proofs.Terms.{Entry, Heap, KeepsSpace, graph_of, effect_of, no_effect, is_of, Accepts, graph_seat, Place, Seat, Book, Began, IsAnswered, HeapStands}
+use Rattle.core_rule.proofs.Terms.{SeatStands}
+use Rattle.core_rule.specs.counts.Counts.{is_collectors}
 use Rattle.core_rule.proofs.entries.ToldSpines.{seats_tell, told_spines}
 use Rattle.core_rule.proofs.cycle.CycleHistory.{heap_cycle_more, cycle_other}
 use Rattle.core_rule.proofs.frames.EntryFrames.{UsesNothing, heap_past, seat_past, grants_past, fragments_same}
 use Rattle.core_rule.proofs.entries.Legality.{legal_more}
 use Rattle.core_rule.proofs.graph.SameNodes.{SameNodes}
-use Rattle.core_rule.proofs.spines.BudgetFrames.{SameGrants}
+use Rattle.core_rule.proofs.budgets.BudgetFrames.{SameGrants}
 use Rattle.core_rule.proofs.frames.SeatFrames.{with_entry}
 
 -- no part of its effect is anything

@@ -1,40 +1,20 @@
 -- What stays of a seat at another's step: all of it, where that leaves what the seat has, what it names and what is told of it.
 use Rattle.std.proofs.Common.{◌≡◌, ℕ, ◌<◌, false, List, [], ◌∷◌, ◌++◌, length, filter, drop, get_or, refl, sym, ap, ◌∙◌, subst, arith}
 use Rattle.heap_words.specs.declared.spot.Spot.{Spot}
-use Rattle.heap_model.specs.declared.entry.Entry.{Entry}
-use Rattle.heap_model.specs.declared.heap.Heap.{Heap}
-use Rattle.heap_model.specs.declared.id.Id.{Id}
-use Rattle.heap_model.specs.declared.id.Value.{Value}
+use Rattle.core_rule.proofs.Terms.{Entry, Heap, Id, Value, graph_of, is_of, graph_seat, register_value, phase, last_answer, has_left, spent_of, taken_of, Graph, Place, Register}
+use Rattle.core_rule.proofs.Terms.{Seat, Book, SeatInCycle, IsStored, GathersRight, Began, UsedStands, node_at, IsKept, Owner, SpineOwner, Registers, AddressStands, NamesStand}
+use Rattle.core_rule.proofs.Terms.{SeatStands, WayStands}
 use Rattle.heap_model.specs.declared.id.Value.TheVariants as values
-use Rattle.heap_model.specs.account.Cycles.{graph_of}
-use Rattle.heap_model.specs.account.Effects.{is_of}
-use Rattle.heap_model.specs.graph.Objects.{graph_seat, register_value, GraphSeat}
-use Rattle.heap_model.specs.account.PhaseCounts.{phase, last_answer, has_left}
-use Rattle.heap_model.specs.account.Space.{spent_of, taken_of}
-use Rattle.heap_model.specs.graph.Graph.{Graph}
-use Rattle.core_machine.specs.declared.place.Place.{Place}
-use Rattle.core_machine.specs.declared.seat.register.Register.{Register}
+use Rattle.heap_model.specs.graph.Objects.{GraphSeat}
 use Rattle.core_machine.specs.declared.seat.register.Register.TheVariants as registers
-use Rattle.core_machine.specs.seat.Seat.{Seat}
-use Rattle.core_rule.specs.Book.{Book}
-use Rattle.core_rule.specs.Cycle.{SeatInCycle}
-use Rattle.core_rule.specs.Holding.{IsStored}
-use Rattle.core_rule.specs.Gathers.{GathersRight, Began}
-use Rattle.core_rule.specs.Budgets.{UsedStands}
-use Rattle.core_rule.specs.Objects.{node_at, IsKept}
-use Rattle.core_rule.specs.Owners.{Owner, SpineOwner}
-use Rattle.core_rule.specs.Registers.{Registers}
-use Rattle.core_rule.specs.Registers as regs
-use Rattle.core_rule.specs.Replicas.{AddressStands}
-use Rattle.core_rule.specs.Rule.{NamesStand, SeatStands}
-use Rattle.core_rule.specs.Ways.{WayStands}
+use Rattle.core_rule.specs.graph.Registers as regs
 use Rattle.core_rule.proofs.entries.Others.{own-other, total_of-other, began_stays, gathers_stay}
 use Rattle.core_rule.proofs.entries.SeatLists.{list_stays, NamesStay, holds_stays}
 use Rattle.core_rule.proofs.hand.HandMoves.{SameHand, same_hand, holding_stays}
 use Rattle.core_rule.proofs.graph.SameNodes.{SameShape, shape_same}
 use Rattle.core_rule.proofs.objects.ObjectFrames.{SameKept, names_kept}
 use Rattle.core_rule.proofs.spines.SpineFrames.{SpineIsStored, spine_words_stay, SpinesLeft, spines_left, spine_stays, PlacesStay, places_same, address_stays, address_words}
-use Rattle.core_rule.proofs.spines.UsedWords.{used_other}
+use Rattle.core_rule.proofs.budgets.UsedWords.{used_other}
 use Rattle.core_rule.proofs.ways.WayFrames.{ObjectStays, ways_stay}
 use Rattle.core_rule.proofs.words.Addresses.{SameSpines}
 

@@ -1,14 +1,8 @@
 -- What a gather knows once the collector freed fragments, which are then counted as given up.
 use Rattle.std.proofs.Common.{◌≡◌, ℕ, ◌+◌, ◌*◌, ◌<◌, ◌≤◌, List, [], ◌∷◌, ◌++◌, length, drop, refl, arith}
-use Rattle.heap_model.specs.declared.entry.Entry.{Entry}
-use Rattle.heap_model.specs.declared.entry.Entry.TheVariants.{Frees}
-use Rattle.heap_model.specs.declared.heap.Heap.{Heap}
+use Rattle.core_rule.proofs.Terms.{Entry, Frees, Heap, total_but, tally, GathersRight, Owner, Free, dead_bit, free_bit, owner_after}
 use Rattle.heap_model.specs.account.Refusals.{given_up}
-use Rattle.heap_model.specs.account.Space.{total_but}
 use Rattle.heap_model.proofs.Histories.{total-more}
-use Rattle.core_machine.specs.table.Fragments.{tally}
-use Rattle.core_rule.specs.Gathers.{GathersRight}
-use Rattle.core_rule.specs.Owners.{Owner, Free, dead_bit, free_bit, owner_after}
 use Rattle.core_rule.proofs.counts.EffectSums.{total_but-other}
 use Rattle.core_rule.proofs.counts.FreeMoves.{passed_more}
 use Rattle.core_rule.proofs.entries.InFlight.{window_more}

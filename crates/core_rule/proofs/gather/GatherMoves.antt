@@ -1,12 +1,8 @@
 -- What a gather knows once fragments were claimed or given back.
 use Rattle.std.proofs.Common.{◌≡◌, ℕ, ◌+◌, ◌/◌, ◌%◌, ◌≤◌, List, arith}
-use Rattle.heap_model.specs.declared.entry.Entry.{Entry}
-use Rattle.heap_model.specs.declared.heap.Heap.{Heap}
+use Rattle.core_rule.proofs.Terms.{Entry, Heap, total_but, GathersRight, free_in_all, free_in_passed, free_in, Owner, free_bit}
 use Rattle.heap_model.specs.account.Refusals.{given_up}
-use Rattle.heap_model.specs.account.Space.{total_but}
 use Rattle.core_machine.proofs.table_lemmas.Free.{sum_upto-none}
-use Rattle.core_rule.specs.Gathers.{GathersRight, free_in_all, free_in_passed, free_in}
-use Rattle.core_rule.specs.Owners.{Owner, free_bit}
 use Rattle.core_rule.proofs.counts.FreeMoves.{passed_less, passed_claimed, all_same}
 
 -- a gather that has passed no group knows what it has to

@@ -1,13 +1,8 @@
 -- What gathers know once the history tells of a claim or a give back.
 use Rattle.std.proofs.Common.{◌≡◌, ◌≢◌, ℕ, ◌+◌, ◌*◌, ◌/◌, ◌%◌, ◌<◌, ◌≤◌, List, [], ◌∷◌, ◌++◌, length, drop, refl, arith}
 use Rattle.std.proofs.lemmas.Bool.{eq-eqb}
-use Rattle.heap_model.specs.declared.entry.Entry.{Entry}
+use Rattle.core_rule.proofs.Terms.{Entry, Heap, tally, AreUsed, GathersRight, Owner, Free, Taken, free_bit, owner_after}
 use Rattle.heap_model.specs.declared.entry.Entry.TheVariants as entries
-use Rattle.heap_model.specs.declared.heap.Heap.{Heap}
-use Rattle.core_machine.specs.table.Fragments.{tally}
-use Rattle.core_rule.specs.Counts.{AreUsed}
-use Rattle.core_rule.specs.Gathers.{GathersRight}
-use Rattle.core_rule.specs.Owners.{Owner, Free, Taken, free_bit, owner_after}
 use Rattle.core_rule.proofs.counts.CountMoves.{claim_frees, claim_all, give_frees, give_all}
 use Rattle.core_rule.proofs.counts.EffectSums.{given_up-takes, given_up-gives, given_up-own, total_but-own, total_but-other}
 use Rattle.core_rule.proofs.counts.FreeMoves.{passed_more}

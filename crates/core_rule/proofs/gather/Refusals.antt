@@ -2,15 +2,8 @@
 use Rattle.std.specs.List.{list_any}
 use Rattle.std.specs.Prelude.{drop}
 use Rattle.std.proofs.Common.{◌≡◌, ℕ, ◌+◌, ◌*◌, ◌<◌, false, List, arith}
-use Rattle.heap_model.specs.declared.entry.Entry.{Entry}
-use Rattle.heap_model.specs.declared.heap.Heap.{Heap}
-use Rattle.heap_model.specs.account.Effects.{effect_of}
+use Rattle.core_rule.proofs.Terms.{Entry, Heap, effect_of, taken_of, spent_of, is_reply_to, AreUsed, GathersRight, Owner}
 use Rattle.heap_model.specs.account.Refusals.{FindsSpace}
-use Rattle.heap_model.specs.account.Space.{taken_of, spent_of}
-use Rattle.heap_model.specs.account.Windows.{is_reply_to}
-use Rattle.core_rule.specs.Counts.{AreUsed}
-use Rattle.core_rule.specs.Gathers.{GathersRight}
-use Rattle.core_rule.specs.Owners.{Owner}
 use Rattle.core_rule.proofs.counts.FreeSums.{taken_and_free, passed_all}
 use Rattle.core_rule.proofs.entries.Others.{part_but}
 use Rattle.core_rule.proofs.gather.SinceCall.{since_call}

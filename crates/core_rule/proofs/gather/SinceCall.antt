@@ -2,8 +2,7 @@
 use Rattle.std.specs.List.{list_any, sum_by}
 use Rattle.std.proofs.Common.{◌≡◌, ℕ, zero, suc, ◌≤◌, Bool, true, false, cond, List, [], ◌∷◌, length, drop, refl, arith}
 use Rattle.std.proofs.lemmas.List.Sums.{sum_by-cons}
-use Rattle.heap_model.specs.declared.entry.Entry.{Entry}
-use Rattle.heap_model.specs.account.Windows.{after_last, is_reply_to, since_reply}
+use Rattle.core_rule.proofs.Terms.{Entry, after_last, is_reply_to, since_reply}
 
 sum_dropped : (f : Entry → ℕ) (n : ℕ) (history : List Entry) → sum_by f (drop n history) ≤ sum_by f history
 sum_dropped f zero history = omega arith

@@ -4,12 +4,9 @@ use Rattle.std.proofs.lemmas.Bool.{cases_eq}
 use Rattle.std.proofs.lemmas.List.{get_or-set_same, get_or-set_other, length-set}
 use Rattle.std.proofs.lemmas.Option.{slice_get_within, slice_get-get_or, get_or_from_slice_get}
 use Rattle.heap_model.specs.declared.graph.cell.Cell.{Cell}
-use Rattle.heap_model.specs.declared.id.Id.{Id}
-use Rattle.heap_model.specs.declared.id.Id.TheVariants.{Board, Made}
+use Rattle.core_rule.proofs.Terms.{Id, Board, Made, with_cell, with_object_cell, with_graph_seat, count_set, write, graph_seat, node, absent_graph_seat, Graph, Node, fresh}
 use Rattle.heap_model.specs.declared.id.Value.TheVariants as values
-use Rattle.heap_model.specs.graph.Changes.{with_cell, with_object_cell, with_graph_seat, count_set, write}
-use Rattle.heap_model.specs.graph.Objects.{graph_seat, node, absent_graph_seat}
-use Rattle.heap_model.specs.graph.Graph.{Graph, Node, GraphSeat, fresh}
+use Rattle.heap_model.specs.graph.Graph.{GraphSeat}
 use Rattle.core_rule.proofs.graph.GraphSeats.{party_is, party_apart, node_stays}
 use Rattle.core_rule.proofs.frames.SeatFrames.{SameParty, same_party}
 

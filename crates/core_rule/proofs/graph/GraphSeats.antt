@@ -2,11 +2,8 @@
 use Rattle.std.proofs.Common.{◌≡◌, ◌≢◌, ℕ, false, inl, inr, List, length, slice_get, refl, sym, ap, ◌∙◌, subst}
 use Rattle.std.proofs.lemmas.Bool.{cases_eq}
 use Rattle.std.proofs.lemmas.List.{get_or-set_same, get_or-set_other}
-use Rattle.heap_model.specs.declared.id.Id.{Id}
-use Rattle.heap_model.specs.declared.id.Id.TheVariants.{Board, Made}
-use Rattle.heap_model.specs.graph.Changes.{with_graph_seat}
-use Rattle.heap_model.specs.graph.Objects.{graph_seat, node, absent_graph_seat}
-use Rattle.heap_model.specs.graph.Graph.{Graph, Node, GraphSeat}
+use Rattle.core_rule.proofs.Terms.{Id, Board, Made, with_graph_seat, graph_seat, node, absent_graph_seat, Graph, Node}
+use Rattle.heap_model.specs.graph.Graph.{GraphSeat}
 use Rattle.core_rule.proofs.graph.GraphGrowth.{present_below}
 use Rattle.core_rule.proofs.graph.SameNodes.{SameNodes, nodes_same}
 

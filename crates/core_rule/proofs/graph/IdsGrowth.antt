@@ -1,12 +1,7 @@
 -- The ids that were made, when one more is.
 use Rattle.std.proofs.Common.{◌≡◌, ◌≢◌, ℕ, ◌+◌, ◌<◌, inl, inr, List, [], ◌∷◌, ◌++◌, length, Option, Some, None, IsSome, refl, sym, ap, ◌∙◌, subst, arith, length-append}
 use Rattle.std.proofs.lemmas.Bool.{cases_lt, false≢true}
-use Rattle.heap_model.specs.declared.id.Id.{Id}
-use Rattle.heap_model.specs.graph.Objects.{node}
-use Rattle.heap_model.specs.graph.Reach.{IsMade}
-use Rattle.heap_model.specs.graph.Graph.{Graph, Node}
-use Rattle.core_rule.specs.Book.{object_number, id_at}
-use Rattle.core_rule.specs.Objects.{FitsName, AreMade}
+use Rattle.core_rule.proofs.Terms.{Id, node, IsMade, Graph, Node, object_number, id_at, FitsName, AreMade}
 use Rattle.core_rule.proofs.graph.Numbering.{id_tells, number_of-le, id_at-number_of, number_of-append, number_of-new, id_at-append, id_at-new, slice_get-append}
 
 -- an id with no object wasn't made

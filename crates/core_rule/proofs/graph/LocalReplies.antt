@@ -1,31 +1,16 @@
 -- The replies of calls that look at no word: what they are to the graph, and that they may stand.
 use Rattle.std.proofs.Common.{◌≡◌, ℕ, ◌≤◌, Bool, true, false, List, length, set, Option, None, refl, sym, subst, arith}
-use Rattle.heap_model.specs.declared.command.Command.{Command}
+use Rattle.core_rule.proofs.Terms.{Command, Entry, Heap, Id, Value, Reply, most_kept, with_register, after_reply, made_by, graph_seat, register_value, target_node, cell_or_refusal}
+use Rattle.core_rule.proofs.Terms.{Graph, Node, Register, IsLocal, register_in, value_of, is_same_value, register_head, Owner, HoldsValue}
 use Rattle.heap_model.specs.declared.command.Command.TheVariants as commands
-use Rattle.heap_model.specs.declared.entry.Entry.{Entry}
-use Rattle.heap_model.specs.declared.heap.Heap.{Heap}
-use Rattle.heap_model.specs.declared.id.Id.{Id}
-use Rattle.heap_model.specs.declared.id.Value.{Value}
 use Rattle.heap_model.specs.declared.id.Value.TheVariants as values
-use Rattle.heap_model.specs.declared.reply.Reply.{Reply}
 use Rattle.heap_model.specs.declared.reply.Reply.TheVariants as replies
-use Rattle.heap_model.specs.account.Account.{most_kept}
-use Rattle.heap_model.specs.graph.Changes.{with_register}
 use Rattle.heap_model.specs.Command.{IsCommand}
-use Rattle.heap_model.specs.graph.Growth.{after_reply}
-use Rattle.heap_model.specs.Needs.{made_by}
-use Rattle.heap_model.specs.graph.Objects.{graph_seat, register_value, target_node, cell_or_refusal}
 use Rattle.heap_model.specs.account.Phases.{ShowsPhases}
 use Rattle.heap_model.specs.account.Refusals.{ShowsSpace, ShowsSpine}
 use Rattle.heap_model.specs.graph.Replies.{Says, Gets, Sets, Compares, length_reply}
-use Rattle.heap_model.specs.graph.Graph.{Graph, Node}
-use Rattle.core_machine.specs.declared.seat.register.Register.{Register}
 use Rattle.core_machine.specs.declared.seat.register.Register.TheVariants as registers
-use Rattle.core_machine.specs.seat.Fits.{IsLocal}
-use Rattle.core_machine.specs.seat.Registers.{register_in, value_of, is_same_value, register_head}
 use Rattle.core_machine.specs.seat.Local.{answer_of, local_reply_of, local_registers}
-use Rattle.core_rule.specs.Owners.{Owner}
-use Rattle.core_rule.specs.Registers.{HoldsValue}
 use Rattle.core_rule.proofs.graph.PutRegister.{OnlyRegisters, put_only, only_none, registers_filled}
 use Rattle.core_rule.proofs.graph.SameValues.{held_compares, holds_no_object}
 

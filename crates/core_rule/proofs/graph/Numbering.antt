@@ -1,10 +1,7 @@
 -- The numbers of ids in the order of making.
 use Rattle.std.proofs.Common.{◌≡◌, ◌≢◌, ℕ, zero, suc, ◌+◌, ◌<◌, ◌≤◌, ◌==◌, true, false, ◌⊎◌, inl, inr, List, [], ◌∷◌, ◌++◌, length, slice_get, Some, refl, ap, arith}
 use Rattle.std.proofs.lemmas.Bool.Decides.{eqb_tells}
-use Rattle.heap_model.specs.declared.id.Id.{Id}
-use Rattle.heap_model.specs.declared.id.Id.TheVariants.{Board, Made}
-use Rattle.core_machine.specs.seat.Registers.{is_same_id}
-use Rattle.core_rule.specs.Book.{object_number, id_at}
+use Rattle.core_rule.proofs.Terms.{Id, Board, Made, is_same_id, object_number, id_at}
 
 -- the test tells whether two ids are the same
 pub id_tells : (a b : Id) → ((is_same_id a b ≡ true) × (a ≡ b)) ⊎ ((is_same_id a b ≡ false) × (a ≢ b))

@@ -3,31 +3,16 @@ use Rattle.std.proofs.Common.{◌≡◌, ℕ, ◌+◌, ◌≤◌, Bool, List, le
 use Rattle.std.proofs.lemmas.Bool.{false≢true}
 use Rattle.std.proofs.lemmas.Option.{slice_get_past}
 use Rattle.heap_model.specs.declared.graph.cell.Cell.{Cell}
-use Rattle.heap_model.specs.declared.command.Command.{Command}
+use Rattle.core_rule.proofs.Terms.{Command, Entry, Said, Heap, Id, Value, Reply, KeepsSpace, most_kept, with_register, after_reply, Accepts, IsPresent, made_by, register_value}
+use Rattle.core_rule.proofs.Terms.{node, cell_or_refusal, or_no_field, taken_of, spent_of, Graph, Node, target_of, object_of, field_of, node_in}
 use Rattle.heap_model.specs.declared.command.Command.TheVariants as commands
-use Rattle.heap_model.specs.declared.entry.Entry.{Entry}
-use Rattle.heap_model.specs.declared.entry.Entry.TheVariants.{Said}
-use Rattle.heap_model.specs.declared.heap.Heap.{Heap}
-use Rattle.heap_model.specs.declared.id.Id.{Id}
-use Rattle.heap_model.specs.declared.id.Value.{Value}
 use Rattle.heap_model.specs.declared.id.Value.TheVariants.{Object}
-use Rattle.heap_model.specs.declared.reply.Reply.{Reply}
 use Rattle.heap_model.specs.declared.reply.Reply.TheVariants as replies
-use Rattle.heap_model.specs.account.Account.{KeepsSpace, most_kept}
-use Rattle.heap_model.specs.graph.Changes.{with_register}
 use Rattle.heap_model.specs.Command.{IsCommand}
-use Rattle.heap_model.specs.graph.Growth.{after_reply}
-use Rattle.heap_model.specs.graph.Legal.{Accepts, IsPresent}
-use Rattle.heap_model.specs.Needs.{made_by}
-use Rattle.heap_model.specs.graph.Objects.{register_value, node, cell_or_refusal, or_no_field}
 use Rattle.heap_model.specs.account.Phases.{ShowsPhases}
 use Rattle.heap_model.specs.account.Refusals.{ShowsSpace, ShowsSpine}
 use Rattle.heap_model.specs.graph.Replies.{length_reply}
-use Rattle.heap_model.specs.account.Space.{taken_of, spent_of}
-use Rattle.heap_model.specs.graph.Graph.{Graph, Node}
-use Rattle.core_machine.specs.seat.Commands.{target_of, object_of, field_of}
 use Rattle.core_machine.specs.seat.FitsAccess.{NamesField, IsGet}
-use Rattle.core_rule.specs.Objects.{node_in}
 use Rattle.core_rule.proofs.entries.Legality.{keeps_said}
 
 -- the command asks for a length

@@ -2,16 +2,10 @@
 use Rattle.std.proofs.Common.{◌≡◌, ◌≢◌, ℕ, ◌<◌, false, length, get_or, set, refl, ap, ◌∙◌, inl, inr, List, slice_index_or, slice_set, sym, subst}
 use Rattle.std.proofs.lemmas.Bool.{cases_eq}
 use Rattle.std.proofs.lemmas.List.{get_or-set_same, get_or-set_other}
-use Rattle.heap_model.specs.declared.id.Id.{Id}
-use Rattle.heap_model.specs.declared.id.Value.{Value}
+use Rattle.core_rule.proofs.Terms.{Id, Value, with_register, graph_seat, register_value, Graph, Register, Owner, HoldsValue}
 use Rattle.heap_model.specs.declared.id.Value.TheVariants as values
-use Rattle.heap_model.specs.graph.Changes.{with_register}
-use Rattle.heap_model.specs.graph.Objects.{graph_seat, register_value}
-use Rattle.heap_model.specs.graph.Graph.{Graph, GraphSeat}
-use Rattle.core_machine.specs.declared.seat.register.Register.{Register}
+use Rattle.heap_model.specs.graph.Graph.{GraphSeat}
 use Rattle.core_machine.specs.declared.seat.register.Register.TheVariants as registers
-use Rattle.core_rule.specs.Owners.{Owner}
-use Rattle.core_rule.specs.Registers.{HoldsValue}
 use Rattle.core_rule.proofs.graph.GraphSeats.{SeatChanges, no_change, party_is, one_changes}
 
 -- nothing of the graph changes but a seat's registers

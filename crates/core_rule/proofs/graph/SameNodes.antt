@@ -4,15 +4,8 @@ use Rattle.std.specs.Prelude.{if◌then◌else◌}
 use Rattle.std.specs.Option.{option_map_or}
 use Rattle.heap_words.specs.declared.spot.Spot.{Spot}
 use Rattle.heap_model.specs.declared.graph.cell.Cell.{Cell}
-use Rattle.heap_model.specs.declared.heap.Heap.{Heap}
-use Rattle.heap_model.specs.declared.id.Id.{Id}
-use Rattle.heap_model.specs.Needs.{record_fragments, array_fragments, array_words}
-use Rattle.heap_model.specs.graph.Objects.{node}
-use Rattle.heap_model.specs.graph.Graph.{Graph, Node}
-use Rattle.heap_model.specs.graph.Sizes.{fragments_of, spine_words_of}
-use Rattle.core_rule.specs.Book.{id_at}
-use Rattle.core_rule.specs.Objects.{AreMade, Objects, node_in, node_at, cells_at}
-use Rattle.core_rule.specs.Owners.{Owner}
+use Rattle.core_rule.proofs.Terms.{Heap, Id, record_fragments, array_fragments, array_words, node, Graph, Node, fragments_of, spine_words_of, id_at, AreMade, Objects, node_in}
+use Rattle.core_rule.proofs.Terms.{node_at, cells_at, Owner}
 
 -- an object is an array of some cells or a record of them
 pub node_cases : (P : Node → Type 0) → ((cells : List Cell) → P (record { array = true; cells = cells })) → ((cells : List Cell) → P (record { array = false; cells = cells }))

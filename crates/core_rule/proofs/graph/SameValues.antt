@@ -1,18 +1,11 @@
 -- What registers hold, and whether two of them hold the same.
 use Rattle.std.proofs.Common.{◌≡◌, ◌≢◌, ℕ, true, false, ◌⊎◌, inl, inr, List, None, refl, sym, subst}
 use Rattle.std.proofs.lemmas.Bool.Decides.{eqb_tells}
-use Rattle.heap_model.specs.declared.id.Id.{Id}
-use Rattle.heap_model.specs.declared.id.Value.{Value}
+use Rattle.core_rule.proofs.Terms.{Id, Value, target_node, Graph, Register, value_of, register_head, is_same_value, Owner, HoldsValue}
 use Rattle.heap_model.specs.declared.id.Value.TheVariants as values
-use Rattle.heap_model.specs.graph.Objects.{target_node}
 use Rattle.heap_model.specs.graph.Replies.{Compares}
-use Rattle.heap_model.specs.graph.Graph.{Graph}
-use Rattle.core_machine.specs.declared.seat.register.Register.{Register}
 use Rattle.core_machine.specs.declared.seat.register.Register.TheVariants as registers
-use Rattle.core_machine.specs.seat.Registers.{value_of, register_head, is_same_value}
 use Rattle.core_machine.specs.seat.Local.{answer_of}
-use Rattle.core_rule.specs.Owners.{Owner}
-use Rattle.core_rule.specs.Registers.{HoldsValue}
 use Rattle.core_rule.proofs.graph.Numbering.{id_tells}
 
 abbrev Tells : Value → Value → Type 0

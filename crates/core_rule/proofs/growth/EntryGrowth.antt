@@ -3,23 +3,14 @@ use Rattle.std.proofs.Common.{◌≡◌, ◌≢◌, ℕ, ◌+◌, ◌<◌, true,
 use Rattle.std.proofs.lemmas.Bool.{cases_eq}
 use Rattle.std.proofs.lemmas.List.{length-set}
 use Rattle.std.proofs.lemmas.Option.{slice_get_within, get_or_from_slice_get}
-use Rattle.heap_model.specs.declared.command.Command.{Command}
+use Rattle.core_rule.proofs.Terms.{Command, Entry, Id, Value, Reply, with_cell, count_set, write, set_stamp, Graph, Node, after_entry, after_reply, Accepts, IsPresent, graph_seat}
+use Rattle.core_rule.proofs.Terms.{register_value, node, target_node, cell_or_refusal, or_no_field, PointsTo, Points}
 use Rattle.heap_model.specs.declared.command.Command.TheVariants as commands
-use Rattle.heap_model.specs.declared.entry.Entry.{Entry}
 use Rattle.heap_model.specs.declared.entry.Entry.TheVariants as entries
 use Rattle.heap_model.specs.declared.graph.cell.Cell.{Cell}
-use Rattle.heap_model.specs.declared.id.Id.{Id}
-use Rattle.heap_model.specs.declared.id.Value.{Value}
 use Rattle.heap_model.specs.declared.id.Value.TheVariants.{Nil, Number, Object}
-use Rattle.heap_model.specs.declared.reply.Reply.{Reply}
 use Rattle.heap_model.specs.declared.reply.Reply.TheVariants as replies
 use Rattle.heap_model.specs.Limits.{stamp_limit}
-use Rattle.heap_model.specs.graph.Changes.{with_cell, count_set, write, set_stamp}
-use Rattle.heap_model.specs.graph.Graph.{Graph, Node}
-use Rattle.heap_model.specs.graph.Growth.{after_entry, after_reply}
-use Rattle.heap_model.specs.graph.Legal.{Accepts, IsPresent}
-use Rattle.heap_model.specs.graph.Objects.{graph_seat, register_value, node, target_node, cell_or_refusal, or_no_field}
-use Rattle.heap_model.specs.graph.Reach.{PointsTo, Points}
 use Rattle.heap_model.specs.graph.Replies.{Says, Gets}
 use Rattle.core_rule.proofs.growth.Growing.{CameFrom, was_held, was_read, IsSameSize, GrowsFrom}
 use Rattle.core_rule.proofs.growth.RegisterIds.{RegisterHolds}

@@ -1,12 +1,8 @@
 -- How a graph may grow: from where the ids in its registers and cells come, and that its objects stay.
 use Rattle.std.proofs.Common.{◌≡◌, ℕ, ◌⊎◌, inl, inr, length, Option, Some, None, IsSome, refl, sym, ap, ◌∙◌, subst}
 use Rattle.std.specs.Option.{option_map_or, IsSomeAnd}
-use Rattle.heap_model.specs.declared.id.Id.{Id}
+use Rattle.core_rule.proofs.Terms.{Id, Graph, Node, node, register_value, IsMade, Points, PointsTo, Reaches, from_register, from_cell, fragments_of, fragments_at}
 use Rattle.heap_model.specs.declared.id.Value.TheVariants.{Object}
-use Rattle.heap_model.specs.graph.Graph.{Graph, Node}
-use Rattle.heap_model.specs.graph.Objects.{node, register_value}
-use Rattle.heap_model.specs.graph.Reach.{IsMade, Points, PointsTo, Reaches, from_register, from_cell}
-use Rattle.heap_model.specs.graph.Sizes.{fragments_of, fragments_at}
 use Rattle.core_rule.proofs.growth.RegisterIds.{RegisterHolds, root_of, holding_register}
 
 -- an id was in a register, or in a cell of what was in one, or wasn't made yet

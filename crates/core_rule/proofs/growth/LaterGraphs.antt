@@ -1,16 +1,8 @@
 -- What stays of a graph after an entry, and after a history.
 use Rattle.std.proofs.Common.{◌≡◌, ◌⊎◌, inl, inr, List, [], ◌∷◌, ◌++◌, refl, ◌∙◌, subst}
 use Rattle.std.proofs.lemmas.List.Sums.{fold-append}
-use Rattle.heap_model.specs.account.Cycles.{graph_of}
-use Rattle.heap_model.specs.declared.entry.Entry.{Entry}
-use Rattle.heap_model.specs.declared.heap.Heap.{Heap}
-use Rattle.heap_model.specs.declared.id.Id.{Id}
-use Rattle.heap_model.specs.graph.Graph.{Graph, opening}
-use Rattle.heap_model.specs.graph.Growth.{after_entry, graph_after}
-use Rattle.heap_model.specs.graph.Legal.{Accepts, AcceptsAll, IsObjectLegal}
-use Rattle.heap_model.specs.graph.Reach.{IsMade, Reaches}
-use Rattle.heap_model.specs.graph.Sizes.{fragments_at}
-use Rattle.core_rule.specs.GraphLaws.{UnreachedStaysSo, EachObjectStays}
+use Rattle.core_rule.proofs.Terms.{graph_of, Entry, Heap, Id, Graph, opening, after_entry, graph_after, Accepts, AcceptsAll, IsObjectLegal, IsMade, Reaches, fragments_at}
+use Rattle.core_rule.specs.growth.GraphLaws.{UnreachedStaysSo, EachObjectStays}
 use Rattle.core_rule.proofs.growth.EntryGrowth.{grows_after}
 use Rattle.core_rule.proofs.growth.Growing.{reach_back, made_stays, fragments_stay}
 

@@ -4,23 +4,15 @@ use Rattle.std.specs.Prelude.{map, cond, ◌==◌}
 use Rattle.std.proofs.lemmas.Bool.{cases_lt}
 use Rattle.std.proofs.lemmas.Bool.Decides.{eqb_tells}
 use Rattle.std.proofs.lemmas.List.{get_or_past, length-map, map-append, get_or-replicate, length-replicate}
-use Rattle.heap_model.specs.account.Effects.{is_of}
-use Rattle.heap_model.specs.declared.command.Command.{Command}
+use Rattle.core_rule.proofs.Terms.{is_of, Command, Entry, Heap, Made, Value, Reply, with_register, add, count_set, Graph, Node, fresh, opening, opening_graph_seat, after_entry}
+use Rattle.core_rule.proofs.Terms.{after_reply, graph_after, graph_seat, absent_graph_seat, register_value}
 use Rattle.heap_model.specs.declared.command.Command.TheVariants as commands
-use Rattle.heap_model.specs.declared.entry.Entry.{Entry}
 use Rattle.heap_model.specs.declared.entry.Entry.TheVariants as entries
-use Rattle.heap_model.specs.declared.heap.Heap.{Heap}
-use Rattle.heap_model.specs.declared.id.Id.TheVariants.{Made}
-use Rattle.heap_model.specs.declared.id.Value.{Value}
 use Rattle.heap_model.specs.declared.id.Value.TheVariants.{Nil, Number, Object}
-use Rattle.heap_model.specs.declared.reply.Reply.{Reply}
 use Rattle.heap_model.specs.declared.reply.Reply.TheVariants as replies
-use Rattle.heap_model.specs.graph.Changes.{with_register, add, count_set}
-use Rattle.heap_model.specs.graph.Graph.{Graph, GraphSeat, Node, fresh, opening, opening_graph_seat}
-use Rattle.heap_model.specs.graph.Growth.{after_entry, after_reply, graph_after}
-use Rattle.heap_model.specs.graph.Objects.{graph_seat, absent_graph_seat, register_value}
+use Rattle.heap_model.specs.graph.Graph.{GraphSeat}
 use Rattle.core_rule.proofs.entries.Others.{of_other}
-use Rattle.core_rule.specs.OwnGraphs.{Shape, shape_of, AgreeOn, EachOwnGraphIsPart}
+use Rattle.core_rule.specs.growth.OwnGraphs.{Shape, shape_of, AgreeOn, EachOwnGraphIsPart}
 use Rattle.core_rule.proofs.growth.AgreeingGraphs.{agree_same, agree_back, agree_then, agree_with, agree_other, agree_write}
 
 module _ (number : ℕ) (one other : Graph) (agrees : AgreeOn number one other) where

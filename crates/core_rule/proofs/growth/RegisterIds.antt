@@ -3,11 +3,9 @@ use Rattle.std.proofs.Common.{◌≡◌, ◌≢◌, ℕ, inl, inr, List, length,
 use Rattle.std.proofs.lemmas.Bool.{cases_lt}
 use Rattle.std.proofs.lemmas.List.{get_or_past, get_or_default}
 use Rattle.std.proofs.lemmas.List.Elements.{Contains-get_or}
-use Rattle.heap_model.specs.declared.id.Id.{Id}
+use Rattle.core_rule.proofs.Terms.{Id, Graph, graph_seat, register_value, absent_graph_seat, IsRoot}
 use Rattle.heap_model.specs.declared.id.Value.TheVariants.{Nil, Object}
-use Rattle.heap_model.specs.graph.Graph.{Graph, GraphSeat}
-use Rattle.heap_model.specs.graph.Objects.{graph_seat, register_value, absent_graph_seat}
-use Rattle.heap_model.specs.graph.Reach.{IsRoot}
+use Rattle.heap_model.specs.graph.Graph.{GraphSeat}
 
 -- a register of some seat holds the id
 pub record RegisterHolds (g : Graph) (id : Id) : Type 0 where

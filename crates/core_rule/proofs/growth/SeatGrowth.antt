@@ -2,15 +2,11 @@
 use Rattle.std.proofs.Common.{◌≡◌, ℕ, zero, suc, ◌<◌, Bool, true, false, ◌⊎◌, inl, inr, List, ◌∷◌, length, get_or, set, replicate, Option, Some, IsSomeAnd, refl, sym, ap, ◌∙◌, subst, arith}
 use Rattle.std.proofs.lemmas.Bool.{cases_eq}
 use Rattle.std.proofs.lemmas.List.{get_or-replicate, length-replicate}
-use Rattle.heap_model.specs.declared.id.Id.{Id}
-use Rattle.heap_model.specs.declared.id.Id.TheVariants.{Made}
-use Rattle.heap_model.specs.declared.id.Value.{Value}
+use Rattle.core_rule.proofs.Terms.{Id, Made, Value, with_graph_seat, with_register, add, leave, Graph, Node, fresh, unset, graph_seat, register_value, node, IsMade, PointsTo}
+use Rattle.core_rule.proofs.Terms.{Points}
 use Rattle.heap_model.specs.declared.id.Value.TheVariants.{Nil, Object}
 use Rattle.heap_model.specs.Limits.{register_count}
-use Rattle.heap_model.specs.graph.Changes.{with_graph_seat, with_register, add, leave}
-use Rattle.heap_model.specs.graph.Graph.{Graph, GraphSeat, Node, fresh, unset}
-use Rattle.heap_model.specs.graph.Objects.{graph_seat, register_value, node}
-use Rattle.heap_model.specs.graph.Reach.{IsMade, PointsTo, Points}
+use Rattle.heap_model.specs.graph.Graph.{GraphSeat}
 use Rattle.core_rule.proofs.growth.Growing.{CameFrom, was_held, was_unmade, IsSameSize, GrowsFrom}
 use Rattle.core_rule.proofs.growth.RegisterIds.{RegisterHolds}
 use Rattle.core_rule.proofs.graph.GraphGrowth.{grown_party, node_new, node_none, node_other}

@@ -1,9 +1,6 @@
 -- The fragments of the object that a seat makes.
 use Rattle.std.proofs.Common.{◌≡◌, ℕ, ◌+◌, ◌<◌, ◌≤◌, List, [], ◌∷◌, length, refl, sym, ap, ◌∙◌, arith}
-use Rattle.core_machine.specs.table.Fragments.{tally}
-use Rattle.core_rule.specs.Book.{fragment_at}
-use Rattle.core_rule.specs.Holding.{Holding, fragments_in_hand}
-use Rattle.core_rule.specs.Owners.{Owner, bears_bit}
+use Rattle.core_rule.proofs.Terms.{tally, fragment_at, Holding, fragments_in_hand, Owner, bears_bit}
 use Rattle.core_rule.proofs.lists.Members.{tally_at}
 use Rattle.core_rule.proofs.owners.OwnerLemmas.{IsOwn, own_once}
 

@@ -6,13 +6,10 @@ use Rattle.std.proofs.lemmas.List.Elements.{All-append, All-filter, All-weaker, 
 use Rattle.std.proofs.lemmas.List.Kept.{AllPairs-filter}
 use Rattle.std.proofs.lemmas.List.Sums.{suffix_len_is}
 use Rattle.std.proofs.Math.Nat.{mod-eq_of_lt, add-mod_right}
-use Rattle.heap_model.specs.declared.heap.Heap.{Heap}
-use Rattle.core_machine.specs.seat.Fits.{AreFragments}
-use Rattle.core_machine.specs.table.Fragments.{in_group, out_of_group, part_in, part_out}
-use Rattle.core_machine.specs.seat.Making.{last_group_of, last_run, run_of, before_run, fragments_gathered, last_claimed, gather_next}
-use Rattle.core_machine.specs.seat.Seat.{Seat, need}
+use Rattle.core_rule.proofs.Terms.{Heap, AreFragments, in_group, out_of_group, part_in, part_out, last_group_of, last_run, run_of, before_run, fragments_gathered, last_claimed}
+use Rattle.core_rule.proofs.Terms.{gather_next, Seat, need}
 use Rattle.core_machine.proofs.seat_lemmas.Fitting.{goes_on_cases}
-use Rattle.core_rule.specs.Together.{claim_rank, InClaims, IsInOrder, AreTogether}
+use Rattle.core_rule.specs.hand.Together.{claim_rank, InClaims, IsInOrder, AreTogether}
 use Rattle.core_rule.proofs.hand.EmptyHand.{nothing_together}
 use Rattle.core_rule.proofs.lists.OrderedLists.{pairs_front, pairs_append, pairs_zero, pairs_all, group_last}
 

@@ -1,13 +1,8 @@
 -- What stands of a seat with nothing at hand.
 use Rattle.std.proofs.Common.{◌≡◌, ℕ, ◌<◌, List, [], refl, arith, ◌+◌, length}
 use Rattle.std.proofs.lemmas.List.Elements.{All-nil}
-use Rattle.heap_model.specs.declared.entry.Entry.{Entry}
-use Rattle.heap_model.specs.declared.heap.Heap.{Heap}
-use Rattle.core_machine.specs.seat.Seat.{Seat}
-use Rattle.core_rule.specs.Gathers.{GathersRight}
-use Rattle.core_rule.specs.Holding.{Holding, IsStored, fragments_in_hand}
-use Rattle.core_rule.specs.Owners.{Owner}
-use Rattle.core_rule.specs.Together.{AreTogether, claim_rank}
+use Rattle.core_rule.proofs.Terms.{Entry, Heap, Seat, GathersRight, Holding, IsStored, fragments_in_hand, Owner}
+use Rattle.core_rule.specs.hand.Together.{AreTogether, claim_rank}
 use Rattle.core_rule.proofs.gather.GatherMoves.{nothing_tried}
 
 -- all that is gathered stands together

@@ -2,26 +2,15 @@
 use Rattle.std.specs.Prelude.{if◌then◌else◌}
 use Rattle.std.proofs.Common.{◌≡◌, ◌∙◌, subst, ℕ, ◌+◌, ◌==◌, Bool, true, false, List, [], length, take, drop, refl, sym, ap, arith}
 use Rattle.std.proofs.lemmas.List.{length-append, take-append-drop}
-use Rattle.heap_model.specs.declared.entry.Entry.{Entry}
-use Rattle.heap_model.specs.declared.command.Command.{Command}
+use Rattle.core_rule.proofs.Terms.{Entry, Command, Heap, spine_need_of, Gathering, tally, fragments_gathered, gather_next, last_claimed, refusal_place, settled_place, MakesObject}
+use Rattle.core_rule.proofs.Terms.{IsArrayCall, Seat, need, spine_need, granted_at, placed_at, refused_at, UsedStands, GathersRight, Holding, fragments_in_hand, Owner, bears_bit}
+use Rattle.core_rule.proofs.Terms.{HasPlace}
 use Rattle.heap_model.specs.declared.command.Command.TheVariants as commands
-use Rattle.heap_model.specs.declared.heap.Heap.{Heap}
-use Rattle.heap_model.specs.Needs.{spine_need_of}
 use Rattle.core_machine.specs.declared.place.Making.{Making}
-use Rattle.core_machine.specs.declared.place.Making.TheVariants.{Gathering}
 use Rattle.core_machine.specs.declared.place.Place.TheVariants as places
-use Rattle.core_machine.specs.table.Fragments.{tally}
-use Rattle.core_machine.specs.seat.Making.{fragments_gathered, gather_next, last_claimed, refusal_place, settled_place}
-use Rattle.core_machine.specs.seat.Commands.{MakesObject, IsArrayCall}
-use Rattle.core_machine.specs.seat.Seat.{Seat, need, spine_need}
 use Rattle.core_machine.proofs.seat_lemmas.Fitting.{goes_on_cases, returning_cases, settled_cases}
-use Rattle.core_rule.specs.Budgets.{granted_at, placed_at, refused_at, UsedStands}
-use Rattle.core_rule.specs.Gathers.{GathersRight}
-use Rattle.core_rule.specs.Holding.{Holding, fragments_in_hand}
-use Rattle.core_rule.specs.Owners.{Owner, bears_bit}
-use Rattle.core_rule.specs.Spines.{HasPlace}
 use Rattle.core_rule.proofs.spines.NoPlaces.{away_range}
-use Rattle.core_rule.proofs.spines.NoneMade.{SameWeights}
+use Rattle.core_rule.proofs.budgets.NoneMade.{SameWeights}
 use Rattle.core_rule.proofs.entries.Begins.{SameData, same_data}
 use Rattle.core_rule.proofs.hand.Bodies.{whole_same}
 use Rattle.core_rule.proofs.gather.GatherMoves.{nothing_tried}

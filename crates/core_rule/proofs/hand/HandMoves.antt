@@ -1,11 +1,7 @@
 -- What a seat holds and bears once fragments were claimed, given back or born.
 use Rattle.std.proofs.Common.{◌≡◌, ◌≢◌, ℕ, ◌+◌, ◌*◌, ◌<◌, ◌≤◌, inl, inr, List, [], ◌++◌, length, refl, sym, ap, ◌∙◌, arith}
 use Rattle.std.proofs.lemmas.Bool.Decides.{leb_tells}
-use Rattle.heap_model.specs.declared.heap.Heap.{Heap}
-use Rattle.core_machine.specs.table.Fragments.{tally, part_in, part_out}
-use Rattle.core_rule.specs.ControlWords.{Bits}
-use Rattle.core_rule.specs.Holding.{Holding, fragments_in_hand}
-use Rattle.core_rule.specs.Owners.{Owner, Free, Taken, Borne, holds_bit, bears_bit, owner_after}
+use Rattle.core_rule.proofs.Terms.{Heap, tally, part_in, part_out, Bits, Holding, fragments_in_hand, Owner, Free, Taken, Borne, holds_bit, bears_bit, owner_after}
 use Rattle.core_rule.proofs.hand.Bodies.{whole_empty, whole_full}
 use Rattle.core_rule.proofs.owners.Handed.{gains, loses, stays}
 use Rattle.core_rule.proofs.owners.OwnerLemmas.{is_held, holds_once, one_owner}

@@ -1,28 +1,14 @@
 -- What is true of a seat that makes an object.
 use Rattle.std.proofs.Common.{◌≡◌, ℕ, ◌+◌, ◌-◌, ◌%◌, ◌<◌, ◌≤◌, false, List, length, refl, ◌∙◌, arith}
+use Rattle.core_rule.proofs.Terms.{cycle_phases, Command, Heap, spine_need_of, phase, MakesObject, IsArrayCall, Fits, HasBody, SpineIsListed, State, seat_at, last_group_of}
+use Rattle.core_rule.proofs.Terms.{first_group_of, newborn_word, Seat, spine_need, at, spine_place, spine_word, Book, fragment_at, IsSized, SpineOwner, Rule, SpineInHand, HasPlace}
 use Rattle.heap_words.specs.declared.name.Name.{Name}
 use Rattle.heap_words.specs.declared.spot.Spot.{Spot}
-use Rattle.heap_model.specs.declared.command.Command.{Command}
 use Rattle.heap_model.specs.declared.command.Command.TheVariants as commands
-use Rattle.heap_model.specs.declared.heap.Heap.{Heap}
-use Rattle.heap_model.specs.Needs.{spine_need_of}
-use Rattle.heap_model.specs.account.PhaseCounts.{phase}
 use Rattle.core_machine.specs.declared.place.Making.{Making}
 use Rattle.core_machine.specs.declared.place.Place.TheVariants as places
-use Rattle.core_machine.specs.seat.Commands.{MakesObject, IsArrayCall}
-use Rattle.core_machine.specs.seat.Fits.{Fits, HasBody, SpineIsListed}
-use Rattle.core_machine.specs.machine.Machine.{State, seat_at}
-use Rattle.core_machine.specs.seat.Making.{last_group_of, first_group_of, newborn_word}
 use Rattle.core_machine.specs.Moves.{bears_black_of}
-use Rattle.core_machine.specs.seat.Seat.{Seat, spine_need}
-use Rattle.core_machine.specs.table.Layout.{at, spine_place}
-use Rattle.heap_words.specs.Newborn.{spine_word}
 use Rattle.core_machine.proofs.table_lemmas.Owned.{group_within}
-use Rattle.core_rule.specs.Book.{Book, fragment_at}
-use Rattle.core_rule.specs.Objects.{IsSized}
-use Rattle.core_rule.specs.Owners.{SpineOwner}
-use Rattle.core_rule.specs.Rule.{Rule}
-use Rattle.core_rule.specs.Spines.{SpineInHand, HasPlace}
 use Rattle.core_rule.proofs.entries.AtRest.{in_flight}
 use Rattle.core_rule.proofs.colours.BirthColours.{white_early}
 use Rattle.core_rule.proofs.entries.MakingCommands.{makes_array, size_made, need_made, ranges_made}
@@ -31,7 +17,7 @@ use Rattle.core_rule.proofs.objects.ObjectsGrowth.{fresh_fragments, body_some}
 
 -- a seat that makes an object bears no black fragments at rest and in the first phase
 pub bears_late : (heap : Heap) (state : State) (book : Book) (number : ℕ) (making : Making) → Rule heap state book → number < heap.seats → (seat_at state number).place ≡ places.Making making
-    → phase book.history % 7 ≤ 1 → bears_black_of (seat_at state number) ≡ false
+    → phase book.history % cycle_phases ≤ 1 → bears_black_of (seat_at state number) ≡ false
 bears_late heap state book number making rule here place early =
     let present = in_flight rule number here (λ idle. absurd (cc (place, idle))) in
     white_early (phase book.history) (seat_at state number) ((rule.seats_stand number here).cycle.answers_told.near present) early

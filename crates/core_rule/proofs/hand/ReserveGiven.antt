@@ -1,15 +1,8 @@
 -- A reserve that is given back whole: it is of one group, and then the seat has nothing.
 use Rattle.std.specs.List.{All}
 use Rattle.std.proofs.Common.{◌≡◌, ℕ, ◌+◌, ◌/◌, ◌≤◌, ◌<◌, List, [], length, refl, sym, ap, ◌∙◌, subst, arith}
-use Rattle.heap_model.specs.declared.heap.Heap.{Heap}
-use Rattle.core_machine.specs.declared.table.address.Address.TheVariants.{Control}
-use Rattle.core_machine.specs.table.Fragments.{mask_of, tally}
-use Rattle.core_machine.specs.table.Layout.{at, put, table_length}
-use Rattle.core_machine.specs.table.Operation.{word_without_taken}
+use Rattle.core_rule.proofs.Terms.{Heap, Control, mask_of, tally, at, put, table_length, word_without_taken, Bits, Holding, Owner, Free, Taken, holds_bit, bears_bit, owner_after}
 use Rattle.core_machine.proofs.call_lemmas.Restoring.{part_all}
-use Rattle.core_rule.specs.ControlWords.{Bits}
-use Rattle.core_rule.specs.Holding.{Holding}
-use Rattle.core_rule.specs.Owners.{Owner, Free, Taken, holds_bit, bears_bit, owner_after}
 use Rattle.core_rule.proofs.words.ControlSteps.{give_back_bits}
 use Rattle.core_rule.proofs.owners.Handed.{loses, stays}
 use Rattle.core_rule.proofs.owners.OwnerLemmas.{is_held, holds_once}

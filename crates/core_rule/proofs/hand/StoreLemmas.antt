@@ -1,14 +1,7 @@
 -- What a store into a seat's new object changes, and what it leaves.
 use Rattle.std.proofs.Common.{◌≡◌, ℕ, ◌+◌, ◌*◌, ◌/◌, ◌%◌, ◌<◌, ◌≤◌, inl, inr, List, length, ap, ◌∙◌, subst, arith}
 use Rattle.std.proofs.lemmas.Bool.{cases_lt, cases_eq}
-use Rattle.heap_model.specs.declared.heap.Heap.{Heap}
-use Rattle.core_machine.specs.declared.table.address.Address.TheVariants.{Word}
-use Rattle.core_machine.specs.seat.Fits.{AreFragments}
-use Rattle.core_machine.specs.table.Fragments.{tally}
-use Rattle.core_machine.specs.table.Layout.{at, put, table_length}
-use Rattle.core_rule.specs.Book.{fragment_at}
-use Rattle.core_rule.specs.ControlWords.{Bits}
-use Rattle.core_rule.specs.Owners.{Owner}
+use Rattle.core_rule.proofs.Terms.{Heap, Word, AreFragments, tally, at, put, table_length, fragment_at, Bits, Owner}
 use Rattle.core_rule.proofs.words.Addresses.{word_same, control_after_word, fragment_other, part_other}
 use Rattle.core_rule.proofs.lists.Members.{same_place, all_at}
 

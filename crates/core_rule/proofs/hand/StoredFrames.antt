@@ -1,12 +1,6 @@
 -- The words that a seat has stored into its new object stand as before.
 use Rattle.std.proofs.Common.{ℕ, ◌*◌, ◌/◌, ◌%◌, ◌<◌, ◌≤◌, List, length, ◌∙◌, subst, arith, ◌≡◌, ◌≢◌}
-use Rattle.heap_model.specs.declared.heap.Heap.{Heap}
-use Rattle.core_machine.specs.declared.table.address.Address.TheVariants.{Word, Control}
-use Rattle.core_machine.specs.table.Layout.{put, at}
-use Rattle.core_machine.specs.seat.Seat.{Seat}
-use Rattle.core_rule.specs.Book.{fragment_at}
-use Rattle.core_rule.specs.Holding.{Holding, IsStored}
-use Rattle.core_rule.specs.Owners.{Owner, Kept}
+use Rattle.core_rule.proofs.Terms.{Heap, Word, Control, put, at, Seat, fragment_at, Holding, IsStored, Owner, Kept}
 use Rattle.core_rule.proofs.words.Addresses.{word_after_control, fragment_other}
 use Rattle.core_rule.proofs.hand.Bodies.{body_at-own}
 use Rattle.core_rule.proofs.owners.OwnerLemmas.{IsOwn, own_keeps_none}

@@ -1,10 +1,7 @@
 -- Fragments that are a seat's or a kept object's.
 use Rattle.std.proofs.Common.{◌≡◌, ◌≢◌, ℕ, ◌*◌, ◌<◌, inl, inr, List, refl, ap, ◌∙◌, subst, arith}
 use Rattle.std.proofs.lemmas.Bool.{cases_lt}
-use Rattle.heap_model.specs.declared.heap.Heap.{Heap}
-use Rattle.heap_model.specs.declared.id.Id.{Id}
-use Rattle.core_rule.specs.ControlWords.{Bits}
-use Rattle.core_rule.specs.Owners.{Owner, Free, Taken, Borne, Kept, Dead, taken_bit}
+use Rattle.core_rule.proofs.Terms.{Heap, Id, Bits, Owner, Free, Taken, Borne, Kept, Dead, taken_bit}
 use Rattle.core_rule.proofs.owners.OwnerLemmas.{IsOwn}
 use Rattle.core_rule.proofs.ways.LoadedObjects.{KeptHead}
 

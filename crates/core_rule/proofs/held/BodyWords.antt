@@ -1,20 +1,9 @@
 -- Where the sources of what a seat has borne lead: to its own new object.
 use Rattle.std.proofs.Common.{◌≡◌, ◌≢◌, ℕ, ◌*◌, ◌<◌, ◌≤◌, [], length, refl, sym, subst}
-use Rattle.heap_model.specs.declared.heap.Heap.{Heap}
-use Rattle.core_machine.specs.declared.place.Making.TheVariants.{Granting, Withdrawing, Gathering, Returning, Refusing, Placing, Listing, Storing, Bearing}
-use Rattle.core_machine.specs.declared.place.Place.{Place}
+use Rattle.core_rule.proofs.Terms.{Heap, Granting, Withdrawing, Gathering, Returning, Refusing, Placing, Listing, Bearing, Place, State, seat_at, IsArrayCall, FitsPlace, HasBody}
+use Rattle.core_rule.proofs.Terms.{SpineIsListed, newborn_word_of, Seat, tally, Book, WordPointsTo, Taken, Borne, Rule, SeatStands, HasPlace}
+use Rattle.core_machine.specs.declared.place.Making.TheVariants.{Storing}
 use Rattle.core_machine.specs.declared.place.Place.TheVariants as places
-use Rattle.core_machine.specs.machine.Machine.{State, seat_at}
-use Rattle.core_machine.specs.seat.Commands.{IsArrayCall}
-use Rattle.core_machine.specs.seat.Fits.{FitsPlace, HasBody, SpineIsListed}
-use Rattle.core_machine.specs.seat.Making.{newborn_word_of}
-use Rattle.core_machine.specs.seat.Seat.{Seat}
-use Rattle.core_machine.specs.table.Fragments.{tally}
-use Rattle.core_rule.specs.Book.{Book}
-use Rattle.core_rule.specs.Colours.{WordPointsTo}
-use Rattle.core_rule.specs.Owners.{Taken, Borne}
-use Rattle.core_rule.specs.Rule.{Rule, SeatStands}
-use Rattle.core_rule.specs.Spines.{HasPlace}
 use Rattle.core_rule.proofs.colours.BirthAhead.{body_leads}
 use Rattle.core_rule.proofs.entries.AtRest.{seat_fits}
 use Rattle.core_rule.proofs.hand.Bodies.{body_at-own}

@@ -1,14 +1,8 @@
 -- What is held is alive: so it is taken, no claim takes it, and from the end of marking to the end of the sweep it is marked.
 use Rattle.std.proofs.Common.{◌≡◌, ◌≢◌, ℕ, ◌*◌, ◌<◌, inl, inr, refl, sym, ap, ◌∙◌, arith}
-use Rattle.heap_model.specs.declared.heap.Heap.{Heap}
-use Rattle.core_machine.specs.machine.Machine.{State}
-use Rattle.core_rule.specs.Book.{Book, Colour, White, Grey, Black}
-use Rattle.core_rule.specs.Colours.{WordPointsTo, marked_bit}
-use Rattle.core_rule.specs.ControlWords.{IsBorn}
-use Rattle.core_rule.specs.Held.{IsHeld, by_seat, by_word}
-use Rattle.core_rule.specs.HeldLaws.{EachHeldIsTaken, NoClaimTakesHeld, EachHeldIsMarked}
-use Rattle.core_rule.specs.Owners.{Owner, Free, Taken, Borne, Kept, Dead, born_bit}
-use Rattle.core_rule.specs.Rule.{Rule}
+use Rattle.core_rule.proofs.Terms.{Heap, State, Book, Colour, White, Grey, Black, WordPointsTo, marked_bit, IsBorn, Owner, Free, Taken, Borne, Kept, Dead, born_bit, Rule}
+use Rattle.core_rule.specs.held.Held.{IsHeld, by_seat, by_word}
+use Rattle.core_rule.specs.held.HeldLaws.{EachHeldIsTaken, NoClaimTakesHeld, EachHeldIsMarked}
 use Rattle.core_rule.proofs.held.Alive.{IsAlive, kept_alive, head_alive, alive_not_dead, alive_taken, alive_within}
 use Rattle.core_rule.proofs.held.BodyWords.{borne_leads}
 use Rattle.core_rule.proofs.held.Holders.{holds_alive}

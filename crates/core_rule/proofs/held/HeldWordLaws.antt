@@ -1,28 +1,20 @@
 -- The laws of held spine words: no claim takes one, and a store goes to a word of its own party.
 use Rattle.std.proofs.Common.{◌≡◌, ◌≢◌, ℕ, ◌/◌, ◌<◌, ◌≤◌, inl, inr, sym, ap, ◌∙◌, subst, arith}
-use Rattle.heap_model.specs.declared.heap.Heap.{Heap}
-use Rattle.core_machine.specs.collector.FitsTurns.{FitsStage, IsCopying, FitsCopying}
+use Rattle.core_rule.proofs.Terms.{Heap, IsCopying, FitsCopying, State, seat_at, FitsPlace, Seat, tally, Book, Borne, Placed, born_bit, copy_in, Rule, HasPlace, next_spine}
+use Rattle.core_machine.specs.collector.FitsTurns.{FitsStage}
 use Rattle.core_machine.specs.declared.collector.stage.Copying.TheVariants as copying
 use Rattle.core_machine.specs.declared.collector.stage.SpineCopy.{SpineCopy}
-use Rattle.core_machine.specs.machine.Machine.{State, seat_at}
-use Rattle.core_machine.specs.seat.Fits.{FitsPlace}
-use Rattle.core_machine.specs.seat.Seat.{Seat}
-use Rattle.core_machine.specs.table.Fragments.{tally}
-use Rattle.core_rule.specs.Book.{Book}
-use Rattle.core_rule.specs.HeldLaws.{NoPlaceTakesHeld, NoCopyTakesHeld, EachStoreIsOwn, EachSpineStoreIsOwn, EachCopyStoreIsOwn, OnlyInHandOf, OnlyInCopy}
-use Rattle.core_rule.specs.HeldWords.{IsAmong, IsInHandOf, IsInCopy, IsHeldWord}
-use Rattle.core_rule.specs.Owners.{Borne, Placed, born_bit}
-use Rattle.core_rule.specs.Replicas.{copy_in}
-use Rattle.core_rule.specs.Rule.{Rule}
-use Rattle.core_rule.specs.Spines.{HasPlace, next_spine}
+use Rattle.core_rule.specs.held.HeldLaws.{NoPlaceTakesHeld, NoCopyTakesHeld, EachStoreIsOwn, EachSpineStoreIsOwn, EachCopyStoreIsOwn, OnlyInHandOf, OnlyInCopy}
+use Rattle.core_rule.specs.held.HeldWords.{IsAmong, IsInHandOf, IsInCopy, IsHeldWord}
 use Rattle.core_rule.proofs.entries.AtRest.{seat_fits}
 use Rattle.core_rule.proofs.hand.HandMoves.{hand_held}
 use Rattle.core_rule.proofs.held.Alive.{alive_within}
 use Rattle.core_rule.proofs.held.BodyWords.{bears_at_birth}
-use Rattle.core_rule.proofs.held.DueStores.{newborn_due, listing_due, copy_store_due}
+use Rattle.core_rule.proofs.held.DueStores.{newborn_due, listing_due}
 use Rattle.core_rule.proofs.held.HeldFragments.{born_owner}
 use Rattle.core_rule.proofs.held.WordOwners.{hand_word, of_held_word, loaded_word, copy_word, held_some}
 use Rattle.core_rule.proofs.lists.Members.{tally_at}
+use Rattle.core_rule.proofs.steps.collector.{turn_kind}
 use Rattle.core_rule.proofs.owners.Seated.{borne_by_seat}
 
 module _ (heap : Heap) (state : State) (book : Book) (rule : Rule heap state book) (half offset : ℕ) where
@@ -94,7 +86,7 @@ each_spine_store_is_own heap state book number half offset fragment rule here du
 
 pub each_copy_store_is_own : EachCopyStoreIsOwn
 each_copy_store_is_own heap state book half offset word rule due =
-    let at_store = copy_store_due heap state.collector state.collector.stage half offset word due in
+    let at_store = (turn_kind state.collector.stage).spines.stores heap state.collector half offset word due in
     let copy : SpineCopy = at_store.0 in
     let fits : IsCopying heap.seats state.collector.phase state.collector.looked × FitsCopying heap (copying.Storing copy word)
     = subst (FitsStage heap state.collector.phase state.collector.looked) at_store.1 rule.machine.collector_fit.at_stage in

@@ -1,27 +1,13 @@
 -- What a seat holds is alive.
 use Rattle.std.specs.Prelude.{IsSome}
 use Rattle.std.proofs.Common.{◌≡◌, ℕ, ◌<◌, ◌⊎◌, inl, inr, Some, None, refl, sym, ap, ◌∙◌, subst, arith}
-use Rattle.heap_model.specs.declared.heap.Heap.{Heap}
-use Rattle.heap_model.specs.account.Cycles.{graph_of}
-use Rattle.heap_model.specs.graph.Graph.{Graph, Node}
-use Rattle.heap_model.specs.graph.Objects.{register_value}
-use Rattle.core_machine.specs.declared.place.Place.{Place}
+use Rattle.core_rule.proofs.Terms.{Heap, Node, register_value, Place, LoadingMeta, Walking, Indexing, Getting, LoadingOld, ShadingOld, ShadingNew, Swapping, State, seat_at}
+use Rattle.core_rule.proofs.Terms.{FitsWay, register_in, Seat, head_of, tally, Book, fragment_at, object_number, object_head, Awaits, Holding, node_at, Rule, SeatStands, SetsOut}
+use Rattle.core_rule.proofs.Terms.{Finds, Locates, LoadedKept, OldKept, WayStands}
 use Rattle.core_machine.specs.declared.place.Place.TheVariants as places
 use Rattle.core_machine.specs.declared.place.Access.{Access}
-use Rattle.core_machine.specs.declared.place.Access.TheVariants.{LoadingMeta, Walking, Locating, Indexing, Getting, Naming, LoadingOld, ShadingOld, ShadingNew, Swapping}
-use Rattle.core_machine.specs.machine.Machine.{State, seat_at}
-use Rattle.core_machine.specs.seat.Fits.{FitsWay}
-use Rattle.core_machine.specs.seat.Registers.{register_in}
-use Rattle.core_machine.specs.seat.Seat.{Seat}
-use Rattle.heap_words.specs.Loaded.{head_of}
-use Rattle.core_machine.specs.table.Fragments.{tally}
-use Rattle.core_rule.specs.Book.{Book, fragment_at, object_number, object_head}
-use Rattle.core_rule.specs.Counts.{Awaits}
-use Rattle.core_rule.specs.Held.{OwnsFragment, IsInRegister, AccessHolds, CallHolds, SeatHolds}
-use Rattle.core_rule.specs.Holding.{Holding}
-use Rattle.core_rule.specs.Objects.{node_at}
-use Rattle.core_rule.specs.Rule.{Rule, SeatStands}
-use Rattle.core_rule.specs.Ways.{SetsOut, Finds, Locates, LoadedKept, OldKept, WayStands}
+use Rattle.core_machine.specs.declared.place.Access.TheVariants.{Locating, Naming}
+use Rattle.core_rule.specs.held.Held.{OwnsFragment, IsInRegister, AccessHolds, CallHolds, SeatHolds}
 use Rattle.core_rule.proofs.entries.AtRest.{seat_fits}
 use Rattle.core_rule.proofs.hand.Bodies.{body_own}
 use Rattle.core_rule.proofs.held.Alive.{IsAlive, own_alive, kept_alive, head_alive}
@@ -29,16 +15,14 @@ use Rattle.core_rule.proofs.owners.Handed.{none_or_some}
 use Rattle.core_rule.proofs.owners.OwnerLemmas.{own_once}
 use Rattle.core_rule.proofs.ways.KeptWords.{row_ahead}
 use Rattle.core_rule.proofs.ways.LoadedObjects.{refers_kept, held_refers}
+use Rattle.core_rule.proofs.graph.ToldGraph.{told_graph}
 
 module _ (heap : Heap) (state : State) (book : Book) (rule : Rule heap state book) (number : ℕ) (here : number < heap.seats) where
   abbrev seat : Seat
   seat = seat_at state number
 
-  abbrev g : Graph
-  g = graph_of heap book.history
-
   abbrev nodes : ℕ → Node
-  nodes = node_at g book.made
+  nodes = node_at (told_graph heap book) book.made
 
   stands : SeatStands heap state.words book number seat
   stands = rule.seats_stand number here
@@ -59,7 +43,7 @@ module _ (heap : Heap) (state : State) (book : Book) (rule : Rule heap state boo
   register_alive : (f : ℕ) → IsInRegister seat f → AliveNow f
   register_alive f held =
       head_alive book.made book.owner book.fragments f
-      (refers_kept book.made book.owner book.fragments (register_value g number held.register) f (held_refers book.made book.owner book.fragments (register_in seat.registers held.register) (register_value g number held.register) (stands.names.registers held.register held.counts) f held.holds))
+      (refers_kept book.made book.owner book.fragments (register_value (told_graph heap book) number held.register) f (held_refers book.made book.owner book.fragments (register_in seat.registers held.register) (register_value (told_graph heap book) number held.register) (stands.names.registers held.register held.counts) f held.holds))
 
   -- what its call has reached
   start_alive : SetsOut book.made book.owner book.fragments seat → AliveNow seat.reached
@@ -71,7 +55,7 @@ module _ (heap : Heap) (state : State) (book : Book) (rule : Rule heap state boo
   reached_alive : Finds nodes book.made book.owner book.fragments seat → AliveNow seat.reached
   reached_alive finds =
       let heap_stands = rule.heap_stands in
-      let ahead = row_ahead heap state.words g book.made book.owner book.fragments rule.machine.limits heap_stands.control_words heap_stands.ids heap_stands.objects seat finds in
+      let ahead = row_ahead heap state.words (told_graph heap book) book.made book.owner book.fragments rule.machine.limits heap_stands.control_words heap_stands.ids heap_stands.objects seat finds in
       kept_alive (book.owner seat.reached) finds.index finds.row (ap book.owner finds.way.here ∙ (heap_stands.objects.kept finds.index finds.way.below finds.way.kept).owned finds.row (omega (arith, ahead)))
 
   -- and loaded
@@ -86,7 +70,7 @@ module _ (heap : Heap) (state : State) (book : Book) (rule : Rule heap state boo
   nothing_loaded : seat.loaded ≡ 0 → (f : ℕ) → head_of seat.loaded ≡ Some f → AliveNow f
   nothing_loaded none f is = let nowhere : head_of seat.loaded ≡ None = rw none refl in absurd (cc (nowhere, is))
 
-  named_alive : (f : ℕ) → Awaits g book.made book.owner book.fragments number seat (places.Access Naming) stands.told.list.awaited → head_of seat.loaded ≡ Some f → AliveNow f
+  named_alive : (f : ℕ) → Awaits (told_graph heap book) book.made book.owner book.fragments number seat (places.Access Naming) stands.told.list.awaited → head_of seat.loaded ≡ Some f → AliveNow f
   named_alive f awaits is =
       let same : f ≡ object_head book.made book.fragments awaits.id = cc (is, awaits.loads) in
       kept_alive (book.owner f) (object_number book.made awaits.id) 0 (ap book.owner same ∙ awaits.kept.1)
@@ -96,7 +80,7 @@ module _ (heap : Heap) (state : State) (book : Book) (rule : Rule heap state boo
   either f reached loaded (inr is) = loaded f is
 
   access_alive : (f : ℕ) (place : Access) → FitsWay seat (places.Access place) → WayStands nodes book.made book.owner book.fragments seat (places.Access place)
-      → Awaits g book.made book.owner book.fragments number seat (places.Access place) stands.told.list.awaited → AccessHolds seat place f → AliveNow f
+      → Awaits (told_graph heap book) book.made book.owner book.fragments number seat (places.Access place) stands.told.list.awaited → AccessHolds seat place f → AliveNow f
   access_alive f LoadingMeta fits way awaits holds = either f (start_alive way) (nothing_loaded fits.none_loaded) holds
   access_alive f Walking fits way awaits holds = either f (reached_alive way) (nothing_loaded fits.none_loaded) holds
   access_alive f Locating fits way awaits holds = either f (sentinel_alive way) (nothing_loaded fits.none_loaded) holds
@@ -109,7 +93,7 @@ module _ (heap : Heap) (state : State) (book : Book) (rule : Rule heap state boo
   access_alive f Swapping fits way awaits holds = either f (reached_alive way.0) (old_alive way.1) holds
 
   call_alive : (f : ℕ) (place : Place) → FitsWay seat place → WayStands nodes book.made book.owner book.fragments seat place
-      → Awaits g book.made book.owner book.fragments number seat place stands.told.list.awaited → CallHolds seat place f → AliveNow f
+      → Awaits (told_graph heap book) book.made book.owner book.fragments number seat place stands.told.list.awaited → CallHolds seat place f → AliveNow f
   call_alive f (places.Access place) fits way awaits holds = access_alive f place fits way awaits holds
   call_alive f _ fits way awaits holds = absurd holds
 

@@ -3,31 +3,13 @@ use Rattle.std.proofs.Common.{◌≡◌, ◌≢◌, ℕ, zero, suc, ◌+◌, ◌
 use Rattle.std.specs.Prelude.{if◌then◌else◌}
 use Rattle.heap_words.specs.declared.name.Name.{Name}
 use Rattle.heap_words.specs.declared.spot.Spot.{Spot}
-use Rattle.heap_words.specs.Spot.{spot_in, spot_word}
+use Rattle.core_rule.proofs.Terms.{spot_in, spot_word, spine_need_of, graph_of, Command, Heap, Graph, Node, spine_words_of, Word, State, seat_at, IsArrayCall, MakesObject}
+use Rattle.core_rule.proofs.Terms.{newborn_word, newborn_word_of, next_name, Seat, spine_need, spine_words_in, at, array_meta, array_word_of, Book, fragment_at, IsKept, node_at}
+use Rattle.core_rule.proofs.Terms.{Owner, Free, Taken, Borne, Kept, Dead, SpineOwner, Open, Placed, Spined, Gone, born_bit, ReadsSpine, Rule, IsWordOf, HasPlace}
 use Rattle.heap_model.specs.Command.{IsCommand}
-use Rattle.heap_model.specs.Needs.{spine_need_of}
-use Rattle.heap_model.specs.account.Cycles.{graph_of}
-use Rattle.heap_model.specs.declared.command.Command.{Command}
 use Rattle.heap_model.specs.declared.command.Command.TheVariants as commands
-use Rattle.heap_model.specs.declared.heap.Heap.{Heap}
-use Rattle.heap_model.specs.graph.Graph.{Graph, Node}
-use Rattle.heap_model.specs.graph.Sizes.{spine_words_of}
 use Rattle.core_machine.specs.declared.collector.stage.SpineCopy.{SpineCopy}
-use Rattle.core_machine.specs.declared.table.address.Address.TheVariants.{Word}
-use Rattle.core_machine.specs.machine.Machine.{State, seat_at}
-use Rattle.core_machine.specs.seat.Commands.{IsArrayCall, MakesObject}
-use Rattle.core_machine.specs.seat.Making.{newborn_word, newborn_word_of, next_name}
-use Rattle.core_machine.specs.seat.Seat.{Seat, spine_need}
-use Rattle.core_machine.specs.table.Decode.{spine_words_in}
-use Rattle.core_machine.specs.table.Layout.{at}
-use Rattle.heap_words.specs.Newborn.{array_meta, array_word_of}
-use Rattle.core_rule.specs.Book.{Book, fragment_at}
-use Rattle.core_rule.specs.HeldWords.{IsAmong, IsInHandOf, IsLoadedBy, IsInCopy, IsOfHeld, IsHeldWord}
-use Rattle.core_rule.specs.Objects.{IsKept, node_at}
-use Rattle.core_rule.specs.Owners.{Owner, Free, Taken, Borne, Kept, Dead, SpineOwner, Open, Placed, Spined, Gone, born_bit}
-use Rattle.core_rule.specs.Replicas.{ReadsSpine}
-use Rattle.core_rule.specs.Rule.{Rule}
-use Rattle.core_rule.specs.Spines.{IsWordOf, HasPlace}
+use Rattle.core_rule.specs.held.HeldWords.{IsAmong, IsInHandOf, IsLoadedBy, IsInCopy, IsOfHeld, IsHeldWord}
 use Rattle.core_rule.proofs.colours.NoSpines.{newborn_no_spine}
 use Rattle.core_rule.proofs.entries.AtRest.{seat_fits}
 use Rattle.core_rule.proofs.held.Alive.{IsAlive}
@@ -38,7 +20,7 @@ use Rattle.core_rule.proofs.marking.ObjectEdges.{kept_tells}
 use Rattle.core_rule.proofs.objects.LastBirth.{all_stored}
 use Rattle.core_rule.proofs.objects.SpinePlaces.{spine_placed}
 use Rattle.core_rule.proofs.owners.Seated.{borne_by_seat}
-use Rattle.core_rule.proofs.spines.DeadWords.{none_behind}
+use Rattle.core_rule.proofs.dying.DeadWords.{none_behind}
 use Rattle.core_rule.proofs.ways.ArrayWords.{words_in-meta, spot_in-word}
 use Rattle.core_rule.proofs.ways.KeptWords.{spine_found, record_no_words}
 use Rattle.core_rule.proofs.ways.LoadedPlaces.{loaded_there, loaded_way, called_head}

@@ -3,7 +3,7 @@ use Rattle.std.proofs.Common.{◌≡◌, ℕ, zero, suc, ◌+◌, ◌<◌, ◌�
 use Rattle.std.proofs.lemmas.Bool.{cases_lt}
 use Rattle.std.proofs.lemmas.Bool.Decides.{eqb_tells}
 use Rattle.std.proofs.lemmas.List.Elements.{All-head, All-tail}
-use Rattle.core_machine.specs.table.Fragments.{tally}
+use Rattle.core_rule.proofs.Terms.{tally}
 use Rattle.core_rule.proofs.lists.Tallies.{one_at_same, one_at_other}
 
 -- the place of a number's first occurrence in a list; its length where it has none

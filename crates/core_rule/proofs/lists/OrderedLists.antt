@@ -5,8 +5,7 @@ use Rattle.std.proofs.lemmas.Grind.{get_or_default_zero}
 use Rattle.std.proofs.lemmas.List.{get_or_append_left, length-append}
 use Rattle.std.proofs.lemmas.List.Elements.{All-append, All-weaker, All-head, All-tail}
 use Rattle.std.proofs.lemmas.List.Kept.{AllPairs-cons}
-use Rattle.core_machine.specs.table.Fragments.{part_in, part_out, tally}
-use Rattle.core_rule.specs.Book.{fragment_at}
+use Rattle.core_rule.proofs.Terms.{part_in, part_out, tally, fragment_at}
 use Rattle.core_rule.proofs.lists.Members.{tally_at, place_of, place_within, same_place}
 use Rattle.core_rule.proofs.lists.Parts.{not_there}
 

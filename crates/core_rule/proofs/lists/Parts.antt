@@ -4,12 +4,9 @@ use Rattle.std.proofs.Common.{◌≡◌, ◌≢◌, ℕ, zero, suc, ◌+◌, ◌
 use Rattle.std.proofs.lemmas.Bool.{false≢true, true≢false, eq-eqb}
 use Rattle.std.proofs.lemmas.Bool.Decides.{eqb_tells}
 use Rattle.std.proofs.lemmas.List.Filters.{length-filter_both}
-use Rattle.core_machine.specs.table.Fragments.{in_group, out_of_group, part_in, part_out, tally}
-use Rattle.core_machine.specs.seat.Making.{first_group_of}
-use Rattle.core_machine.specs.machine.Sums.{sum_upto}
+use Rattle.core_rule.proofs.Terms.{in_group, out_of_group, part_in, part_out, tally, first_group_of, sum_upto, one_at}
 use Rattle.core_machine.proofs.table_lemmas.Bits.{bool_tells}
 use Rattle.core_machine.proofs.table_lemmas.Free.{sum_zero}
-use Rattle.core_rule.specs.Owners.{one_at}
 use Rattle.core_rule.proofs.lists.SumLemmas.{sum_parts}
 use Rattle.core_rule.proofs.lists.Tallies.{one_at_same, one_at_other, sum_tally}
 

@@ -1,6 +1,6 @@
 -- Sums over all numbers below one.
 use Rattle.std.proofs.Common.{◌≡◌, ℕ, zero, suc, ◌+◌, ◌*◌, ◌<◌, ◌≤◌, ◌-◌, ◌%◌, refl, ap, subst, arith}
-use Rattle.core_machine.specs.machine.Sums.{sum_upto}
+use Rattle.core_rule.proofs.Terms.{sum_upto}
 use Rattle.core_machine.proofs.table_lemmas.Free.{sum_same, sum_upto-none}
 
 -- a sum of one more

@@ -1,10 +1,8 @@
 -- How often a number stands in a list.
 use Rattle.std.proofs.Common.{◌≡◌, ◌≢◌, ℕ, zero, suc, ◌+◌, ◌<◌, ◌≤◌, inl, inr, List, [], ◌∷◌, ◌++◌, length, take, drop, refl, arith}
 use Rattle.std.proofs.lemmas.Bool.Decides.{eqb_tells}
-use Rattle.core_machine.specs.table.Fragments.{tally}
-use Rattle.core_machine.specs.machine.Sums.{sum_upto}
+use Rattle.core_rule.proofs.Terms.{tally, sum_upto, one_at}
 use Rattle.core_machine.proofs.table_lemmas.Free.{sum_zero}
-use Rattle.core_rule.specs.Owners.{one_at}
 use Rattle.core_rule.proofs.lists.SumLemmas.{sum-suc, sum_plus}
 
 -- whether two numbers are the same, as a number

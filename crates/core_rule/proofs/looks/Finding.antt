@@ -3,24 +3,16 @@ use Rattle.std.specs.Prelude.{if◌then◌else◌}
 use Rattle.std.proofs.Common.{◌≡◌, ◌≢◌, ℕ, suc, ◌+◌, ◌<◌, inl, inr, false, List, [], Option, Some, None, IfSome, refl, sym, ◌∙◌, subst, arith}
 use Rattle.std.proofs.lemmas.Bool.Decides.{leb_tells}
 use Rattle.std.proofs.lemmas.List.{append-nil}
-use Rattle.heap_model.specs.declared.entry.Entry.{Entry}
-use Rattle.heap_model.specs.declared.heap.Heap.{Heap}
-use Rattle.heap_model.specs.account.PhaseCounts.{phase, last_answer, has_left}
+use Rattle.core_rule.proofs.Terms.{Entry, Heap, phase, last_answer, has_left, since_reply, is_reply_to, Place, State, at, Book, Rule}
 use Rattle.heap_model.specs.account.Phases.{IsBehind, WasBehind}
-use Rattle.heap_model.specs.account.Windows.{since_reply, is_reply_to}
 use Rattle.heap_model.proofs.account_lemmas.Windows.{parts, all_since}
 use Rattle.core_machine.specs.declared.place.Access.TheVariants.{Naming}
 use Rattle.core_machine.specs.declared.place.Collecting.TheVariants.{Asking, Comparing}
-use Rattle.core_machine.specs.declared.place.Place.{Place}
 use Rattle.core_machine.specs.declared.place.Place.TheVariants as places
 use Rattle.core_machine.specs.declared.table.address.Address.TheVariants.{Answer, Phase}
-use Rattle.core_machine.specs.machine.Machine.{State}
 use Rattle.core_machine.specs.declared.seat.looks.Looks.{Looks}
 use Rattle.core_machine.specs.seat.Looks.{first_of, looked, seen_phase, compared, found_behind}
-use Rattle.core_machine.specs.table.Layout.{at}
-use Rattle.core_rule.specs.Book.{Book}
-use Rattle.core_rule.specs.Looks.{WasSeen, WasFound, IsOther, HasCompared, LooksStand}
-use Rattle.core_rule.specs.Rule.{Rule}
+use Rattle.core_rule.specs.looks.Looks.{WasSeen, WasFound, IsOther, HasCompared, LooksStand}
 use Rattle.core_rule.proofs.looks.Words.{word_below}
 
 module _ (heap : Heap) (state : State) (book : Book) (rule : Rule heap state book) (number : ℕ) where

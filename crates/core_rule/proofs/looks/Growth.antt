@@ -2,23 +2,19 @@
 use Rattle.std.specs.List.{list_any}
 use Rattle.std.proofs.Common.{◌≡◌, ◌≢◌, ◌||◌, ℕ, ◌+◌, ◌≤◌, Bool, true, false, List, [], ◌∷◌, ◌++◌, refl, sym, ap, ◌∙◌, subst, arith, append_assoc}
 use Rattle.std.proofs.lemmas.List.{append-nil}
-use Rattle.heap_model.specs.declared.entry.Entry.{Entry}
-use Rattle.heap_model.specs.declared.heap.Heap.{Heap}
-use Rattle.heap_model.specs.account.PhaseCounts.{phase, last_answer}
+use Rattle.core_rule.proofs.Terms.{Entry, Heap, phase, last_answer, up_to_last, after_last, up_to_reply, since_reply, is_reply_to, Place}
 use Rattle.heap_model.specs.account.Phases.{IsBehind, WasBehind}
-use Rattle.heap_model.specs.account.Windows.{up_to_last, after_last, up_to_reply, since_reply, is_reply_to}
 use Rattle.heap_model.proofs.account_lemmas.Windows.{up_to_last-no, after_last-no}
 use Rattle.core_machine.specs.declared.place.Access.TheVariants.{Naming}
 use Rattle.core_machine.specs.declared.place.Collecting.{Collecting}
 use Rattle.core_machine.specs.declared.place.Collecting.TheVariants.{Looking, Asking, Comparing, Noting}
-use Rattle.core_machine.specs.declared.place.Place.{Place}
 use Rattle.core_machine.specs.declared.place.Place.TheVariants as places
 use Rattle.core_machine.specs.declared.seat.looks.Looks.{Looks}
 use Rattle.core_machine.specs.declared.seat.looks.FoundBehind.{FoundBehind}
 use Rattle.core_machine.specs.seat.Looks.{forgotten}
-use Rattle.core_rule.specs.Looks.{WasSeen, WasFound, HasCompared, CollectingStands, WhileCollecting, LooksStand}
+use Rattle.core_rule.specs.looks.Looks.{WasSeen, WasFound, HasCompared, CollectingStands, WhileCollecting, LooksStand}
 use Rattle.core_rule.proofs.entries.PhaseEntries.{answers_grow, was_present}
-use Rattle.core_rule.proofs.footprint.WeightGrowth.{total-added}
+use Rattle.core_rule.proofs.kept.WeightGrowth.{total-added}
 use Rattle.core_rule.proofs.lists.Options.{if_some}
 
 -- none of the entries passes the test

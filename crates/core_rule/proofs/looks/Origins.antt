@@ -1,32 +1,18 @@
 -- A seat comes to the shade of an old value by the load of it alone, and to the taking back of spine words by their grant alone.
 use Rattle.std.proofs.Common.{◌≡◌, ℕ, ◌+◌, ◌*◌, ◌==◌, ◌++◌, Bool, true, false, if◌then◌else◌, List, length, Option, Some, None, refl, sym, subst}
-use Rattle.heap_model.specs.declared.command.Command.{Command}
+use Rattle.core_rule.proofs.Terms.{Command, Heap, Reply, Walking, LoadingOld, ShadingOld, Swapping, Granting, Withdrawing, Bearing, Place, Register, after_begin, source_of}
+use Rattle.core_rule.proofs.Terms.{has_barrier_of, field_place_of, way_place_of, after_link, after_walk, at_access, with_field_place, after_length, after_meta, after_get}
+use Rattle.core_rule.proofs.Terms.{new_place_of, after_old, after_old_load, access_start, gather_next, next_group_of, after_claim, after_budget, store_place, array_length_of}
+use Rattle.core_rule.proofs.Terms.{clear_in, register_in, register_head, Seat}
 use Rattle.heap_model.specs.declared.calls.collect.Inner.{Inner}
 use Rattle.heap_model.specs.declared.calls.collect.Inner.TheVariants as inners
 use Rattle.core_machine.specs.seat.Collecting.{inner_place}
 use Rattle.heap_model.specs.declared.command.Command.TheVariants as commands
-use Rattle.heap_model.specs.declared.heap.Heap.{Heap}
-use Rattle.heap_model.specs.declared.reply.Reply.{Reply}
-use Rattle.core_machine.specs.declared.place.Access.TheVariants.{LoadingMeta, Walking, Locating, Indexing, Getting, Naming, LoadingOld, ShadingOld, ShadingNew, Swapping}
-use Rattle.core_machine.specs.declared.place.Leaving.TheVariants.{Emptying, Parting}
-use Rattle.core_machine.specs.declared.place.Making.TheVariants.{Granting, Withdrawing, Gathering, Returning, Refusing, Placing, Listing, Storing, Bearing}
-use Rattle.core_machine.specs.declared.place.Place.{Place}
+use Rattle.core_machine.specs.declared.place.Making.TheVariants.{Storing}
 use Rattle.core_machine.specs.declared.place.Place.TheVariants as places
-use Rattle.core_machine.specs.declared.place.Collecting.TheVariants.{Looking, Asking, Comparing, Noting}
-use Rattle.core_machine.specs.declared.place.Polling.TheVariants as polling
-use Rattle.core_machine.specs.declared.seat.register.Register.{Register}
 use Rattle.core_machine.specs.declared.seat.register.Register.TheVariants as registers
-use Rattle.core_machine.specs.machine.Machine.{after_begin}
-use Rattle.core_machine.specs.Moves.{move_at, is_last_birth, last_birth_move, birth_move, seat_after_due, seat_after}
-use Rattle.core_machine.specs.seat.Commands.{source_of}
-use Rattle.core_machine.specs.seat.Access.{has_barrier_of, field_place_of, way_place_of, after_link, after_walk, at_access, with_field_place, after_length, after_meta, at_payload, after_index, meta_reply_of, after_get, new_place_of, after_old, after_old_load, access_start}
 use Rattle.core_machine.specs.seat.Handshake.{answer_next, after_phase_load, polling_over}
-use Rattle.core_machine.specs.seat.Making.{gather_next, next_group_of, after_claim, after_budget, after_give_back, after_listing, store_place, after_store}
-use Rattle.heap_words.specs.Loaded.{head_of, array_length_of}
-use Rattle.core_machine.specs.table.Fragments.{clear_in}
-use Rattle.core_machine.specs.seat.Registers.{register_in, register_head}
-use Rattle.core_machine.specs.seat.Seat.{Seat, with_seen, spine_need}
-use Rattle.core_machine.proofs.seat_lemmas.Fitting.{goes_on_cases, settled_cases, returning_cases, budget_cases, listing_cases}
+use Rattle.core_machine.proofs.seat_lemmas.Fitting.{goes_on_cases, settled_cases, returning_cases, budget_cases}
 use Rattle.core_rule.proofs.entries.PhasesTold.{over_cases}
 
 -- the place is neither that of the shade nor that of the taking back
@@ -41,7 +27,7 @@ ComesFrom place (places.Access ShadingOld) = place ≡ places.Access LoadingOld
 ComesFrom place (places.Making Withdrawing) = place ≡ places.Making Granting
 ComesFrom place _ = Unit {0}
 
-from_usual : (place next : Place) → IsUsual next → ComesFrom place next
+pub from_usual : (place next : Place) → IsUsual next → ComesFrom place next
 from_usual place (places.Access ShadingOld) usual = absurd usual
 from_usual place (places.Making Withdrawing) usual = absurd usual
 from_usual place _ usual = tt
@@ -50,10 +36,10 @@ gather_usual : (heap : Heap) (seat : Seat) → IsUsual (gather_next heap seat).p
 gather_usual heap seat = goes_on_cases (λ s. IsUsual s.place) heap seat (λ enough. settled_cases (λ place. IsUsual (places.Making place)) seat.command (λ array. tt) (λ other. tt)) (λ few more. tt)
     (λ few all. returning_cases (λ place. IsUsual (places.Making place)) seat.hand (λ none. tt) (λ some. tt))
 
-claim_usual : (heap : Heap) (seat : Seat) (found : ℕ) → IsUsual (after_claim heap seat found).place
+pub claim_usual : (heap : Heap) (seat : Seat) (found : ℕ) → IsUsual (after_claim heap seat found).place
 claim_usual heap seat found = gather_usual heap (record seat { hand = seat.hand ++ clear_in (next_group_of heap seat) found; tried = seat.tried + 1 })
 
-field_usual : (seat : Seat) (command : Command) → IsUsual (places.Access (field_place_of seat command))
+pub field_usual : (seat : Seat) (command : Command) → IsUsual (places.Access (field_place_of seat command))
 field_usual seat (commands.Set r i v) = by (has_barrier_of seat)
   where
     by : (b : Bool) → IsUsual (places.Access (if b then LoadingOld else Swapping))
@@ -68,7 +54,7 @@ way_usual seat = by (seat.links == 0)
     by true = field_usual seat seat.command
     by false = tt
 
-walk_usual : (seat : Seat) (found : ℕ) → IsUsual (after_walk seat found).place
+pub walk_usual : (seat : Seat) (found : ℕ) → IsUsual (after_walk seat found).place
 walk_usual seat found = by (seat.links == 0)
   where
     by : (b : Bool) → IsUsual (if b then at_access seat (way_place_of seat) else at_access (after_link seat found) (way_place_of (after_link seat found))).place
@@ -79,29 +65,29 @@ length_usual : (seat : Seat) (found : ℕ) (length : Option ℕ) → IsUsual (af
 length_usual seat found None = walk_usual (with_field_place seat) found
 length_usual seat found (Some cells) = tt
 
-meta_usual : (seat : Seat) (found : ℕ) (reply : Option Reply) → IsUsual (after_meta seat found reply).place
+pub meta_usual : (seat : Seat) (found : ℕ) (reply : Option Reply) → IsUsual (after_meta seat found reply).place
 meta_usual seat found None = length_usual seat found (array_length_of found)
 meta_usual seat found (Some reply) = tt
 
-get_usual : (seat : Seat) (found : ℕ) (head : Option ℕ) → IsUsual (after_get seat found head).place
+pub get_usual : (seat : Seat) (found : ℕ) (head : Option ℕ) → IsUsual (after_get seat found head).place
 get_usual seat found None = tt
 get_usual seat found (Some head) = tt
 
-new_usual : (head : Option ℕ) → IsUsual (places.Access (new_place_of head))
+pub new_usual : (head : Option ℕ) → IsUsual (places.Access (new_place_of head))
 new_usual None = tt
 new_usual (Some head) = tt
 
-over_usual : (command : Command) (seat : Seat) → IsUsual (polling_over command seat).place
+pub over_usual : (command : Command) (seat : Seat) → IsUsual (polling_over command seat).place
 over_usual command seat = over_cases (λ (s : Seat). IsUsual s.place) command seat tt tt
 
-phase_usual : (seat : Seat) (found : ℕ) → IsUsual (after_phase_load seat found).place
+pub phase_usual : (seat : Seat) (found : ℕ) → IsUsual (after_phase_load seat found).place
 phase_usual seat found = by (found == seat.answered)
   where
     by : (b : Bool) → IsUsual (if b then polling_over seat.command seat else answer_next (record seat { asked = found })).place
     by true = over_usual seat.command seat
     by false = tt
 
-store_usual : (stored : ℕ) (body : List ℕ) → IsUsual (places.Making (store_place stored body))
+pub store_usual : (stored : ℕ) (body : List ℕ) → IsUsual (places.Making (store_place stored body))
 store_usual stored body = by (stored == 4 * length body)
   where
     by : (b : Bool) → IsUsual (places.Making (if b then Bearing else Storing))
@@ -109,55 +95,13 @@ store_usual stored body = by (stored == 4 * length body)
     by false = tt
 
 -- to these two places lead the grant and the load
-from_grant : (heap : Heap) (seat : Seat) (found : ℕ) → ComesFrom (places.Making Granting) (after_budget heap seat found).place
+pub from_grant : (heap : Heap) (seat : Seat) (found : ℕ) → ComesFrom (places.Making Granting) (after_budget heap seat found).place
 from_grant heap seat found =
     budget_cases (λ s. ComesFrom (places.Making Granting) s.place) heap seat found (λ many. refl) (λ few. from_usual (places.Making Granting) (gather_next heap seat).place (gather_usual heap seat))
 
-from_load : (seat : Seat) (head : Option ℕ) → ComesFrom (places.Access LoadingOld) (after_old_load seat head).place
+pub from_load : (seat : Seat) (head : Option ℕ) → ComesFrom (places.Access LoadingOld) (after_old_load seat head).place
 from_load seat None = from_usual (places.Access LoadingOld) (after_old seat).place (new_usual (register_head (register_in seat.registers (source_of seat.command))))
 from_load seat (Some head) = refl
-
--- and no other step
-pub comes_from : (heap : Heap) (number : ℕ) (seat : Seat) (found : ℕ) (place : Place) → seat.place ≡ place → ComesFrom place (seat_after_due seat (move_at heap number seat place) found).place
-comes_from heap number seat found places.Idle placed = subst (ComesFrom places.Idle) (sym placed) tt
-comes_from heap number seat found (places.Making Granting) placed = from_grant heap seat found
-comes_from heap number seat found (places.Making Withdrawing) placed = tt
-comes_from heap number seat found (places.Making Gathering) placed = from_usual _ (after_claim heap seat found).place (claim_usual heap seat found)
-comes_from heap number seat found (places.Making Returning) placed =
-    from_usual _ (after_give_back seat).place (returning_cases (λ place. IsUsual (places.Making place)) (after_give_back seat).hand (λ none. tt) (λ some. tt))
-comes_from heap number seat found (places.Making Refusing) placed = tt
-comes_from heap number seat found (places.Making Placing) placed = tt
-comes_from heap number seat found (places.Making Listing) placed =
-    from_usual _ (after_listing seat).place (listing_cases (λ place. IsUsual (places.Making place)) (seat.listed + 1) (spine_need seat) (λ more. tt) (λ all. tt))
-comes_from heap number seat found (places.Making Storing) placed = from_usual _ (after_store seat).place (store_usual (seat.stored + 1) seat.body)
-comes_from heap number seat found (places.Making Bearing) placed = by (is_last_birth seat)
-  where
-    by : (last : Bool) → ComesFrom (places.Making Bearing) (seat_after (if last then last_birth_move number seat else birth_move seat) found).place
-    by true = tt
-    by false = subst (ComesFrom (places.Making Bearing)) (sym placed) tt
-comes_from heap number seat found places.Local placed = tt
-comes_from heap number seat found (places.Access LoadingMeta) placed =
-    from_usual _ (after_meta seat found (meta_reply_of seat.command found)).place (meta_usual seat found (meta_reply_of seat.command found))
-comes_from heap number seat found (places.Access Walking) placed = from_usual _ (after_walk seat found).place (walk_usual seat found)
-comes_from heap number seat found (places.Access Locating) placed = tt
-comes_from heap number seat found (places.Access Indexing) placed = from_usual _ (after_index seat found).place (field_usual (at_payload seat found) seat.command)
-comes_from heap number seat found (places.Access Getting) placed = from_usual _ (after_get seat found (head_of found)).place (get_usual seat found (head_of found))
-comes_from heap number seat found (places.Access Naming) placed = tt
-comes_from heap number seat found (places.Access LoadingOld) placed = from_load (record seat { loaded = found }) (head_of found)
-comes_from heap number seat found (places.Access ShadingOld) placed =
-    from_usual _ (after_old seat).place (new_usual (register_head (register_in seat.registers (source_of seat.command))))
-comes_from heap number seat found (places.Access ShadingNew) placed = tt
-comes_from heap number seat found (places.Access Swapping) placed = tt
-comes_from heap number seat found (places.Polling polling.Asking) placed = from_usual _ (after_phase_load (with_seen found seat) found).place (phase_usual (with_seen found seat) found)
-comes_from heap number seat found (places.Polling polling.Shading) placed = tt
-comes_from heap number seat found (places.Polling polling.Answering) placed =
-    from_usual _ (polling_over seat.command (record seat { answered = seat.asked })).place (over_usual seat.command (record seat { answered = seat.asked }))
-comes_from heap number seat found (places.Collecting Looking) placed = tt
-comes_from heap number seat found (places.Collecting (Asking other)) placed = tt
-comes_from heap number seat found (places.Collecting (Comparing other p)) placed = tt
-comes_from heap number seat found (places.Collecting (Noting reply)) placed = tt
-comes_from heap number seat found (places.Leaving Emptying) placed = tt
-comes_from heap number seat found (places.Leaving Parting) placed = tt
 
 -- the taking back comes with what was found at the grant
 pub grant_finds : (heap : Heap) (seat : Seat) (found : ℕ) → (after_budget heap seat found).place ≡ places.Making Withdrawing → (after_budget heap seat found).used ≡ found

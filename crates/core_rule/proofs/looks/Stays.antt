@@ -1,54 +1,40 @@
 -- What the seats have found stands after each event.
-use Rattle.std.proofs.Common.{◌≡◌, ◌≢◌, ℕ, ◌<◌, List, [], ◌++◌, Option, Some, None, length, slice_set, slice_index_or, inl, inr, refl, sym, subst}
+use Rattle.std.specs.List.{AllByRecursion}
+use Rattle.std.proofs.Common.{◌≡◌, ◌≢◌, ℕ, ◌<◌, true, false, List, [], ◌∷◌, ◌++◌, Option, Some, None, length, slice_set, slice_index_or, inl, inr, refl, sym, subst}
 use Rattle.std.proofs.lemmas.Bool.Decides.{eqb_tells}
 use Rattle.std.proofs.lemmas.List.{append-nil, get_or-set_same, get_or-set_other}
 use Rattle.heap_model.specs.declared.calls.collect.Inner.{Inner}
 use Rattle.heap_model.specs.declared.calls.collect.Inner.TheVariants as inners
-use Rattle.heap_model.specs.declared.command.Command.{Command}
-use Rattle.heap_model.specs.declared.entry.Entry.{Entry}
-use Rattle.heap_model.specs.declared.heap.Heap.{Heap}
-use Rattle.heap_model.specs.account.Windows.{is_reply_to}
-use Rattle.core_machine.specs.collector.Collector.{Collector, turn_at}
-use Rattle.core_machine.specs.declared.collector.stage.Stage.{Stage}
-use Rattle.core_machine.specs.declared.collector.stage.Copying.TheVariants as copying
-use Rattle.core_machine.specs.declared.collector.stage.Stage.TheVariants as stages
+use Rattle.core_rule.proofs.Terms.{Command, Entry, Said, Heap, is_reply_to, turn_at, Stage, Place, State, seat_at, Begins, BeginsInner, Steps, state_after, state_after_due}
+use Rattle.core_rule.proofs.Terms.{state_after_turn, entries, entries_shown, after_begin, after_inner_begin, MayBegin, MayBeginInner, Move, move_at, Seat, absent_seat, Book, Rule}
+use Rattle.heap_model.specs.account.Noting.{is_collectors}
 use Rattle.core_machine.specs.declared.place.Collecting.TheVariants.{Comparing}
-use Rattle.core_machine.specs.declared.place.Place.{Place}
 use Rattle.core_machine.specs.declared.place.Place.TheVariants as places
-use Rattle.core_machine.specs.machine.Machine.{State, seat_at, Begins, BeginsInner, Steps, state_after, state_after_due, state_after_turn, entries, entries_shown, after_begin, after_inner_begin, MayBegin, MayBeginInner}
-use Rattle.core_machine.specs.Moves.{Move, move_at}
 use Rattle.core_machine.specs.seat.Collecting.{inner_place}
 use Rattle.core_machine.specs.declared.seat.looks.Looks.{Looks}
 use Rattle.core_machine.specs.seat.Looks.{MayMake}
-use Rattle.core_machine.specs.seat.Seat.{Seat, absent_seat}
-use Rattle.core_rule.specs.Book.{Book}
-use Rattle.core_rule.specs.Looks.{LooksStand, AllLooksStand, CollectingStands, WhileCollecting}
-use Rattle.core_rule.specs.Rule.{Rule}
+use Rattle.core_rule.specs.looks.Looks.{LooksStand, AllLooksStand, CollectingStands, WhileCollecting}
 use Rattle.core_rule.proofs.looks.Growth.{NoneOf, looks_on, looks_elsewhere}
-use Rattle.core_rule.proofs.looks.Moves.{GoesBy, NoneToOthers, goes_at}
+use Rattle.core_rule.proofs.looks.Moves.{GoesBy, NoneToOthers}
+use Rattle.core_rule.proofs.entries.TurnShapes.{shape_collects}
+use Rattle.core_rule.proofs.steps.collector.{turn_kind}
+use Rattle.core_rule.proofs.steps.Seats.{step_kind}
 use Rattle.core_rule.proofs.looks.Ways.{begin_stays}
 
--- a turn of the collector tells no seat a reply
-none_turned : (heap : Heap) (collector : Collector) (stage : Stage) (r : ℕ) → NoneOf (is_reply_to r) (turn_at heap collector stage).adds
-none_turned heap collector stages.Advancing r = refl
-none_turned heap collector (stages.Freeing group dead words) r = refl
-none_turned heap collector (stages.Returning group words) r = refl
-none_turned heap collector (stages.Copying (copying.Visiting group)) r = refl
-none_turned heap collector (stages.Copying (copying.Inspecting visit)) r = refl
-none_turned heap collector (stages.Copying (copying.Naming visit words)) r = refl
-none_turned heap collector (stages.Copying (copying.Locating array)) r = refl
-none_turned heap collector (stages.Copying (copying.Claiming array from)) r = refl
-none_turned heap collector (stages.Copying (copying.Loading copy)) r = refl
-none_turned heap collector (stages.Copying (copying.Storing copy word)) r = refl
-none_turned heap collector (stages.Copying (copying.Swinging copy)) r = refl
-none_turned heap collector (stages.Ending kept) r = refl
-none_turned heap collector _ r = refl
+-- what the collector adds tells no seat a reply
+none_turned : (r : ℕ) (added : List Entry) → AllByRecursion (λ entry. is_collectors entry ≡ true) added → NoneOf (is_reply_to r) added
+none_turned r [] its = refl
+none_turned r (entry ∷ added) its = rw (by entry its.0) (none_turned r added its.1)
+  where
+    by : (one : Entry) → is_collectors one ≡ true → is_reply_to r one ≡ false
+    by (Said number command reply) its = absurd (cc its)
+    by _ its = refl
 
 pub turn_looks : (heap : Heap) (state : State) (before now : List Entry) (stage : Stage) → AllLooksStand heap state before → now ≡ before ++ (turn_at heap state.collector stage).adds
     → AllLooksStand heap (state_after_turn heap state (turn_at heap state.collector stage)) now
 turn_looks heap state before now stage looks grown r below =
     subst (λ es. LooksStand heap es r (seat_at state r).place (seat_at state r).looks) (sym grown)
-    (looks_on heap r before (turn_at heap state.collector stage).adds (none_turned heap state.collector stage r) (seat_at state r).place (seat_at state r).looks (looks r below))
+    (looks_on heap r before (turn_at heap state.collector stage).adds (none_turned r (turn_at heap state.collector stage).adds (shape_collects heap state.collector 0 stage ((turn_kind stage).shape heap state.collector 0))) (seat_at state r).place (seat_at state r).looks (looks r below))
 
 module _ (heap : Heap) (state : State) (number : ℕ) (here : number < length state.seats) where
   abbrev IsRight : List Entry → Seat → ℕ → Type 0
@@ -72,7 +58,7 @@ step_looks heap state book now number rule here looks grown =
   where
     by : (place : Place) → (seat_at state number).place ≡ place
         → AllLooksStand heap (state_after_due heap state number (move_at heap number (seat_at state number) place)) (book.history ++ entries_shown heap state (move_at heap number (seat_at state number) place))
-    by place placed = moves (move_at heap number (seat_at state number) place) (goes_at heap state book rule number place placed)
+    by place placed = moves (move_at heap number (seat_at state number) place) ((step_kind place).looks.goes heap state book rule number placed)
       where
         moves : (move : Option Move) → GoesBy heap state book rule number move → AllLooksStand heap (state_after_due heap state number move) (book.history ++ entries_shown heap state move)
         moves None goes = subst (AllLooksStand heap state) (sym (append-nil book.history)) looks

@@ -1,20 +1,12 @@
 -- What a seat has found it keeps on its ways, and as a call begins.
 use Rattle.std.specs.Prelude.{if◌then◌else◌, Option, Some, None}
 use Rattle.std.proofs.Common.{◌≡◌, ◌==◌, ◌++◌, ℕ, ◌+◌, Bool, true, false, refl, sym, subst}
-use Rattle.heap_model.specs.declared.command.Command.{Command}
+use Rattle.core_rule.proofs.Terms.{Command, Heap, Place, Register, after_begin, way_place_of, after_link, after_walk, with_field_place, after_length, at_access, access_start}
+use Rattle.core_rule.proofs.Terms.{gather_next, next_group_of, after_claim, after_budget, register_in, Seat, clear_in}
 use Rattle.heap_model.specs.declared.command.Command.TheVariants as commands
-use Rattle.heap_model.specs.declared.heap.Heap.{Heap}
 use Rattle.core_machine.specs.declared.place.Collecting.TheVariants.{Noting}
-use Rattle.core_machine.specs.declared.place.Place.{Place}
 use Rattle.core_machine.specs.declared.place.Place.TheVariants as places
-use Rattle.core_machine.specs.declared.seat.register.Register.{Register}
 use Rattle.core_machine.specs.declared.seat.register.Register.TheVariants as registers
-use Rattle.core_machine.specs.machine.Machine.{after_begin}
-use Rattle.core_machine.specs.seat.Access.{way_place_of, after_link, after_walk, with_field_place, after_length, at_access, access_start}
-use Rattle.core_machine.specs.seat.Making.{gather_next, next_group_of, after_claim, after_budget}
-use Rattle.core_machine.specs.seat.Registers.{register_in}
-use Rattle.core_machine.specs.seat.Seat.{Seat}
-use Rattle.core_machine.specs.table.Fragments.{clear_in}
 use Rattle.core_machine.proofs.seat_lemmas.Fitting.{goes_on_cases, budget_cases}
 use Rattle.core_rule.proofs.looks.Growth.{IsElsewhere}
 

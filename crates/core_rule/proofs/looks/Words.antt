@@ -1,14 +1,8 @@
 -- What another seat's word tells where it is below the phase.
 use Rattle.std.proofs.Common.{◌≡◌, ℕ, ◌<◌, Bool, true, false, sym, ap, ◌∙◌, refl, arith}
 use Rattle.heap_words.specs.declared.phase.TheConstants.{LEFT}
-use Rattle.heap_model.specs.declared.heap.Heap.{Heap}
-use Rattle.heap_model.specs.account.PhaseCounts.{phase, last_answer, has_left}
+use Rattle.core_rule.proofs.Terms.{Heap, phase, last_answer, has_left, State, seat_at, at, Book, answer_word, Rule}
 use Rattle.core_machine.specs.declared.table.address.Address.TheVariants.{Answer}
-use Rattle.core_machine.specs.machine.Machine.{State, seat_at}
-use Rattle.core_machine.specs.table.Layout.{at}
-use Rattle.core_rule.specs.Book.{Book}
-use Rattle.core_rule.specs.Phases.{answer_word}
-use Rattle.core_rule.specs.Rule.{Rule}
 
 -- the seat hasn't left, and this is its last answer
 pub word_below : (heap : Heap) (state : State) (book : Book) → Rule heap state book → (other : ℕ) → other < heap.seats → (word : ℕ) → at heap state.words (Answer other) ≡ word

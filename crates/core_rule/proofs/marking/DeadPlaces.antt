@@ -2,17 +2,9 @@
 use Rattle.std.specs.Int.{bit_at}
 use Rattle.std.proofs.Common.{◌≡◌, ℕ, ◌+◌, ◌*◌, ◌/◌, ◌%◌, ◌<◌, List, length, refl, sym, ap, ◌∙◌, arith}
 use Rattle.std.proofs.lemmas.Nat.Bits.{bit_at-lt}
-use Rattle.heap_model.specs.declared.heap.Heap.{Heap}
+use Rattle.core_rule.proofs.Terms.{Heap, Control, at, table_length, Colour, White, Grey, Black, Marks, marked_bit, Bits, AfterMarking, AreDead, Owner, born_bit, dead_bit}
 use Rattle.core_machine.specs.collector.Sweeping.{dead_bits_of}
-use Rattle.core_machine.specs.declared.table.address.Address.TheVariants.{Control}
-use Rattle.core_machine.specs.table.Layout.{at, table_length}
 use Rattle.core_machine.proofs.table_lemmas.DeadBits.{dead_tells}
-use Rattle.core_rule.specs.Book.{Colour, White, Grey, Black}
-use Rattle.core_rule.specs.Colours.{Marks, marked_bit}
-use Rattle.core_rule.specs.ControlWords.{Bits}
-use Rattle.core_rule.specs.Marking.{AfterMarking}
-use Rattle.core_rule.specs.Sweep.{AreDead}
-use Rattle.core_rule.specs.Owners.{Owner, born_bit, dead_bit}
 use Rattle.core_rule.proofs.colours.MarkWords.{found_marked}
 use Rattle.core_rule.proofs.owners.OwnerLemmas.{dead_once, is_dead, bits_same}
 use Rattle.core_rule.proofs.words.ControlLemmas.{found_born}

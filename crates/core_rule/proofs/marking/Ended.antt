@@ -1,15 +1,8 @@
 -- Where the marking phase's last pass has found nothing grey: all that marking came to is marked, and so is what that leads to.
 use Rattle.std.proofs.Common.{◌≡◌, ◌≢◌, ℕ, ◌<◌, ◌%◌, List, length, inl, inr, arith}
-use Rattle.heap_model.specs.declared.heap.Heap.{Heap}
-use Rattle.heap_model.specs.account.Cycles.{graph_of}
-use Rattle.heap_model.specs.account.PhaseCounts.{phase}
-use Rattle.core_machine.specs.machine.Machine.{State}
-use Rattle.core_rule.specs.Book.{Book, Colour, Grey, Black, fragment_at}
-use Rattle.core_rule.specs.Colours.{IsMarked, WordPointsTo}
-use Rattle.core_rule.specs.Objects.{IsKept}
-use Rattle.core_rule.specs.Owners.{Owner, Kept}
-use Rattle.core_rule.specs.Paths.{from_grey, from_white, IsGuarded, IsReached}
-use Rattle.core_rule.specs.Rule.{Rule}
+use Rattle.core_rule.proofs.Terms.{cycle_phases, Heap, graph_of, phase, State, Book, Colour, Grey, Black, fragment_at, IsMarked, WordPointsTo, IsKept, Owner, Kept, from_grey}
+use Rattle.core_rule.proofs.Terms.{from_white, IsGuarded, IsReached, Rule}
+use Rattle.heap_model.specs.PhasePlan.{marking as marking_phase}
 use Rattle.core_rule.proofs.marking.Paths.{grey_or_black}
 use Rattle.core_rule.proofs.ways.Chains.{parts_follow}
 use Rattle.core_rule.proofs.objects.SpinePlaces.{spine_placed}
@@ -24,7 +17,7 @@ module _ (heap : Heap) (words : List ℕ) (owner : ℕ → Owner) (colour : ℕ 
   reached_marked f (inl marked) = marked
   reached_marked f (inr path) = absurd (nothing_guarded f path)
 
-module _ (heap : Heap) (state : State) (book : Book) (rule : Rule heap state book) (third : phase book.history % 7 ≡ 3) (none : (f : ℕ) → book.colour f ≢ Grey) where
+module _ (heap : Heap) (state : State) (book : Book) (rule : Rule heap state book) (third : phase book.history % cycle_phases ≡ marking_phase) (none : (f : ℕ) → book.colour f ≢ Grey) where
   -- what is marked is black
   is_black : (f : ℕ) → IsMarked book.colour f → book.colour f ≡ Black
   is_black f marked = elim (grey_or_black book.colour f marked) as (λ _. book.colour f ≡ Black) [

@@ -2,15 +2,10 @@
 use Rattle.std.specs.Int.{bit_at}
 use Rattle.std.proofs.Common.{◌≡◌, ◌≢◌, ℕ, ◌+◌, ◌*◌, ◌/◌, ◌%◌, ◌==◌, ◌<◌, ◌≤◌, if◌then◌else◌, Bool, true, false, List, length, Some, None, inl, inr, refl, sym, ap, ◌∙◌, arith}
 use Rattle.std.proofs.lemmas.Bool.Decides.{eqb_tells}
-use Rattle.heap_words.specs.Control.{is_grey, lowest_grey_of}
-use Rattle.heap_model.specs.declared.heap.Heap.{Heap}
+use Rattle.core_rule.proofs.Terms.{is_grey, marked_at, scanned_at, Heap, Control, at, table_length, Colour, White, Grey, Black, Marks, marked_bit, scanned_bit, IsSeen, PassStands}
+use Rattle.heap_words.specs.Control.{lowest_grey_of}
 use Rattle.core_machine.specs.declared.collector.stage.Stage.TheVariants as stages
-use Rattle.core_machine.specs.declared.table.address.Address.TheVariants.{Control}
-use Rattle.core_machine.specs.table.Layout.{at, table_length}
 use Rattle.core_machine.proofs.table_lemmas.Grey.{grey_within, grey_found, grey_none}
-use Rattle.core_rule.specs.Book.{Colour, White, Grey, Black}
-use Rattle.core_rule.specs.Colours.{Marks, marked_bit, scanned_bit}
-use Rattle.core_rule.specs.Marking.{IsSeen, PassStands}
 use Rattle.core_rule.proofs.colours.MarkWords.{found_marked, found_scanned}
 
 -- a fragment that is marked and not scanned is grey
@@ -37,13 +32,13 @@ module _ (heap : Heap) (words : List ℕ) (colour : ℕ → Colour) (group : ℕ
   -- the word's grey places are those of grey fragments
   grey_there : (f : ℕ) → f / 16 ≡ group → is_grey word f ≡ true → colour f ≡ Grey
   grey_there f here is =
-      let bits = bits_of_grey (bit_at word (32 + f % 16)) (bit_at word (48 + f % 16)) is in
+      let bits = bits_of_grey (bit_at word (marked_at f)) (bit_at word (scanned_at f)) is in
       grey_by_bits (colour f) (sym (found_marked heap words colour colour group 0 whole below marks f here) ∙ bits.0) (sym (found_scanned heap words colour colour group 0 whole below marks f here) ∙ bits.1)
 
   grey_told : (f : ℕ) → f / 16 ≡ group → colour f ≡ Grey → is_grey word f ≡ true
   grey_told f here grey =
-      let marked : bit_at word (32 + f % 16) ≡ 1 = found_marked heap words colour colour group 0 whole below marks f here ∙ ap marked_bit grey in
-      let scanned : bit_at word (48 + f % 16) ≡ 0 = found_scanned heap words colour colour group 0 whole below marks f here ∙ ap scanned_bit grey in
+      let marked : bit_at word (marked_at f) ≡ 1 = found_marked heap words colour colour group 0 whole below marks f here ∙ ap marked_bit grey in
+      let scanned : bit_at word (scanned_at f) ≡ 0 = found_scanned heap words colour colour group 0 whole below marks f here ∙ ap scanned_bit grey in
       rw (marked, scanned) refl
 
   -- the lowest one is

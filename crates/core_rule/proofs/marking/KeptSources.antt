@@ -1,19 +1,7 @@
 -- The sources of kept objects are the same where their fragments' words are, and those of their spines.
 use Rattle.std.proofs.Common.{◌≡◌, ℕ, suc, zero, ◌*◌, ◌<◌, ◌≤◌, Bool, true, false, List, length, sym, ap, ◌∙◌, subst, arith, refl}
 use Rattle.heap_words.specs.declared.spot.Spot.{Spot}
-use Rattle.heap_words.specs.Spot.{spot_in}
-use Rattle.heap_model.specs.declared.heap.Heap.{Heap}
-use Rattle.heap_model.specs.account.Cycles.{graph_of}
-use Rattle.heap_model.specs.graph.Graph.{Node}
-use Rattle.heap_model.specs.graph.Sizes.{spine_words_of}
-use Rattle.core_machine.specs.declared.table.address.Address.TheVariants.{Word}
-use Rattle.core_machine.specs.machine.Machine.{State}
-use Rattle.core_machine.specs.table.Decode.{spine_words_in}
-use Rattle.core_machine.specs.table.Layout.{at, spine_place}
-use Rattle.core_rule.specs.Book.{Book, fragment_at}
-use Rattle.core_rule.specs.Objects.{IsKept, node_at}
-use Rattle.core_rule.specs.Owners.{Kept}
-use Rattle.core_rule.specs.Rule.{Rule}
+use Rattle.core_rule.proofs.Terms.{spot_in, Heap, graph_of, Node, spine_words_of, Word, State, spine_words_in, at, spine_place, Book, fragment_at, IsKept, node_at, Kept, Rule}
 use Rattle.core_rule.proofs.colours.LeadsFrames.{SameSources}
 use Rattle.core_rule.proofs.colours.SourceCases.{TellsNoSpine}
 use Rattle.core_rule.proofs.marking.ObjectEdges.{kept_no_spine}

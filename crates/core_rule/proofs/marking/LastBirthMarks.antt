@@ -1,21 +1,10 @@
 -- An object is born and kept: what that leaves of marking, which comes to its first fragment.
 use Rattle.std.proofs.Common.{◌≡◌, ℕ, ◌<◌, ◌≤◌, ◌%◌, true, false, List, [], ◌∷◌, ◌++◌, length, inl, ap, ◌∙◌, arith, ◌*◌}
-use Rattle.heap_model.specs.declared.heap.Heap.{Heap}
-use Rattle.core_machine.specs.declared.place.Making.TheVariants.{Bearing}
+use Rattle.core_rule.proofs.Terms.{cycle_phases, Heap, Bearing, State, seat_at, made_entry, is_last_birth, last_birth_move, target_of, last_group_of, next_object_id, register_in}
+use Rattle.core_rule.proofs.Terms.{register_head, Seat, HasBody, SpineIsListed, tally, part_in, Book, Black, fragment_at, IsMarked, born_bit, IsReached, Rule}
+use Rattle.heap_model.specs.PhasePlan.{marking as marking_phase}
 use Rattle.core_machine.specs.declared.place.Place.TheVariants as places
-use Rattle.core_machine.specs.machine.Machine.{State, seat_at}
-use Rattle.core_machine.specs.Moves.{bears_black_of, made_entry, seat_after, is_last_birth, last_birth_move}
-use Rattle.core_machine.specs.seat.Commands.{target_of}
-use Rattle.core_machine.specs.seat.Making.{last_group_of, next_object_id}
-use Rattle.core_machine.specs.seat.Registers.{register_in, register_head}
-use Rattle.core_machine.specs.seat.Seat.{Seat}
-use Rattle.core_machine.specs.seat.Fits.{HasBody, SpineIsListed}
-use Rattle.core_machine.specs.table.Fragments.{tally, part_in}
-use Rattle.core_rule.specs.Book.{Book, Black, fragment_at}
-use Rattle.core_rule.specs.Colours.{IsMarked}
-use Rattle.core_rule.specs.Owners.{born_bit}
-use Rattle.core_rule.specs.Paths.{IsReached}
-use Rattle.core_rule.specs.Rule.{Rule}
+use Rattle.core_machine.specs.Moves.{bears_black_of, seat_after}
 use Rattle.core_rule.proofs.colours.BirthColours.{painted}
 use Rattle.core_rule.proofs.colours.Births.{AreBorne, birth_colour, births_are}
 use Rattle.core_rule.proofs.colours.LastColours.{kept_bears, body_coloured}
@@ -23,7 +12,7 @@ use Rattle.core_rule.proofs.cycle.BirthCycle.{words_born, group_born, some_born}
 use Rattle.core_rule.proofs.entries.AtRest.{seat_fits, in_flight}
 use Rattle.core_rule.proofs.marking.MakingMarks.{leaves_kept, dark_now, pale_now}
 use Rattle.core_rule.proofs.marking.Marks.{MarksGoOn, Leaves, heap_marks_on, comes_on}
-use Rattle.core_rule.proofs.marking.RegisterRoots.{heads_put}
+use Rattle.core_rule.proofs.roots.RegisterRoots.{heads_put}
 use Rattle.core_rule.proofs.entries.MakingCommands.{ranges_made}
 use Rattle.core_rule.proofs.hand.Bodies.{body_own}
 use Rattle.core_rule.proofs.hand.HandMoves.{part_held}
@@ -81,7 +70,7 @@ module _ (heap : Heap) (state : State) (book : Book) (number : ℕ) (rule : Rule
       (λ f i k keeps. old_apart book.made i (rule.heap_stands.objects.back f i k keeps).0)
 
   -- its first fragment is black then
-  head_marked : state.collector.phase % 7 ≡ 3 → IsMarked now.colour (fragment_at seat.body 0)
+  head_marked : state.collector.phase % cycle_phases ≡ marking_phase → IsMarked now.colour (fragment_at seat.body 0)
   head_marked third white =
       let black : now.colour (fragment_at seat.body 0) ≡ birth_colour (bears_black_of seat)
       = body_coloured book.owner book.colour number seat.reserve seat.hand seat.body (rule.seats_stand number here).own.holding (some_born heap state book number rule here place)

@@ -1,19 +1,10 @@
 -- What the making of an object leaves of marking: fragments that no object has come and go, and are born black while it goes on.
 use Rattle.std.proofs.Common.{◌⊎◌, ◌≡◌, ◌≢◌, ℕ, ◌*◌, ◌+◌, ◌%◌, ◌<◌, ◌≤◌, Bool, true, false, List, inl, inr, refl, ap, ◌∙◌, subst, arith}
-use Rattle.heap_model.specs.declared.heap.Heap.{Heap}
-use Rattle.heap_model.specs.account.PhaseCounts.{phase}
-use Rattle.core_machine.specs.declared.table.address.Address.TheVariants.{Control, Word}
-use Rattle.core_machine.specs.machine.Machine.{State, seat_at}
+use Rattle.core_rule.proofs.Terms.{cycle_phases, Heap, phase, Control, Word, State, seat_at, Seat, tally, put, Book, Grey, Black, White, IsBetween, Owner, Kept, Dead, born_bit}
+use Rattle.core_rule.proofs.Terms.{owner_after, IsNear, Rule}
+use Rattle.heap_model.specs.PhasePlan.{clearing as clearing_phase}
 use Rattle.core_machine.specs.Moves.{bears_black_of}
-use Rattle.core_machine.specs.seat.Seat.{Seat}
-use Rattle.core_machine.specs.table.Fragments.{tally}
-use Rattle.core_machine.specs.table.Layout.{put}
-use Rattle.core_rule.specs.Book.{Book, Grey, Black, White}
-use Rattle.core_rule.specs.Colours.{IsBetween}
-use Rattle.core_rule.specs.Owners.{Owner, Kept, Dead, born_bit, owner_after}
-use Rattle.core_rule.specs.Phases.{IsNear}
-use Rattle.core_rule.specs.Roots.{IsInMarking}
-use Rattle.core_rule.specs.Rule.{Rule}
+use Rattle.core_rule.specs.roots.Roots.{IsInMarking}
 use Rattle.core_rule.proofs.colours.BirthColours.{painted, painted_in, painted_cases}
 use Rattle.core_rule.proofs.colours.Births.{birth_colour}
 use Rattle.core_rule.proofs.colours.LeadsFrames.{SameSources, same_beside, leads_same, same_leads, leads_control, control_leads, same_ahead}
@@ -45,7 +36,7 @@ black_now phase seat between near = window_black seat (elim near [
 ])
 
 -- once a seat has answered the last phase they are white
-pub white_then : (seat : Seat) → seat.answered % 7 ≡ 6 → bears_black_of seat ≡ false
+pub white_then : (seat : Seat) → seat.answered % cycle_phases ≡ clearing_phase → bears_black_of seat ≡ false
 white_then seat last = by (bears_black_of seat) refl
   where
     by : (black : Bool) → bears_black_of seat ≡ black → black ≡ false
@@ -77,7 +68,7 @@ module _ (heap : Heap) (state : State) (book : Book) (rule : Rule heap state boo
 
   -- and white once all have answered the last phase
   pub pale_now : (number : ℕ) (here : number < heap.seats) → (seat_at state number).left ≡ false → clears → bears_black_of (seat_at state number) ≡ false
-  pale_now number here present clear = white_then (seat_at state number) (ap (λ p. p % 7) (all_answered heap state book rule clear.all number here present) ∙ clear.last)
+  pale_now number here present clear = white_then (seat_at state number) (ap (λ p. p % cycle_phases) (all_answered heap state book rule clear.all number here present) ∙ clear.last)
 
   module _ (g n : ℕ) (below : g < heap.groups) (o : Owner) (fs : List ℕ) (unborn : (f : ℕ) → 1 ≤ tally f fs → born_bit (book.owner f) ≡ 0) (undead : (i k : ℕ) → o ≢ Dead i k) where
     abbrev later : ℕ → Owner

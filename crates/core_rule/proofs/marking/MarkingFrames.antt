@@ -1,18 +1,11 @@
 -- What a step leaves of marking that marks no fragment of an object.
 use Rattle.std.proofs.Common.{◌⊎◌, ◌≡◌, ◌≢◌, ℕ, ◌<◌, ◌≤◌, List, Option, Some, false, inl, inr, sym, ap, ◌∙◌, subst, arith, ◌*◌, ◌+◌}
-use Rattle.heap_model.specs.declared.heap.Heap.{Heap}
-use Rattle.heap_words.specs.Spot.{spot_in}
+use Rattle.core_rule.proofs.Terms.{Heap, spot_in, Stage, Colour, White, Grey, Black, fragment_at, IsMarked, WordPointsTo, DeletionBarrier, IsPart, MayMark, IsSeen, IsSeenWhole}
+use Rattle.core_rule.proofs.Terms.{IsSpineOf, ComesAfter, ScanStands, PassStands, AfterMarking, MarkingStands, IsSettled, AreFreed, AreDead, AreCleared, SweepStands, Owner, Kept}
+use Rattle.core_rule.proofs.Terms.{Dead, born_bit, dead_bit, IsWhite, Edge, IsReached}
 use Rattle.core_machine.specs.declared.collector.stage.SpineScan.{SpineScan}
-use Rattle.core_machine.specs.declared.collector.stage.Stage.{Stage}
 use Rattle.core_machine.specs.declared.collector.stage.Stage.TheVariants as stages
-use Rattle.core_rule.specs.Book.{Colour, White, Grey, Black, fragment_at}
-use Rattle.core_rule.specs.Colours.{IsMarked, WordPointsTo}
-use Rattle.core_rule.specs.Flight.{DeletionBarrier}
-use Rattle.core_rule.specs.Marking.{IsPart, MayMark, IsSeen, IsSeenWhole, IsSpineOf, ComesAfter, ScanStands, PassStands, AfterMarking, MarkingStands}
-use Rattle.core_rule.specs.Sources.{TellsNoSpine}
-use Rattle.core_rule.specs.Sweep.{IsSettled, AreFreed, AreDead, AreCleared, SweepStands}
-use Rattle.core_rule.specs.Owners.{Owner, Kept, Dead, born_bit, dead_bit}
-use Rattle.core_rule.specs.Paths.{IsWhite, Edge, IsReached}
+use Rattle.core_rule.specs.marking.Sources.{TellsNoSpine}
 use Rattle.core_rule.proofs.colours.SpineStays.{SpineStays}
 use Rattle.core_rule.proofs.marking.Paths.{path_stays}
 use Rattle.core_rule.proofs.owners.OwnerLemmas.{born_once, dead_once, is_dead, bits_same}

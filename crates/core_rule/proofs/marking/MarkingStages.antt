@@ -1,8 +1,7 @@
 -- The stages at which the collector marks.
-use Rattle.core_machine.specs.declared.collector.stage.Stage.{Stage}
+use Rattle.core_rule.proofs.Terms.{Stage, HasMarked}
 use Rattle.core_machine.specs.declared.collector.stage.Stage.TheVariants as stages
-use Rattle.core_rule.specs.Sweep.{HasMarked}
-use Rattle.core_rule.proofs.spines.HalvesFrames.{IsPlain}
+use Rattle.core_rule.proofs.halves.HalvesFrames.{IsPlain}
 
 -- the stage is one of the pass or of the scan
 abbrev pub OfMarking : Stage → Type 0

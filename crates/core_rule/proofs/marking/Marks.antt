@@ -1,28 +1,15 @@
 -- What a seat's step has to leave of marking.
 use Rattle.std.proofs.Common.{◌≡◌, ◌≢◌, ℕ, ◌<◌, ◌%◌, false, List, inl, inr, refl, sym, ◌∙◌, subst, arith}
-use Rattle.heap_model.specs.declared.heap.Heap.{Heap}
-use Rattle.heap_model.specs.account.PhaseCounts.{phase}
-use Rattle.core_machine.specs.collector.Collector.{Collector}
-use Rattle.core_machine.specs.declared.collector.stage.Stage.{Stage}
+use Rattle.core_rule.proofs.Terms.{cycle_phases, Heap, phase, Collector, Stage, LoadingMeta, Walking, Indexing, Getting, LoadingOld, ShadingOld, ShadingNew, Swapping, Place, State}
+use Rattle.core_rule.proofs.Terms.{seat_at, register_in, register_head, Seat, head_of, Book, Colour, Grey, WordPointsTo, IsBetween, WhileAccess, IsPart, ScanStands, IsFewWords}
+use Rattle.core_rule.proofs.Terms.{PassStands, MarkingStands, SweepStands, HasMarked, IsSettled, Owner, Free, Taken, Borne, Kept, Dead, born_bit, IsReached, Rule}
+use Rattle.heap_model.specs.PhasePlan.{clearing as clearing_phase, marking as marking_phase}
 use Rattle.core_machine.specs.declared.collector.stage.Stage.TheVariants as stages
 use Rattle.core_machine.specs.collector.FitsTurns.{FitsStage}
 use Rattle.core_machine.specs.declared.place.Access.{Access}
-use Rattle.core_machine.specs.declared.place.Access.TheVariants.{LoadingMeta, Walking, Locating, Indexing, Getting, Naming, LoadingOld, ShadingOld, ShadingNew, Swapping}
-use Rattle.core_machine.specs.declared.place.Place.{Place}
+use Rattle.core_machine.specs.declared.place.Access.TheVariants.{Locating, Naming}
 use Rattle.core_machine.specs.declared.place.Place.TheVariants as places
-use Rattle.core_machine.specs.machine.Machine.{State, seat_at}
-use Rattle.core_machine.specs.seat.Registers.{register_in, register_head}
-use Rattle.core_machine.specs.seat.Seat.{Seat}
-use Rattle.heap_words.specs.Loaded.{head_of}
-use Rattle.core_rule.specs.Book.{Book, Colour, Grey}
-use Rattle.core_rule.specs.Colours.{WordPointsTo, IsBetween}
-use Rattle.core_rule.specs.Flight.{WhileAccess}
-use Rattle.core_rule.specs.Marking.{IsPart, ScanStands, IsFewWords, PassStands, MarkingStands}
-use Rattle.core_rule.specs.Roots.{IsInMarking, AtCall, OfRoots, RootsAreReached}
-use Rattle.core_rule.specs.Sweep.{SweepStands, HasMarked, IsSettled}
-use Rattle.core_rule.specs.Owners.{Owner, Free, Taken, Borne, Kept, Dead, born_bit}
-use Rattle.core_rule.specs.Paths.{IsReached}
-use Rattle.core_rule.specs.Rule.{Rule}
+use Rattle.core_rule.specs.roots.Roots.{IsInMarking, AtCall, OfRoots, RootsAreReached}
 use Rattle.core_rule.proofs.colours.LeadsFrames.{SameSources, leads_same, same_leads}
 use Rattle.core_rule.proofs.colours.SpineStays.{same_spine}
 use Rattle.core_rule.proofs.cycle.CycleFrames.{while_access}
@@ -75,7 +62,7 @@ pub record MarksGoOn (heap : Heap) (state : State) (book now : Book) (words : Li
 -- all have answered the cycle's last phase
 pub record IsLastAnswered (heap : Heap) (collector : Collector) : Type 0 where
   pub all : collector.looked ≡ heap.seats
-  pub last : collector.phase % 7 ≡ 6
+  pub last : collector.phase % cycle_phases ≡ clearing_phase
 
 -- from the end of marking to the end of the sweep the phase is one of three
 pub settled_phase : (phase : ℕ) (stage : Stage) → IsSettled phase stage → IsBetween 3 5 phase
@@ -84,18 +71,18 @@ settled_phase phase stage (inr (inl copies)) = record { from = omega (arith, cop
 settled_phase phase stage (inr (inr sweeps)) = record { from = omega (arith, sweeps); upto = omega (arith, sweeps) }
 
 -- so it is at another stage of the same phase, but for the phase of marking
-pub settled_moves : (phase : ℕ) (from to : Stage) → (phase % 7 ≡ 3 → ¬ HasMarked from) → IsSettled phase from → IsSettled phase to
+pub settled_moves : (phase : ℕ) (from to : Stage) → (phase % cycle_phases ≡ marking_phase → ¬ HasMarked from) → IsSettled phase from → IsSettled phase to
 settled_moves phase from to goes (inl ended) = absurd (goes ended.0 ended.1)
 settled_moves phase from to goes (inr later) = inr later
 
 -- while it marks, marking hasn't ended
-pub unsettled : (phase : ℕ) (stage : Stage) → phase % 7 ≡ 3 → ¬ HasMarked stage → ¬ IsSettled phase stage
+pub unsettled : (phase : ℕ) (stage : Stage) → phase % cycle_phases ≡ marking_phase → ¬ HasMarked stage → ¬ IsSettled phase stage
 unsettled phase stage third goes (inl ended) = goes ended.1
 unsettled phase stage third goes (inr (inl copies)) = omega (arith, third, copies)
 unsettled phase stage third goes (inr (inr sweeps)) = omega (arith, third, sweeps)
 
 -- what stands at a stage of marking: nothing is to be freed yet
-pub marks_at : (heap : Heap) (words : List ℕ) (owner : ℕ → Owner) (colour : ℕ → Colour) (fragments : ℕ → List ℕ) (phase : ℕ) (stage : Stage) → phase % 7 ≡ 3 → OfMarking stage
+pub marks_at : (heap : Heap) (words : List ℕ) (owner : ℕ → Owner) (colour : ℕ → Colour) (fragments : ℕ → List ℕ) (phase : ℕ) (stage : Stage) → phase % cycle_phases ≡ marking_phase → OfMarking stage
     → ((f : ℕ) → colour f ≡ Grey → IsPart owner f) → ScanStands heap words owner colour fragments stage → IsFewWords stage → PassStands colour stage → SweepStands heap owner colour phase stage
     → ((f i k : ℕ) → owner f ≢ Dead i k) → MarkingStands heap words owner colour fragments phase stage
 marks_at heap words owner colour fragments phase stage third goes grey scan few pass sweep alive = record {
@@ -110,7 +97,7 @@ marks_at heap words owner colour fragments phase stage third goes grey scan few 
 
 module _ (heap : Heap) (state : State) (book : Book) (rule : Rule heap state book) where
   -- in the phase of marking, until that has ended, nothing is to be freed
-  pub none_dead : state.collector.phase % 7 ≡ 3 → ¬ HasMarked state.collector.stage → (f i k : ℕ) → book.owner f ≢ Dead i k
+  pub none_dead : state.collector.phase % cycle_phases ≡ marking_phase → ¬ HasMarked state.collector.stage → (f i k : ℕ) → book.owner f ≢ Dead i k
   none_dead third goes = rule.marks_stand.heap_marks.alive (unsettled state.collector.phase state.collector.stage third goes)
 
   -- what is true at a stage of marking is true in its phase alone, until marking has ended
@@ -119,8 +106,8 @@ module _ (heap : Heap) (state : State) (book : Book) (rule : Rule heap state boo
   only_marks (stages.Scanning scan) is fits = record { phase = fits.marks.for_marking; goes_on = subst HasMarked is }
   only_marks (stages.Shading scan target next) is fits = record { phase = fits.marks.for_marking; goes_on = subst HasMarked is }
   only_marks (stages.Locating scan count) is fits = record { phase = fits.marks.for_marking; goes_on = subst HasMarked is }
-  only_marks (stages.Indexing s) is fits = (record { phase = fits.marks.for_marking; goes_on = subst HasMarked is }, fits.index_within)
-  only_marks (stages.Spreading s target) is fits = (record { phase = fits.marks.for_marking; goes_on = subst HasMarked is }, fits.index_within)
+  only_marks (stages.Indexing s) is fits = (record { phase = fits.on.marks.for_marking; goes_on = subst HasMarked is }, fits.on.index_within)
+  only_marks (stages.Spreading s target) is fits = (record { phase = fits.on.marks.for_marking; goes_on = subst HasMarked is }, fits.on.index_within)
   only_marks (stages.Blackening scan) is fits = record { phase = fits.marks.for_marking; goes_on = subst HasMarked is }
   only_marks _ is fits = tt
 

@@ -2,26 +2,11 @@
 use Rattle.std.proofs.Common.{◌⊎◌, ◌≡◌, ℕ, zero, suc, ◌+◌, ◌-◌, ◌*◌, ◌<◌, ◌≤◌, ◌^◌, true, false, List, length, get_or, slice_get, Option, Some, None, inl, inr, refl, sym, ap, ◌∙◌, subst, arith, Bool, ◌==◌, if◌then◌else◌}
 use Rattle.heap_words.specs.declared.spot.Spot.{Spot}
 use Rattle.heap_model.specs.Heap.{IsHeap}
-use Rattle.heap_model.specs.account.Cycles.{graph_of}
+use Rattle.core_rule.proofs.Terms.{graph_of, Heap, Id, Board, Made, Graph, Node, spine_words_of, Word, State, at, spine_place, FitsSpot, pointer_in, payload_in, is_meta}
+use Rattle.core_rule.proofs.Terms.{spine_words_in, record_word_of, sentinel_word_of, Book, fragment_at, id_at, object_head, WordPointsTo, Bits, FitsName, AreMade, Objects}
+use Rattle.core_rule.proofs.Terms.{KeptObject, IsKept, name_of, value_word, field_word, is_cell, node_at, Owner, Kept, Rule, TellsWords}
 use Rattle.heap_model.specs.declared.graph.cell.Cell.{Cell}
-use Rattle.heap_model.specs.declared.heap.Heap.{Heap}
-use Rattle.heap_model.specs.declared.id.Id.{Id}
-use Rattle.heap_model.specs.declared.id.Id.TheVariants.{Board, Made}
-use Rattle.heap_model.specs.graph.Graph.{Graph, Node}
-use Rattle.heap_model.specs.graph.Sizes.{spine_words_of}
-use Rattle.core_machine.specs.declared.table.address.Address.TheVariants.{Word}
-use Rattle.core_machine.specs.machine.Machine.{State}
-use Rattle.core_machine.specs.table.Layout.{at, spine_place, FitsSpot}
-use Rattle.heap_words.specs.Loaded.{pointer_in, payload_in, is_meta}
-use Rattle.core_machine.specs.table.Decode.{spine_words_in}
-use Rattle.heap_words.specs.Newborn.{record_word_of, sentinel_word_of}
-use Rattle.core_rule.specs.Book.{Book, fragment_at, id_at, object_head}
-use Rattle.core_rule.specs.Colours.{WordPointsTo}
-use Rattle.core_rule.specs.ControlWords.{Bits}
-use Rattle.core_rule.specs.Objects.{FitsName, AreMade, Objects, KeptObject, IsKept, name_of, value_word, field_word, is_cell, node_at}
-use Rattle.core_rule.specs.Owners.{Owner, Kept}
-use Rattle.core_rule.specs.Rule.{Rule}
-use Rattle.core_rule.specs.Sources.{spine_pointer}
+use Rattle.core_rule.specs.marking.Sources.{spine_pointer}
 use Rattle.core_rule.proofs.colours.NewbornLeads.{IsNext, newborn_leads, zero_leads}
 use Rattle.core_rule.proofs.colours.NoSpines.{newborn_no_spine, value_no_spine}
 use Rattle.core_rule.proofs.colours.SourceCases.{TellsNoSpine, lead_cases, no_spine_leads, spine_cases}
@@ -32,8 +17,7 @@ use Rattle.core_rule.proofs.ways.ArrayWords.{sentinel_nowhere, plain_lead, value
 use Rattle.core_rule.proofs.ways.Told.{head_in-value}
 use Rattle.core_rule.proofs.ways.KeptWords.{kept_within, has_room, sized_few, by_kind, words_found, spine_found, payload_found}
 use Rattle.core_rule.proofs.ways.LoadedObjects.{KeptHead, CellRefers, refers_kept, named_refers}
-use Rattle.core_rule.specs.Sweep.{TellsWords}
-use Rattle.core_rule.proofs.spines.DeadWords.{none_behind}
+use Rattle.core_rule.proofs.dying.DeadWords.{none_behind}
 
 -- a cell's word of a record is no first one
 cell_part : (k part : ℕ) → is_cell k part ≡ true → 0 < part

@@ -1,11 +1,7 @@
 -- Paths of white fragments stay at each step that takes no white one's last way to it.
 use Rattle.std.proofs.Common.{◌⊎◌, ◌≡◌, ◌≢◌, ℕ, List, inl, inr, refl, sym, ◌∙◌, subst}
 use Rattle.std.proofs.lemmas.Bool.Decides.{eqb_tells}
-use Rattle.heap_model.specs.declared.heap.Heap.{Heap}
-use Rattle.core_rule.specs.Book.{Colour, White, Grey, Black}
-use Rattle.core_rule.specs.Colours.{IsMarked, WordPointsTo}
-use Rattle.core_rule.specs.Owners.{Owner, born_bit}
-use Rattle.core_rule.specs.Paths.{IsWhite, Edge, Guarded, from_grey, from_white, IsGuarded, IsReached}
+use Rattle.core_rule.proofs.Terms.{Heap, Colour, White, Grey, Black, IsMarked, WordPointsTo, Owner, born_bit, IsWhite, Edge, Guarded, from_grey, from_white, IsGuarded, IsReached}
 use Rattle.core_rule.proofs.colours.ShadeColours.{with_mark, marked, mark_here, mark_away, mark_keeps, mark_marks}
 
 -- the end of a path is white

@@ -1,47 +1,17 @@
--- A scan goes on from word to word, and what it comes to may be marked.
-use Rattle.std.specs.Prelude.{if◌then◌else◌}
-use Rattle.std.proofs.lemmas.Bool.{false≢true}
-use Rattle.std.proofs.lemmas.Bool.Decides.{nat_tests}
-use Rattle.std.proofs.Common.{get_or, ◌≡◌, ◌≢◌, ℕ, zero, suc, ◌+◌, ◌-◌, ◌*◌, ◌<◌, ◌≤◌, ◌^◌, eqb, Bool, true, false, List, length, slice_get, Some, None, inl, inr, refl, sym, ap, ◌∙◌, subst, arith}
+-- A scan goes on from word to word.
+use Rattle.std.proofs.Common.{◌≡◌, ℕ, suc, ◌+◌, ◌-◌, ◌*◌, ◌<◌, ◌≤◌, List, Some, inl, inr, sym, ap, ◌∙◌, subst, arith}
 use Rattle.std.proofs.lemmas.Bool.Decides.{eqb_tells, leb_tells}
-use Rattle.heap_words.specs.declared.cell.Cell.{Cell}
-use Rattle.heap_words.specs.declared.kind.Kind.{Kind}
-use Rattle.heap_words.specs.declared.kind.Kind.TheVariants as kinds
-use Rattle.heap_words.specs.declared.name.Name.{Name}
 use Rattle.heap_words.specs.declared.spot.Spot.{Spot}
-use Rattle.heap_words.specs.Cell.{cell_of}
-use Rattle.heap_model.specs.declared.heap.Heap.{Heap}
-use Rattle.heap_model.specs.account.Cycles.{graph_of}
-use Rattle.heap_model.specs.account.PhaseCounts.{phase}
-use Rattle.heap_model.specs.graph.Graph.{Graph, Node}
-use Rattle.core_machine.specs.collector.Marking.{part_after, scan_at, spine_scan_at}
+use Rattle.core_rule.proofs.Terms.{Heap, phase, Stage, payload_in, at, spine_place, Colour, IsMarked, WordPointsTo, IsSeen, IsSeenWhole, IsSpineOf, ScanStands, PassStands}
+use Rattle.core_rule.proofs.Terms.{SweepStands, Owner}
+use Rattle.core_machine.specs.collector.Marking.{scan_at, spine_scan_at}
 use Rattle.core_machine.specs.declared.collector.stage.Scan.{Scan}
 use Rattle.core_machine.specs.declared.collector.stage.SpineScan.{SpineScan}
-use Rattle.core_machine.specs.declared.collector.stage.Stage.{Stage}
 use Rattle.core_machine.specs.declared.collector.stage.Stage.TheVariants as stages
-use Rattle.core_machine.specs.declared.table.address.Address.TheVariants.{Word}
-use Rattle.core_machine.specs.machine.Machine.{State}
-use Rattle.heap_words.specs.Loaded.{pointer_in, payload_in, is_meta, is_fixed, array_length_in, array_length_of}
-use Rattle.core_machine.specs.table.Layout.{at, spine_place}
-use Rattle.heap_words.specs.Newborn.{link_after}
-use Rattle.core_rule.specs.Book.{Book, Colour, Grey, fragment_at, id_at, object_head}
-use Rattle.core_rule.specs.Colours.{IsMarked, WordPointsTo, IsBetween}
-use Rattle.core_rule.specs.Marking.{IsPart, MayMark, IsSeen, IsSeenWhole, IsSpineOf, ComesAfter, ScanStands, PassStands}
-use Rattle.core_rule.specs.Sweep.{SweepStands}
-use Rattle.core_rule.specs.Objects.{IsKept, KeptObject, name_of, is_cell, node_at}
-use Rattle.core_rule.specs.Owners.{Owner, Kept}
-use Rattle.core_rule.specs.Rule.{Rule}
-use Rattle.core_rule.specs.Sources.{source_pointer}
-use Rattle.core_rule.proofs.colours.NewbornLeads.{link_word_at}
-use Rattle.core_rule.proofs.colours.SourceCases.{TellsNoSpine, word_alone, lead_cases, lead_of_word, spine_source, spine_to, spine_cases}
+use Rattle.core_rule.specs.marking.Sources.{source_pointer}
+use Rattle.core_rule.proofs.colours.SourceCases.{TellsNoSpine, word_alone, lead_cases, spine_source, spine_to, spine_cases}
 use Rattle.core_rule.proofs.marking.MarkingStages.{OfMarking}
-use Rattle.core_rule.proofs.marking.ObjectEdges.{name_small, small, found_cases, cell_no_meta, kept_leads, part_owned}
-use Rattle.core_rule.proofs.objects.ObjectWords.{name_at}
-use Rattle.core_rule.proofs.objects.SpinePlaces.{spine_placed}
-use Rattle.core_rule.proofs.ways.ArrayWords.{fixed_no_head, sentinel_nowhere}
-use Rattle.core_rule.proofs.ways.KeptWords.{sized_few, array_length_found}
 use Rattle.core_machine.proofs.collector_lemmas.SpineTurns.{spine_cases as spine_places}
-use Rattle.core_machine.proofs.table_lemmas.CellWords.{cell_of-cell_word}
 
 -- a scan that comes to a word stands before it, or has seen to all four
 pub scan_cases : (P : Stage → Type 0) (scan : Scan) (part : ℕ) → P (stages.Scanning (record scan { part = part })) → (4 ≤ part → P (stages.Blackening (record scan { part = part }))) → P (scan_at scan part)
@@ -121,140 +91,3 @@ seen_spread heap words colour f index target seen points marked = record { grey 
           subst (IsMarked colour) it marked
       | inr other ↦ seen.seen p g (omega (arith, below, other.1)) leads
     ]
-
--- a first word is no cell
-no_cell : (n : ℕ) → is_cell (suc n) 0 ≢ true
-no_cell n is = grind (arith, nat_tests, is)
-
--- a link is no meta
-link_no_meta : (fragments : List ℕ) (n : ℕ) → ((m : ℕ) → m < length fragments → get_or fragments m 0 < 2 ^ 30) → is_meta (link_after fragments n) ≡ false
-link_no_meta fragments n small = elim (leb_tells (suc (n + 1)) (length fragments)) as (λ _. is_meta (link_after fragments n) ≡ false) [
-  | inl more ↦ rw more.0 (ap (λ (c : Cell). is_fixed c.kind) (cell_of-cell_word kinds.Reference (get_or fragments (n + 1) 0) 0 (small (n + 1) (omega (arith, more.1))) (omega arith)))
-  | inr last ↦ rw last.0 refl
-]
-
--- a word that tells an array's length is a meta
-told_meta : (kind : Kind) (cell : Cell) (cells : ℕ) → array_length_in kind cell ≡ Some cells → is_fixed kind ≡ true
-told_meta kinds.Fixed cell cells told = refl
-told_meta kinds.Nil cell cells told = absurd (cc told)
-told_meta kinds.Number cell cells told = absurd (cc told)
-told_meta kinds.Reference cell cells told = absurd (cc told)
-
-module _ (heap : Heap) (state : State) (book : Book) (rule : Rule heap state book) (f : ℕ) (part_of : IsPart book.owner f) where
-  abbrev i : ℕ
-  i = part_of.index
-
-  abbrev k : ℕ
-  k = part_of.place
-
-  there : (i < length book.made) × IsKept book.owner book.fragments i × (k < length (book.fragments i)) × (f ≡ fragment_at (book.fragments i) k)
-  there = rule.heap_stands.objects.back f i k part_of.kept
-
-  abbrev object : Node
-  object = node_at (graph_of heap book.history) book.made i
-
-  the_object : KeptObject heap state.words book.owner (object_head book.made book.fragments) i (id_at book.made i) object (book.fragments i) (book.spines i)
-  the_object = rule.heap_stands.objects.kept i there.0 there.1
-
-  -- where a fragment of a kept object is grey, what it leads to may be marked
-  pub may_mark : IsBetween 1 5 (phase book.history) → book.colour f ≡ Grey → (source m : ℕ) → WordPointsTo heap state.words f source m → MayMark book.owner book.colour book.fragments m
-  may_mark cycle grey source m leads = elim (kept_leads heap state book rule f i k part_of.kept source m leads) as (λ _. MayMark book.owner book.colour book.fragments m) [
-    | inl part ↦ record {
-      part = record { index = i; place = part.place; kept = part_owned heap state book rule f i k part_of.kept m part };
-      first = inr (rule.heap_stands.cycle.coloured.first cycle f i k part_of.kept (λ white. absurd (cc (grey, white))));
-    }
-    | inr head ↦ record { part = record { index = head.index; place = 0; kept = ap book.owner head.is ∙ head.kept }; first = inl refl }
-  ]
-
-  -- an object's name leads nowhere
-  name_nowhere : k ≡ 0 → (g : ℕ) → ¬ WordPointsTo heap state.words f 1 g
-  name_nowhere first g leads =
-      let head : f ≡ fragment_at (book.fragments i) 0 = there.3 ∙ ap (fragment_at (book.fragments i)) first in
-      let stored = the_object.stored 0 1 (subst (λ x. x < length (book.fragments i)) first there.2) (omega arith) in
-      let name : Name = name_of (id_at book.made i) in
-      let fits = name_small (id_at book.made i) (rule.heap_stands.ids.fit i there.0) in
-      let none : pointer_in 1 (at heap state.words (Word f 1)) ≡ None = ap (λ x. pointer_in 1 (at heap state.words (Word x 1))) head
-      ∙ ap (pointer_in 1) (stored ∙ name_at (object_head book.made book.fragments) name (book.spines i) (book.fragments i) object) ∙ fixed_no_head name.owner name.count fits.0 fits.1 in
-      absurd (cc (none, leads.to))
-
-  -- a meta stands in an object's first fragment alone
-  meta_first : (n : ℕ) → k ≡ n → is_meta (at heap state.words (Word f 0)) ≡ true → k ≡ 0
-  meta_first zero is meta = is
-  meta_first (suc n) is meta =
-      let later : f ≡ fragment_at (book.fragments i) (suc n) = there.3 ∙ ap (fragment_at (book.fragments i)) is in
-      let g : Graph = graph_of heap book.history in
-      let smalls = small heap state.words g book.made book.owner book.fragments rule.machine.limits rule.heap_stands.control_words
-      rule.heap_stands.ids rule.heap_stands.objects i there.0 there.1 in
-      let within : suc n < length (book.fragments i) = subst (λ x. x < length (book.fragments i)) is there.2 in
-      let no_meta : is_meta (at heap state.words (Word f 0)) ≡ false = ap (λ x. is_meta (at heap state.words (Word x 0))) later
-      ∙ found_cases heap state.words g book.made book.owner book.fragments rule.machine.limits rule.heap_stands.control_words rule.heap_stands.ids rule.heap_stands.objects i there.0 there.1
-      (λ w. is_meta w ≡ false) (suc n) 0 within (omega arith)
-      (λ kind cell. absurd (no_cell n cell)) (λ kind frame. ap is_meta (link_word_at (book.fragments i) smalls (name_of (id_at book.made i)) (length object.cells) n) ∙ link_no_meta (book.fragments i) (suc n) smalls)
-      (λ kind first. absurd (omega (arith, first)))
-      (λ kind behind. cell_no_meta heap state.words g book.made book.owner book.fragments rule.machine.limits rule.heap_stands.control_words rule.heap_stands.ids rule.heap_stands.objects i there.0 there.1
-      (4 * (suc n - 1) + 0) (slice_get object.cells (4 * (suc n - 1) + 0)) refl) in
-      absurd (false≢true (sym no_meta ∙ meta))
-
-  -- where it tells an array's length, that is its object's, which is an array
-  pub array_first : (cells : ℕ) → array_length_of (at heap state.words (Word f 0)) ≡ Some cells → (k ≡ 0) × (object.array ≡ true) × (length object.cells ≡ cells)
-  array_first cells told =
-      let g : Graph = graph_of heap book.history in
-      let first = meta_first k refl (told_meta (cell_of (at heap state.words (Word f 0))).kind (cell_of (at heap state.words (Word f 0))) cells told) in
-      let head : f ≡ fragment_at (book.fragments i) 0 = there.3 ∙ ap (fragment_at (book.fragments i)) first in
-      let found = array_length_found heap state.words g book.made book.owner book.fragments rule.machine.limits rule.heap_stands.control_words rule.heap_stands.ids rule.heap_stands.objects i there.0 there.1 in
-      let both : (if object.array then Some (length object.cells) else None) ≡ Some cells = sym found ∙ ap (λ x. array_length_of (at heap state.words (Word x 0))) (sym head) ∙ told in
-      let its = by object.array both in
-      (first, its.0, its.1)
-    where
-      by : (array : Bool) → (if array then Some (length object.cells) else None) ≡ Some cells → (array ≡ true) × (length object.cells ≡ cells)
-      by true same = (refl, cc same)
-      by false same = absurd (cc same)
-
-  -- which has few cells
-  pub array_few : object.array ≡ true → length object.cells ≤ 4096
-  array_few kind = (sized_few object.array (length object.cells) the_object.sized).1
-
-  -- none of its four words leads anywhere, so all of them are seen to
-  pub sentinel_seen : book.colour f ≡ Grey → k ≡ 0 → object.array ≡ true → IsSeen heap state.words book.colour f 4
-  sentinel_seen grey first kind = record { grey = grey; seen = λ p g below leads. absurd (nowhere p g below leads) }
-    where
-      nowhere : (p g : ℕ) → p < 4 → ¬ WordPointsTo heap state.words f p g
-      nowhere p g below leads =
-          let made : Graph = graph_of heap book.history in
-          let name : Name = name_of (id_at book.made i) in
-          let fits = name_small (id_at book.made i) (rule.heap_stands.ids.fit i there.0) in
-          let few = sized_few object.array (length object.cells) the_object.sized in
-          let none : pointer_in p (at heap state.words (Word f p)) ≡ None = ap (λ x. pointer_in p (at heap state.words (Word x p))) there.3
-          ∙ found_cases heap state.words made book.made book.owner book.fragments rule.machine.limits rule.heap_stands.control_words rule.heap_stands.ids rule.heap_stands.objects i there.0 there.1
-          (λ w. pointer_in p w ≡ None) k p there.2 below
-          (λ record_kind cell. absurd (cc (kind, record_kind)))
-          (λ record_kind frame. absurd (cc (kind, record_kind)))
-          (λ array head. sentinel_nowhere name (length object.cells) (book.spines i) p fits.0 fits.1 (omega (arith, few.1)) (spine_placed rule i there.0 there.1 kind))
-          (λ array behind. absurd (omega (arith, behind, first))) in
-          absurd (let to = lead_of_word heap state.words f p g below leads in cc (none, to))
-
-  -- which word comes next
-  pub comes_after : (part : ℕ) → ComesAfter book.owner f part (part_after part (at heap state.words (Word f part)))
-  comes_after zero = by (is_meta (at heap state.words (Word f 0))) refl
-    where
-      by : (meta : Bool) → is_meta (at heap state.words (Word f 0)) ≡ meta → ComesAfter book.owner f 0 (if meta then 2 else 1)
-      by true is = inr (refl, refl, (i, part_of.kept ∙ ap (Kept i) (meta_first k refl is)))
-      by false is = inl refl
-  comes_after (suc part) = let later : eqb (suc part) 0 ≡ false = grind arith in inl (rw later refl)
-
-  -- what was seen up to a word, and at it, is seen up to the next
-  pub seen_next : (words : List ℕ) (colour : ℕ → Colour) (part next : ℕ) → ((p g : ℕ) → WordPointsTo heap words f p g → WordPointsTo heap state.words f p g)
-      → IsSeen heap words colour f part → ((g : ℕ) → WordPointsTo heap words f part g → IsMarked colour g) → ComesAfter book.owner f part next → IsSeen heap words colour f next
-  seen_next words colour part next back seen here comes = record { grey = seen.grey; seen = λ p g below leads. each p g below leads comes }
-    where
-      first : (j : ℕ) → book.owner f ≡ Kept j 0 → k ≡ 0
-      first j is = let both : Kept i k ≡ Kept j 0 = sym part_of.kept ∙ is in cc
-
-      each : (p g : ℕ) → p < next → WordPointsTo heap words f p g → ComesAfter book.owner f part next → IsMarked colour g
-      each p g below leads comes = elim (eqb_tells p part) as (λ _. IsMarked colour g) [
-        | inl same ↦ here g (subst (λ x. WordPointsTo heap words f x g) same.1 leads)
-        | inr other ↦ elim comes as (λ _. IsMarked colour g) [
-          | inl on ↦ seen.seen p g (omega (arith, below, on, other.1)) leads
-          | inr past ↦ absurd (name_nowhere (first past.2.0 past.2.1) g (back 1 g (subst (λ x. WordPointsTo heap words f x g) (omega (arith, below, past.0, past.1, other.1)) leads)))
-        ]
-      ]

@@ -1,21 +1,11 @@
 -- A seat marks a kept object's fragment: its step leaves marking.
 use Rattle.std.specs.Prelude.{bit_or}
 use Rattle.std.proofs.Common.{◌≡◌, ℕ, ◌*◌, ◌/◌, ◌<◌, List, false, sym, ◌∙◌, subst, arith, ◌%◌, ◌≢◌, ap}
-use Rattle.heap_model.specs.declared.heap.Heap.{Heap}
+use Rattle.core_rule.proofs.Terms.{cycle_phases, Heap, Control, IsPassing, State, seat_at, Seat, at, put, Book, WordPointsTo, IsPart, HasMarked, IsReached, Rule}
+use Rattle.heap_model.specs.PhasePlan.{clearing as clearing_phase}
 use Rattle.core_machine.specs.declared.collector.stage.Stage.TheVariants as stages
-use Rattle.core_machine.specs.declared.table.address.Address.TheVariants.{Control}
-use Rattle.core_machine.specs.collector.FitsTurns.{IsPassing}
-use Rattle.core_machine.specs.machine.Machine.{State, seat_at}
-use Rattle.core_machine.specs.seat.Seat.{Seat}
-use Rattle.core_machine.specs.table.Layout.{at, put}
 use Rattle.core_machine.specs.table.Operation.{shade_bit_of}
-use Rattle.core_rule.specs.Book.{Book}
-use Rattle.core_rule.specs.Colours.{WordPointsTo}
-use Rattle.core_rule.specs.Marking.{IsPart}
-use Rattle.core_rule.specs.Roots.{IsInMarking}
-use Rattle.core_rule.specs.Sweep.{HasMarked}
-use Rattle.core_rule.specs.Paths.{IsReached}
-use Rattle.core_rule.specs.Rule.{Rule}
+use Rattle.core_rule.specs.roots.Roots.{IsInMarking}
 use Rattle.core_rule.proofs.colours.LeadsFrames.{SameSources, same_ahead, leads_control, control_leads}
 use Rattle.core_rule.proofs.colours.ShadeColours.{with_mark}
 use Rattle.core_rule.proofs.marking.Marks.{MarksGoOn, RootsGoOn, roots_more, all_answered, no_clears}
@@ -46,7 +36,7 @@ module _ (heap : Heap) (state : State) (book : Book) (rule : Rule heap state boo
   -- where it comes to the fragment, all of it goes on
   pub marks_shaded : (number : ℕ) (here : number < heap.seats) (next : Seat) → IsPart book.owner f → (seat_at state number).left ≡ false → next.answered ≡ (seat_at state number).answered
       → (IsInMarking state.collector → (seat_at state number).answered ≡ state.collector.phase → IsReached heap state.words book.owner book.colour f)
-      → RootsGoOn heap state book rule number here next → ((seat_at state number).answered % 7 ≢ 6) → MarksGoOn heap state book (record book { colour = with_mark book.colour f }) words_marked next
+      → RootsGoOn heap state book rule number here next → ((seat_at state number).answered % cycle_phases ≢ clearing_phase) → MarksGoOn heap state book (record book { colour = with_mark book.colour f }) words_marked next
   marks_shaded number here next part present same comes roots early = record {
     heap_on = marking_shaded heap state.words words_marked book.owner book.colour book.fragments f part sources_marked state.collector.phase state.collector.stage unclear passing rule.marks_stand.heap_marks;
     reached_on = λ marks. comes_shaded;
@@ -55,7 +45,7 @@ module _ (heap : Heap) (state : State) (book : Book) (rule : Rule heap state boo
   }
     where
       unclear : OnlyClears ⊥ state.collector.stage
-      unclear = no_clears heap state book rule (λ last. early (ap (λ p. p % 7) (all_answered heap state book rule last.all number here present) ∙ last.last))
+      unclear = no_clears heap state book rule (λ last. early (ap (λ p. p % cycle_phases) (all_answered heap state book rule last.all number here present) ∙ last.last))
 
       passing : (group : ℕ) → state.collector.stage ≡ stages.Passing group false → IsReached heap state.words book.owner book.colour f
       passing group is =

@@ -1,7 +1,6 @@
 -- Whose each fragment is once marking has ended: what is white of a kept object is to be freed.
 use Rattle.std.proofs.Common.{◌≡◌, ◌≢◌, ◌⊎◌, ℕ, inl, inr, refl, sym, subst}
-use Rattle.core_rule.specs.Book.{Colour, White, Grey, Black}
-use Rattle.core_rule.specs.Owners.{Owner, Borne, Kept, Dead, born_bit}
+use Rattle.core_rule.proofs.Terms.{Colour, White, Grey, Black, Owner, Borne, Kept, Dead, born_bit}
 
 -- what becomes of a fragment by its colour
 abbrev pub settled_owner : Owner → Colour → Owner

@@ -1,21 +1,10 @@
 -- The rule's parts for the book once marking has ended.
 use Rattle.std.proofs.Common.{◌≡◌, ◌≢◌, ℕ, ◌<◌, ◌≤◌, ◌%◌, Bool, true, false, length, drop, inl, inr, refl, sym, ap, ◌∙◌, subst, arith}
-use Rattle.heap_model.specs.declared.heap.Heap.{Heap}
-use Rattle.heap_model.specs.account.Cycles.{graph_of}
-use Rattle.heap_model.specs.account.PhaseCounts.{phase}
-use Rattle.core_machine.specs.collector.FitsTurns.{IsMarking}
+use Rattle.core_rule.proofs.Terms.{cycle_phases, Heap, graph_of, phase, IsMarking, State, seat_at, IsAtRest, Seat, tally, Book, White, Grey, AfterMarking, MarkingStands, Owner}
+use Rattle.core_rule.proofs.Terms.{Borne, Kept, Dead, IsSeated, IsBoards, taken_bit, free_bit, born_bit, holds_bit, bears_bit, IsWhite, node_at, Rule, HeapStands, SeatStands}
+use Rattle.core_rule.proofs.Terms.{HasMarked}
+use Rattle.heap_model.specs.PhasePlan.{marking as marking_phase}
 use Rattle.core_machine.specs.declared.collector.stage.Stage.TheVariants as stages
-use Rattle.core_machine.specs.machine.Machine.{State, seat_at}
-use Rattle.core_machine.specs.seat.Fits.{IsAtRest}
-use Rattle.core_machine.specs.seat.Seat.{Seat}
-use Rattle.core_machine.specs.table.Fragments.{tally}
-use Rattle.core_rule.specs.Book.{Book, White, Grey}
-use Rattle.core_rule.specs.Marking.{AfterMarking, MarkingStands}
-use Rattle.core_rule.specs.Owners.{Owner, Borne, Kept, Dead, IsSeated, IsBoards, taken_bit, free_bit, born_bit, holds_bit, bears_bit}
-use Rattle.core_rule.specs.Paths.{IsWhite}
-use Rattle.core_rule.specs.Objects.{node_at}
-use Rattle.core_rule.specs.Rule.{Rule, HeapStands, SeatStands}
-use Rattle.core_rule.specs.Sweep.{HasMarked}
 use Rattle.core_rule.proofs.colours.Births.{births_stay}
 use Rattle.core_rule.proofs.counts.CountMoves.{used_same}
 use Rattle.core_rule.proofs.cycle.CycleFrames.{coloured_stays}
@@ -24,8 +13,8 @@ use Rattle.core_rule.proofs.gather.GatherMoves.{gathers_same}
 use Rattle.core_rule.proofs.hand.HandMoves.{holding_stays}
 use Rattle.core_rule.proofs.owners.Seated.{borne_by_seat}
 use Rattle.core_rule.proofs.marking.Marks.{none_dead}
-use Rattle.core_rule.proofs.spines.DyingWords.{settled_book, spines_settle, spine_settles, address_settles}
-use Rattle.core_rule.proofs.marking.SeatRoots.{answered_marking, all_roots_marked, loaded_marked}
+use Rattle.core_rule.proofs.dying.DyingWords.{settled_book, spines_settle, spine_settles, address_settles}
+use Rattle.core_rule.proofs.roots.SeatRoots.{answered_marking, all_roots_marked, loaded_marked}
 use Rattle.core_rule.proofs.marking.Settled.{settled_owner, settled_holds, settled_same, settled_was, settled_dead, settled_borne, settled_white}
 use Rattle.core_rule.proofs.marking.SettledObjects.{objects_later}
 use Rattle.core_rule.proofs.marking.SettledSeats.{holds_later, ways_later, awaits_later}
@@ -36,7 +25,7 @@ module _ (heap : Heap) (state : State) (book : Book) (rule : Rule heap state boo
   abbrev now : Book
   now = settled_book book
 
-  third : phase book.history % 7 ≡ 3
+  third : phase book.history % cycle_phases ≡ marking_phase
   third = let told = marks.for_marking in let same = rule.collector_stands.phase_told in omega (arith, told, same)
 
   -- a fact that tells no kept fragment from one that is to be freed stays

@@ -1,22 +1,11 @@
 -- The objects once marking has ended: those that are kept then are whole, and refer to kept ones alone.
 use Rattle.std.proofs.Common.{◌≡◌, ◌≢◌, ℕ, ◌<◌, ◌%◌, List, length, slice_get, Some, IfSome, ap, ◌∙◌}
 use Rattle.std.proofs.lemmas.Option.{slice_get_within}
+use Rattle.core_rule.proofs.Terms.{cycle_phases, Heap, Id, Value, graph_of, phase, Node, State, pointer_in, Book, Colour, Grey, fragment_at, id_at, object_head, object_number}
+use Rattle.core_rule.proofs.Terms.{IsMarked, WordPointsTo, Objects, KeptObject, NamesKept, IsKept, node_at, value_word, Owner, Rule, row_in, field_part}
+use Rattle.heap_model.specs.PhasePlan.{marking as marking_phase}
 use Rattle.heap_model.specs.declared.graph.cell.Cell.{Cell}
-use Rattle.heap_model.specs.declared.heap.Heap.{Heap}
-use Rattle.heap_model.specs.declared.id.Id.{Id}
-use Rattle.heap_model.specs.declared.id.Value.{Value}
 use Rattle.heap_model.specs.declared.id.Value.TheVariants as values
-use Rattle.heap_model.specs.account.Cycles.{graph_of}
-use Rattle.heap_model.specs.account.PhaseCounts.{phase}
-use Rattle.heap_model.specs.graph.Graph.{Node}
-use Rattle.core_machine.specs.machine.Machine.{State}
-use Rattle.heap_words.specs.Loaded.{pointer_in}
-use Rattle.core_rule.specs.Book.{Book, Colour, Grey, fragment_at, id_at, object_head, object_number}
-use Rattle.core_rule.specs.Colours.{IsMarked, WordPointsTo}
-use Rattle.core_rule.specs.Objects.{Objects, KeptObject, NamesKept, IsKept, node_at, value_word}
-use Rattle.core_rule.specs.Owners.{Owner}
-use Rattle.core_rule.specs.Rule.{Rule}
-use Rattle.core_rule.specs.Ways.{row_in, field_part}
 use Rattle.core_rule.proofs.colours.SourceCases.{word_leads}
 use Rattle.core_rule.proofs.lists.Options.{each_some}
 use Rattle.core_rule.proofs.marking.Ended.{leads_marked, first_marked, whole_marked}
@@ -36,7 +25,7 @@ module _ (made : List Id) (owner : ℕ → Owner) (colour : ℕ → Colour) (fra
   names_settled (values.Number n) names marked = names
   names_settled (values.Object id) names marked = (names.0, settled_stays (owner (object_head made fragments id)) (colour (object_head made fragments id)) (object_number made id) 0 names.1 marked)
 
-module _ (heap : Heap) (state : State) (book : Book) (rule : Rule heap state book) (third : phase book.history % 7 ≡ 3) (none : (f : ℕ) → book.colour f ≢ Grey) where
+module _ (heap : Heap) (state : State) (book : Book) (rule : Rule heap state book) (third : phase book.history % cycle_phases ≡ marking_phase) (none : (f : ℕ) → book.colour f ≢ Grey) where
   abbrev now : ℕ → Owner
   now = settled_owners book.owner book.colour
 

@@ -1,26 +1,12 @@
 -- A seat once marking has ended: what it names is kept then.
 use Rattle.std.proofs.Common.{ℕ, List, IfSome, ap, subst}
-use Rattle.heap_model.specs.declared.entry.Entry.{Entry}
-use Rattle.heap_model.specs.declared.id.Id.{Id}
-use Rattle.heap_model.specs.declared.id.Value.{Value}
+use Rattle.core_rule.proofs.Terms.{Entry, Id, Value, Graph, Node, LoadingMeta, Walking, Indexing, Getting, LoadingOld, ShadingOld, ShadingNew, Swapping, Place, Register, object_of}
+use Rattle.core_rule.proofs.Terms.{register_in, register_head, Seat, head_of, Colour, fragment_at, IsMarked, Awaits, IsKept, Owner, HoldsValue, OnWay, Finds, Locates, LoadedKept}
+use Rattle.core_rule.proofs.Terms.{WayStands}
 use Rattle.heap_model.specs.declared.id.Value.TheVariants as values
-use Rattle.heap_model.specs.graph.Graph.{Graph, Node}
-use Rattle.core_machine.specs.declared.place.Access.TheVariants.{LoadingMeta, Walking, Locating, Indexing, Getting, Naming, LoadingOld, ShadingOld, ShadingNew, Swapping}
-use Rattle.core_machine.specs.declared.place.Place.{Place}
+use Rattle.core_machine.specs.declared.place.Access.TheVariants.{Locating, Naming}
 use Rattle.core_machine.specs.declared.place.Place.TheVariants as places
-use Rattle.core_machine.specs.declared.seat.register.Register.{Register}
 use Rattle.core_machine.specs.declared.seat.register.Register.TheVariants as registers
-use Rattle.core_machine.specs.seat.Commands.{object_of}
-use Rattle.core_machine.specs.seat.Registers.{register_in, register_head}
-use Rattle.core_machine.specs.seat.Seat.{Seat}
-use Rattle.heap_words.specs.Loaded.{head_of}
-use Rattle.core_rule.specs.Book.{Colour, fragment_at}
-use Rattle.core_rule.specs.Colours.{IsMarked}
-use Rattle.core_rule.specs.Counts.{Awaits}
-use Rattle.core_rule.specs.Objects.{IsKept}
-use Rattle.core_rule.specs.Owners.{Owner}
-use Rattle.core_rule.specs.Registers.{HoldsValue}
-use Rattle.core_rule.specs.Ways.{OnWay, Finds, Locates, LoadedKept, WayStands}
 use Rattle.core_rule.proofs.lists.Options.{of_some}
 use Rattle.core_rule.proofs.marking.Settled.{settled_owners, settled_stays}
 use Rattle.core_rule.proofs.marking.SettledObjects.{names_settled}

@@ -1,19 +1,11 @@
 -- A fragment of a kept object is marked: what stays of marking.
 use Rattle.std.proofs.Common.{◌⊎◌, ◌≡◌, ℕ, ◌+◌, ◌≤◌, ◌/◌, List, Some, false, inl, inr, refl, sym, ap, ◌∙◌, subst, arith}
 use Rattle.std.proofs.lemmas.Bool.Decides.{eqb_tells}
-use Rattle.heap_words.specs.Spot.{spot_in}
-use Rattle.heap_model.specs.declared.heap.Heap.{Heap}
+use Rattle.core_rule.proofs.Terms.{spot_in, Heap, Stage, spine_words_in, Colour, White, Grey, fragment_at, IsMarked, WordPointsTo, IsPart, MayMark, IsSeen, IsSeenWhole, IsSpineOf}
+use Rattle.core_rule.proofs.Terms.{ScanStands, PassStands, AfterMarking, MarkingStands, SweepStands, Owner, Kept, Dead, born_bit, Guarded, from_grey, from_white, IsReached}
 use Rattle.core_machine.specs.declared.collector.stage.SpineScan.{SpineScan}
-use Rattle.core_machine.specs.declared.collector.stage.Stage.{Stage}
 use Rattle.core_machine.specs.declared.collector.stage.Stage.TheVariants as stages
-use Rattle.core_machine.specs.table.Decode.{spine_words_in}
-use Rattle.core_rule.specs.Book.{Colour, White, Grey, fragment_at}
-use Rattle.core_rule.specs.Colours.{IsMarked, WordPointsTo}
-use Rattle.core_rule.specs.Marking.{IsPart, MayMark, IsSeen, IsSeenWhole, IsSpineOf, ScanStands, PassStands, AfterMarking, MarkingStands}
-use Rattle.core_rule.specs.Sweep.{SweepStands}
-use Rattle.core_rule.specs.Owners.{Owner, Kept, Dead, born_bit}
-use Rattle.core_rule.specs.Sources.{TellsNoSpine}
-use Rattle.core_rule.specs.Paths.{Guarded, from_grey, from_white, IsReached}
+use Rattle.core_rule.specs.marking.Sources.{TellsNoSpine}
 use Rattle.core_rule.proofs.colours.LeadsFrames.{SameSources, leads_same, same_leads, still_no_spine}
 use Rattle.core_rule.proofs.colours.ShadeColours.{with_mark, mark_away, mark_keeps}
 use Rattle.core_rule.proofs.cycle.CycleFrames.{watches_stay}

@@ -1,20 +1,11 @@
 -- What a swap takes out of a field and what it puts in is marked, so marking comes to all that it came to.
 use Rattle.std.proofs.Common.{◌≡◌, ℕ, ◌%◌, ◌^◌, ◌<◌, ◌⊎◌, None, inl, inr, sym, subst, arith, List}
 use Rattle.std.proofs.lemmas.Bool.{cases_eq}
-use Rattle.heap_model.specs.declared.heap.Heap.{Heap}
-use Rattle.heap_model.specs.declared.id.Value.{Value}
-use Rattle.heap_model.specs.account.PhaseCounts.{phase}
+use Rattle.core_rule.proofs.Terms.{cycle_phases, Heap, Value, phase, Swapping, State, seat_at, Seat, Book, object_head, IsMarked, IsBetween, WordPointsTo, DeletionBarrier}
+use Rattle.core_rule.proofs.Terms.{FieldStands, WhileAccess, NamesKept, value_word, HoldsValue, Rule}
+use Rattle.heap_model.specs.PhasePlan.{marking as marking_phase}
 use Rattle.core_machine.specs.declared.place.Place.TheVariants as places
-use Rattle.core_machine.specs.declared.place.Access.TheVariants.{Swapping}
-use Rattle.core_machine.specs.machine.Machine.{State, seat_at}
 use Rattle.core_machine.specs.seat.AccessMoves.{new_register_of}
-use Rattle.core_machine.specs.seat.Seat.{Seat}
-use Rattle.core_rule.specs.Book.{Book, object_head}
-use Rattle.core_rule.specs.Colours.{IsMarked, IsBetween, WordPointsTo}
-use Rattle.core_rule.specs.Flight.{DeletionBarrier, FieldStands, WhileAccess}
-use Rattle.core_rule.specs.Objects.{NamesKept, value_word}
-use Rattle.core_rule.specs.Registers.{HoldsValue}
-use Rattle.core_rule.specs.Rule.{Rule}
 use Rattle.core_rule.proofs.ways.AtObject.{is_near}
 use Rattle.core_rule.proofs.colours.LeadsFrames.{but_leads, same_beside}
 use Rattle.core_rule.proofs.colours.SpineStays.{SpineStays, same_spine, no_spine_stays, same_sources}
@@ -27,7 +18,7 @@ module _ (heap : Heap) (state : State) (book : Book) (number : ℕ) (rule : Rule
   seat = seat_at state number
 
   -- while the collector marks, what the field leads to is marked
-  taken_marked : state.collector.phase % 7 ≡ 3 → (g : ℕ) → WordPointsTo heap state.words seat.reached seat.part g → IsMarked book.colour g
+  taken_marked : state.collector.phase % cycle_phases ≡ marking_phase → (g : ℕ) → WordPointsTo heap state.words seat.reached seat.part g → IsMarked book.colour g
   taken_marked marking g leads =
       let same : state.collector.phase ≡ phase book.history = rule.collector_stands.phase_told in
       let making : IsBetween 2 5 (phase book.history) = record { from = omega (arith, same, marking); upto = omega (arith, same, marking) } in
@@ -48,7 +39,7 @@ module _ (heap : Heap) (state : State) (book : Book) (number : ℕ) (rule : Rule
     now = words_swapped heap state book number rule here place value stamp holds names small word is_word
 
     -- each other source leads where it led
-    leads_later : state.collector.phase % 7 ≡ 3 → (f source g : ℕ) → WordPointsTo heap state.words f source g → WordPointsTo heap now f source g ⊎ IsMarked book.colour g
+    leads_later : state.collector.phase % cycle_phases ≡ marking_phase → (f source g : ℕ) → WordPointsTo heap state.words f source g → WordPointsTo heap now f source g ⊎ IsMarked book.colour g
     leads_later marking f source g leads =
         elim (but_leads heap state.words seat.reached seat.part word (swap_within heap state book number rule here) (swap_part heap state book number rule here place)
         (swap_no_spine heap state book number rule here place) (swapped_no_spine heap state book number rule here place value stamp holds names small word is_word) f source g leads)

@@ -1,16 +1,33 @@
 -- What stands of marking at the stages of the sweep.
 use Rattle.std.specs.Prelude.{if◌then◌else◌}
-use Rattle.std.proofs.Common.{◌≡◌, ℕ, suc, ◌+◌, ◌%◌, ◌==◌, ◌^◌, ◌<◌, ◌≤◌, List, Option, Some, None, inl, inr, arith}
+use Rattle.std.proofs.Common.{◌≡◌, ◌≢◌, ℕ, suc, ◌+◌, ◌%◌, ◌==◌, ◌^◌, ◌<◌, ◌≤◌, List, Option, Some, None, inl, inr, arith}
 use Rattle.std.proofs.lemmas.Bool.Decides.{eqb_tells, leb_tells}
-use Rattle.heap_model.specs.declared.heap.Heap.{Heap}
+use Rattle.core_rule.proofs.Terms.{cycle_phases, Heap, Stage, Colour, ScanStands, IsFewWords, PassStands, AfterMarking, MarkingStands, SweepStands, AreFreed, AreDead, Owner}
+use Rattle.heap_model.specs.PhasePlan.{sweep as sweep_phase}
 use Rattle.core_machine.specs.collector.Sweeping.{after_swept, after_examined, after_freed, after_cleared}
-use Rattle.core_machine.specs.declared.collector.stage.Stage.{Stage}
 use Rattle.core_machine.specs.declared.collector.stage.Stage.TheVariants as stages
-use Rattle.core_rule.specs.Book.{Colour}
-use Rattle.core_rule.specs.Marking.{ScanStands, IsFewWords, PassStands, AfterMarking, MarkingStands}
-use Rattle.core_rule.specs.Sweep.{SweepStands, AreFreed, AreDead}
-use Rattle.core_rule.specs.Owners.{Owner}
 use Rattle.core_rule.proofs.owners.DeadOwners.{freed_on}
+
+-- the stage is none of the sweep and none of the clearing
+abbrev pub IsUnswept : Stage → Type 0
+IsUnswept (stages.Sweeping group) = ⊥
+IsUnswept (stages.Examining group dead place counted) = ⊥
+IsUnswept (stages.Freeing group dead counted) = ⊥
+IsUnswept (stages.Returning group counted) = ⊥
+IsUnswept (stages.Clearing group kept) = ⊥
+IsUnswept (stages.Ending kept) = ⊥
+IsUnswept _ = Unit {0}
+
+-- there nothing is asked of what is freed, in a phase that isn't that of the sweep
+pub unswept_stands : (heap : Heap) (owner : ℕ → Owner) (colour : ℕ → Colour) (phase : ℕ) (stage : Stage) → IsUnswept stage → phase % cycle_phases ≢ sweep_phase → SweepStands heap owner colour phase stage
+unswept_stands heap owner colour phase (stages.Sweeping group) unswept other = absurd unswept
+unswept_stands heap owner colour phase (stages.Examining group dead place counted) unswept other = absurd unswept
+unswept_stands heap owner colour phase (stages.Freeing group dead counted) unswept other = absurd unswept
+unswept_stands heap owner colour phase (stages.Returning group counted) unswept other = absurd unswept
+unswept_stands heap owner colour phase (stages.Clearing group kept) unswept other = absurd unswept
+unswept_stands heap owner colour phase (stages.Ending kept) unswept other = absurd unswept
+unswept_stands heap owner colour phase stages.Advancing unswept other = λ swept. absurd (other swept)
+unswept_stands heap owner colour phase _ unswept other = tt
 
 -- what holds of either of the stages that come after a group of the sweep
 pub after_swept_either : (P : Stage → Type 0) (heap : Heap) (group : ℕ) → P (stages.Sweeping (group + 1)) → (heap.groups ≤ group + 1 → P stages.Advancing) → P (after_swept heap group)
@@ -33,7 +50,7 @@ after_cleared_either P heap group kept on end = elim (leb_tells (suc (group + 1)
   | inr last ↦ rw last.0 (end (omega (arith, last.1)))
 ]
 
-module _ (heap : Heap) (words : List ℕ) (owner : ℕ → Owner) (colour : ℕ → Colour) (fragments : ℕ → List ℕ) (phase : ℕ) (sweeps : phase % 7 ≡ 5) (after : AfterMarking owner colour) where
+module _ (heap : Heap) (words : List ℕ) (owner : ℕ → Owner) (colour : ℕ → Colour) (fragments : ℕ → List ℕ) (phase : ℕ) (sweeps : phase % cycle_phases ≡ sweep_phase) (after : AfterMarking owner colour) where
   -- marking is over
   swept_at : (stage : Stage) → ScanStands heap words owner colour fragments stage → IsFewWords stage → PassStands colour stage → SweepStands heap owner colour phase stage
       → MarkingStands heap words owner colour fragments phase stage

@@ -1,14 +1,7 @@
 -- Fragment 0 is the board's first one, and nothing else.
 use Rattle.std.proofs.Common.{◌≡◌, ◌≢◌, ℕ, ◌<◌, inl, inr, List, length, refl, sym, ap, ◌∙◌, subst, arith}
 use Rattle.heap_words.specs.declared.spot.Spot.{Spot}
-use Rattle.heap_model.specs.declared.heap.Heap.{Heap}
-use Rattle.heap_model.specs.declared.id.Id.{Id}
-use Rattle.heap_model.specs.graph.Graph.{Graph}
-use Rattle.core_machine.specs.table.Fragments.{tally}
-use Rattle.core_rule.specs.Book.{fragment_at}
-use Rattle.core_rule.specs.Holding.{Holding}
-use Rattle.core_rule.specs.Objects.{Objects, IsKept}
-use Rattle.core_rule.specs.Owners.{Owner, Kept, IsBoards, OwnersStand}
+use Rattle.core_rule.proofs.Terms.{Heap, Id, Graph, tally, fragment_at, Holding, Objects, IsKept, Owner, Kept, IsBoards, OwnersStand}
 use Rattle.core_rule.proofs.hand.Bodies.{body_own}
 use Rattle.core_rule.proofs.owners.Handed.{none_or_some}
 use Rattle.core_rule.proofs.owners.OwnerLemmas.{IsOwn, boards_not_held, own_not_boards}

@@ -1,23 +1,11 @@
 -- While a seat is there the board is kept, and begins with fragment 0.
 use Rattle.std.proofs.Common.{◌≡◌, ℕ, ◌<◌, false, List, length, subst}
 use Rattle.std.proofs.lemmas.Option.{slice_get_within, get_or_from_slice_get}
-use Rattle.heap_model.specs.declared.heap.Heap.{Heap}
-use Rattle.heap_model.specs.declared.id.Id.{Id}
-use Rattle.heap_model.specs.declared.id.Id.TheVariants.{Board}
+use Rattle.core_rule.proofs.Terms.{Heap, Id, Board, graph_of, graph_seat, Register, State, seat_at, target_of, register_in, Book, fragment_at, object_number, NamesKept, Owner}
+use Rattle.core_rule.proofs.Terms.{Kept, HoldsValue, IsAwaited, Rule}
 use Rattle.heap_model.specs.declared.id.Value.TheVariants as values
-use Rattle.heap_model.specs.account.Cycles.{graph_of}
-use Rattle.heap_model.specs.graph.Objects.{graph_seat}
 use Rattle.heap_model.proofs.call_lemmas.BoardLemmas.{board_held}
-use Rattle.core_machine.specs.declared.seat.register.Register.{Register}
 use Rattle.core_machine.specs.declared.seat.register.Register.TheVariants as registers
-use Rattle.core_machine.specs.machine.Machine.{State, seat_at}
-use Rattle.core_machine.specs.seat.Commands.{target_of}
-use Rattle.core_machine.specs.seat.Registers.{register_in}
-use Rattle.core_rule.specs.Book.{Book, fragment_at, object_number}
-use Rattle.core_rule.specs.Objects.{NamesKept}
-use Rattle.core_rule.specs.Owners.{Owner, Kept}
-use Rattle.core_rule.specs.Registers.{HoldsValue, IsAwaited}
-use Rattle.core_rule.specs.Rule.{Rule}
 
 -- a register that holds the board names a kept one
 holds_kept : (made : List Id) (owner : ℕ → Owner) (fragments : ℕ → List ℕ) (held : Register) → HoldsValue made owner fragments held (values.Object Board)

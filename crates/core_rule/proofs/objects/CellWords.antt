@@ -11,22 +11,10 @@ use Rattle.heap_words.specs.declared.spot.Spot.{Spot}
 use Rattle.heap_words.specs.Cell.{cell_word}
 use Rattle.heap_words.specs.Kind.{kind_number}
 use Rattle.heap_model.specs.declared.graph.cell.Cell.{Cell}
-use Rattle.heap_model.specs.declared.id.Id.{Id}
-use Rattle.heap_model.specs.declared.id.Value.{Value}
+use Rattle.core_rule.proofs.Terms.{Id, Value, with_cell, Node, Register, stamp_of, record_word_of, sentinel_word_of, row_of, part_of, register_word, object_head, NamesKept}
+use Rattle.core_rule.proofs.Terms.{value_word, field_word, is_cell, record_object_word, array_object_word, object_word, Owner, HoldsValue, row_in, field_part}
 use Rattle.heap_model.specs.declared.id.Value.TheVariants as values
-use Rattle.heap_model.specs.graph.Changes.{with_cell}
-use Rattle.heap_model.specs.graph.Graph.{Node}
-use Rattle.core_machine.specs.declared.seat.register.Register.{Register}
 use Rattle.core_machine.specs.declared.seat.register.Register.TheVariants as registers
-use Rattle.heap_words.specs.Loaded.{stamp_of}
-use Rattle.heap_words.specs.Newborn.{record_word_of, sentinel_word_of}
-use Rattle.core_machine.specs.seat.Access.{row_of, part_of}
-use Rattle.core_machine.specs.seat.Registers.{register_word}
-use Rattle.core_rule.specs.Book.{object_head}
-use Rattle.core_rule.specs.Objects.{NamesKept, value_word, field_word, is_cell, record_object_word, array_object_word, object_word}
-use Rattle.core_rule.specs.Owners.{Owner}
-use Rattle.core_rule.specs.Registers.{HoldsValue}
-use Rattle.core_rule.specs.Ways.{row_in, field_part}
 use Rattle.core_rule.proofs.graph.SameNodes.{node_cases}
 use Rattle.core_rule.proofs.objects.ObjectWords.{word_of_cell}
 use Rattle.core_rule.proofs.graph.CellSet.{slice_get-set_same, slice_get-set_other}

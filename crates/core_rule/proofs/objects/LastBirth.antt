@@ -1,22 +1,10 @@
 -- What the last birth of an object changes of the seat that made it.
 use Rattle.std.proofs.Common.{◌≡◌, ◌≢◌, ℕ, ◌+◌, ◌*◌, ◌/◌, ◌%◌, ◌<◌, ◌≤◌, false, List, [], ◌∷◌, ◌++◌, length, None, get_or, set, refl, sym, ap, ◌∙◌, subst, arith, length-append}
-use Rattle.heap_model.specs.declared.heap.Heap.{Heap}
-use Rattle.heap_model.specs.declared.id.Id.{Id}
-use Rattle.heap_model.specs.declared.id.Id.TheVariants.{Made}
-use Rattle.heap_model.specs.declared.id.Value.{Value}
+use Rattle.core_rule.proofs.Terms.{Heap, Id, Made, Value, add, node, graph_seat, register_value, Graph, Node, Word, Register, tally, at, fragment_at, object_number, IsKept, Owner}
+use Rattle.core_rule.proofs.Terms.{Kept}
 use Rattle.heap_model.specs.declared.id.Value.TheVariants as values
-use Rattle.heap_model.specs.graph.Changes.{add}
-use Rattle.heap_model.specs.graph.Objects.{node, graph_seat, register_value}
-use Rattle.heap_model.specs.graph.Graph.{Graph, Node}
-use Rattle.core_machine.specs.declared.table.address.Address.TheVariants.{Word}
-use Rattle.core_machine.specs.declared.seat.register.Register.{Register}
 use Rattle.core_machine.specs.declared.seat.register.Register.TheVariants as registers
-use Rattle.core_machine.specs.table.Fragments.{tally}
-use Rattle.core_machine.specs.table.Layout.{at}
-use Rattle.core_rule.specs.Book.{fragment_at, object_number}
-use Rattle.core_rule.specs.Objects.{IsKept}
-use Rattle.core_rule.specs.Owners.{Owner, Kept}
-use Rattle.core_rule.specs.Registers as regs
+use Rattle.core_rule.specs.graph.Registers as regs
 use Rattle.core_rule.proofs.graph.GraphGrowth.{node_none, node_new, node_other, register_target, register_rest}
 use Rattle.core_rule.proofs.graph.IdsGrowth.{OneMore}
 use Rattle.core_rule.proofs.owners.Keeping.{kept_by, with_object, object_new}

@@ -3,14 +3,9 @@ use Rattle.std.proofs.Common.{◌≡◌, ◌≢◌, ℕ, ◌<◌, ◌≤◌, Lis
 use Rattle.heap_words.specs.declared.name.Name.{Name}
 use Rattle.heap_words.specs.declared.spot.Spot.{Spot}
 use Rattle.heap_model.specs.declared.graph.cell.Cell.{Cell}
-use Rattle.heap_model.specs.declared.id.Id.{Id}
-use Rattle.heap_model.specs.declared.id.Value.{Value}
+use Rattle.core_rule.proofs.Terms.{Id, Value, Graph, Node, tally, fragment_at, object_number, object_head, IsKept, NamesKept, value_word, field_word, object_word, AreMade, node_in}
+use Rattle.core_rule.proofs.Terms.{node_at, Owner, Kept}
 use Rattle.heap_model.specs.declared.id.Value.TheVariants as values
-use Rattle.heap_model.specs.graph.Graph.{Graph, Node}
-use Rattle.core_machine.specs.table.Fragments.{tally}
-use Rattle.core_rule.specs.Book.{fragment_at, object_number, object_head}
-use Rattle.core_rule.specs.Objects.{IsKept, NamesKept, value_word, field_word, object_word, AreMade, node_in, node_at}
-use Rattle.core_rule.specs.Owners.{Owner, Kept}
 use Rattle.core_rule.proofs.graph.IdsGrowth.{OneMore, node_before}
 use Rattle.core_rule.proofs.graph.SameNodes.{shape_same}
 use Rattle.core_rule.proofs.objects.ObjectWords.{words_by_cells}

@@ -5,10 +5,7 @@ use Rattle.std.proofs.lemmas.Bool.Decides.{nat_tests}
 use Rattle.std.proofs.lemmas.List.{length-replicate}
 use Rattle.heap_words.specs.declared.name.Name.{Name}
 use Rattle.heap_words.specs.declared.spot.Spot.{Spot}
-use Rattle.heap_model.specs.declared.id.Id.{Id}
-use Rattle.heap_model.specs.graph.Graph.{fresh, unset}
-use Rattle.heap_words.specs.Newborn.{record_word_of, array_word_of}
-use Rattle.core_rule.specs.Objects.{field_word, is_cell, record_object_word, array_object_word, object_word}
+use Rattle.core_rule.proofs.Terms.{Id, fresh, unset, record_word_of, array_word_of, field_word, is_cell, record_object_word, array_object_word, object_word}
 
 -- the words of a record or an array of so many cells that were never set
 abbrev pub fresh_word : Bool → Name → ℕ → Spot → List ℕ → ℕ → ℕ → ℕ

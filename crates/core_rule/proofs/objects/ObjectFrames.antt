@@ -1,17 +1,9 @@
 -- The objects stand as before where no word of a kept fragment or of a kept array's spine changes, and the same fragments are kept.
 use Rattle.std.proofs.Common.{◌≡◌, ◌≢◌, ℕ, ◌*◌, ◌<◌, ◌≤◌, List, length, ◌∙◌, subst, sym}
 use Rattle.heap_words.specs.declared.spot.Spot.{Spot}
-use Rattle.heap_model.specs.declared.heap.Heap.{Heap}
-use Rattle.heap_model.specs.declared.id.Id.{Id}
-use Rattle.heap_model.specs.declared.id.Value.{Value}
+use Rattle.core_rule.proofs.Terms.{Heap, Id, Value, Graph, spine_words_of, Word, Control, tally, at, put, spine_place, NamesKept, IsKept, Objects, node_at, Owner, Free, Taken}
+use Rattle.core_rule.proofs.Terms.{Borne, Kept, owner_after}
 use Rattle.heap_model.specs.declared.id.Value.TheVariants as values
-use Rattle.heap_model.specs.graph.Graph.{Graph}
-use Rattle.heap_model.specs.graph.Sizes.{spine_words_of}
-use Rattle.core_machine.specs.declared.table.address.Address.TheVariants.{Word, Control}
-use Rattle.core_machine.specs.table.Fragments.{tally}
-use Rattle.core_machine.specs.table.Layout.{at, put, spine_place}
-use Rattle.core_rule.specs.Objects.{NamesKept, IsKept, Objects, node_at}
-use Rattle.core_rule.specs.Owners.{Owner, Free, Taken, Borne, Kept, owner_after}
 use Rattle.core_rule.proofs.words.Addresses.{word_after_control, fragment_other, spines_after_control, spines_after_word}
 use Rattle.core_rule.proofs.owners.Handed.{handed_cases}
 

@@ -5,14 +5,9 @@ use Rattle.std.proofs.lemmas.Bool.Decides.{eqb_tells}
 use Rattle.heap_words.specs.declared.name.Name.{Name}
 use Rattle.heap_words.specs.declared.spot.Spot.{Spot}
 use Rattle.heap_words.specs.Name.{name_word}
-use Rattle.heap_words.specs.Spot.{spot_word}
+use Rattle.core_rule.proofs.Terms.{spot_word, Id, Node, record_meta, link_after, record_word_of, array_meta, sentinel_word_of, row_of, part_of, value_word, field_word, is_cell}
+use Rattle.core_rule.proofs.Terms.{record_object_word, array_object_word, object_word, row_in, field_part}
 use Rattle.heap_model.specs.declared.graph.cell.Cell.{Cell}
-use Rattle.heap_model.specs.declared.id.Id.{Id}
-use Rattle.heap_model.specs.graph.Graph.{Node}
-use Rattle.heap_words.specs.Newborn.{record_meta, link_after, record_word_of, array_meta, sentinel_word_of}
-use Rattle.core_machine.specs.seat.Access.{row_of, part_of}
-use Rattle.core_rule.specs.Objects.{value_word, field_word, is_cell, record_object_word, array_object_word, object_word}
-use Rattle.core_rule.specs.Ways.{row_in, field_part}
 use Rattle.core_rule.proofs.graph.SameNodes.{node_cases}
 use Rattle.core_rule.proofs.ways.Rows.{field_back, cell_there, cell_back}
 

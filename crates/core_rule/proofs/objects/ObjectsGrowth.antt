@@ -5,20 +5,9 @@ use Rattle.std.proofs.lemmas.Bool.Decides.{nat_tests}
 use Rattle.std.proofs.lemmas.Option.{slice_get_within}
 use Rattle.std.proofs.lemmas.List.{length-replicate}
 use Rattle.heap_words.specs.declared.spot.Spot.{Spot}
-use Rattle.heap_model.specs.declared.id.Id.TheVariants.{Board}
+use Rattle.core_rule.proofs.Terms.{Board, Heap, Id, record_fragments, array_fragments, array_words, node, Graph, Node, fresh, unset, Word, tally, at, spine_place, spine_word}
+use Rattle.core_rule.proofs.Terms.{fragment_at, id_at, object_head, AreMade, IsKept, IsSized, NamesKept, KeptObject, Objects, node_in, node_at, cells_at, name_of, Owner, Kept}
 use Rattle.heap_model.specs.declared.graph.cell.Cell.{Cell}
-use Rattle.heap_model.specs.declared.heap.Heap.{Heap}
-use Rattle.heap_model.specs.declared.id.Id.{Id}
-use Rattle.heap_model.specs.Needs.{record_fragments, array_fragments, array_words}
-use Rattle.heap_model.specs.graph.Objects.{node}
-use Rattle.heap_model.specs.graph.Graph.{Graph, Node, fresh, unset}
-use Rattle.core_machine.specs.declared.table.address.Address.TheVariants.{Word}
-use Rattle.core_machine.specs.table.Fragments.{tally}
-use Rattle.core_machine.specs.table.Layout.{at, spine_place}
-use Rattle.heap_words.specs.Newborn.{spine_word}
-use Rattle.core_rule.specs.Book.{fragment_at, id_at, object_head}
-use Rattle.core_rule.specs.Objects.{AreMade, IsKept, IsSized, NamesKept, KeptObject, Objects, node_in, node_at, cells_at, name_of}
-use Rattle.core_rule.specs.Owners.{Owner, Kept}
 use Rattle.core_rule.proofs.graph.IdsGrowth.{OneMore, old_or_new, node_before}
 use Rattle.core_rule.proofs.owners.Keeping.{kept_by, with_object, object_new, object_old, kept_stays, kept_part, kept_back}
 use Rattle.core_rule.proofs.objects.NamesGrowth.{old_apart, kept_old, kept_before, kept_new, names_old, words_old}

@@ -4,17 +4,8 @@ use Rattle.std.proofs.lemmas.Bool.{cases_eq}
 use Rattle.std.proofs.lemmas.List.{length-set}
 use Rattle.heap_words.specs.declared.spot.Spot.{Spot}
 use Rattle.heap_model.specs.declared.graph.cell.Cell.{Cell}
-use Rattle.heap_model.specs.declared.heap.Heap.{Heap}
-use Rattle.heap_model.specs.declared.id.Id.{Id}
-use Rattle.heap_model.specs.graph.Changes.{with_cell}
-use Rattle.heap_model.specs.graph.Objects.{node}
-use Rattle.heap_model.specs.graph.Graph.{Graph, Node}
-use Rattle.core_machine.specs.declared.table.address.Address.TheVariants.{Word}
-use Rattle.core_machine.specs.table.Layout.{at, put, table_length}
-use Rattle.core_rule.specs.Book.{fragment_at, id_at, object_head, object_number}
-use Rattle.core_rule.specs.Objects.{AreMade, IsKept, IsSized, NamesKept, KeptObject, Objects, node_in, node_at, cells_at, name_of, value_word, object_word}
-use Rattle.core_rule.specs.Owners.{Owner, Kept}
-use Rattle.core_rule.specs.Ways.{row_in, field_part}
+use Rattle.core_rule.proofs.Terms.{Heap, Id, with_cell, node, Graph, Node, Word, at, put, table_length, fragment_at, id_at, object_head, object_number, AreMade, IsKept, IsSized}
+use Rattle.core_rule.proofs.Terms.{NamesKept, KeptObject, Objects, node_in, node_at, cells_at, name_of, value_word, object_word, Owner, Kept, row_in, field_part}
 use Rattle.core_rule.proofs.words.Addresses.{control_after_word, fragment_other, part_other, word_same, spines_after_word}
 use Rattle.core_rule.proofs.graph.CellSet.{Sets, slice_get-set_same, slice_get-set_other}
 use Rattle.core_rule.proofs.graph.SameNodes.{made_node, SameShape, shape_same, shape_words, shape_fragments}

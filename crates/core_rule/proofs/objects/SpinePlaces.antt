@@ -1,17 +1,7 @@
 -- The place of a kept array's spine fits into a word, and so does that of each spine word which is somebody's.
 use Rattle.std.proofs.Common.{◌≡◌, ◌≢◌, ℕ, ◌+◌, ◌^◌, ◌<◌, true, inl, inr, length, sym, ◌∙◌, arith}
-use Rattle.heap_model.specs.declared.heap.Heap.{Heap}
+use Rattle.core_rule.proofs.Terms.{Heap, graph_of, spine_words_of, State, FitsSpot, Book, HalvesStand, IsKept, node_at, SpineOwner, Open, Spined, Rule, SpinesStand, next_spine}
 use Rattle.heap_model.specs.Heap.{IsHeap}
-use Rattle.heap_model.specs.account.Cycles.{graph_of}
-use Rattle.heap_model.specs.graph.Sizes.{spine_words_of}
-use Rattle.core_machine.specs.machine.Machine.{State}
-use Rattle.core_machine.specs.table.Layout.{FitsSpot}
-use Rattle.core_rule.specs.Book.{Book}
-use Rattle.core_rule.specs.Halves.{HalvesStand}
-use Rattle.core_rule.specs.Objects.{IsKept, node_at}
-use Rattle.core_rule.specs.Owners.{SpineOwner, Open, Spined}
-use Rattle.core_rule.specs.Rule.{Rule}
-use Rattle.core_rule.specs.Spines.{SpinesStand, next_spine}
 use Rattle.core_rule.proofs.ways.KeptWords.{array_has_words}
 
 -- what is an object's is somebody's

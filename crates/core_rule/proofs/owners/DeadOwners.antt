@@ -3,11 +3,8 @@ use Rattle.std.specs.Int.{bit_at}
 use Rattle.std.proofs.Common.{◌≡◌, ◌≢◌, ℕ, ◌+◌, ◌*◌, ◌/◌, ◌%◌, ◌^◌, ◌<◌, ◌≤◌, List, refl, ◌∙◌, sym, ap, subst, arith, inl, inr}
 use Rattle.std.proofs.lemmas.Bool.Decides.{eqb_tells}
 use Rattle.std.proofs.lemmas.Nat.Bits.{bit_at-zero}
-use Rattle.core_machine.specs.table.Fragments.{tally}
-use Rattle.core_rule.specs.Book.{Colour}
-use Rattle.core_rule.specs.Marking.{AfterMarking}
-use Rattle.core_rule.specs.Sweep.{AreFreed, AreDead}
-use Rattle.core_rule.specs.Owners.{Owner, Free, Kept, Dead, born_bit, dead_bit, IsSeated, IsBoards, OwnersStand, holds_bit, bears_bit, owner_after}
+use Rattle.core_rule.proofs.Terms.{taken_at, tally, Colour, AfterMarking, AreFreed, AreDead, Owner, Free, Kept, Dead, born_bit, dead_bit, IsSeated, IsBoards, OwnersStand}
+use Rattle.core_rule.proofs.Terms.{holds_bit, bears_bit, owner_after}
 use Rattle.core_rule.proofs.hand.HandMoves.{SameHand}
 use Rattle.core_rule.proofs.objects.ObjectFrames.{SameKept, handed_kept, free_keeps_none}
 use Rattle.core_rule.proofs.owners.Handed.{handed_cases, handed_in, stays, dead_unhanded}
@@ -59,10 +56,10 @@ module _ (owner : ℕ → Owner) (fs : List ℕ) (dead : (f : ℕ) → 1 ≤ tal
 
 module _ (owner : ℕ → Owner) (group bits : ℕ) (small : bits < 2 ^ 16) (are : AreDead owner group bits) where
   -- a fragment of the group has its bit
-  pub dead_told : (f : ℕ) → f / 16 ≡ group → bit_at bits (f % 16) ≡ dead_bit (owner f)
+  pub dead_told : (f : ℕ) → f / 16 ≡ group → bit_at bits (taken_at f) ≡ dead_bit (owner f)
   dead_told f here =
       let place : 16 * group + f % 16 ≡ f = omega (arith, here) in
-      subst (λ x. bit_at bits (f % 16) ≡ dead_bit (owner x)) place (are (f % 16) (omega arith))
+      subst (λ x. bit_at bits (taken_at f) ≡ dead_bit (owner x)) place (are (f % 16) (omega arith))
 
   -- those whose bits are set are to be freed
   pub set_dead : (f : ℕ) → 1 ≤ tally f (set_in group bits) → dead_bit (owner f) ≡ 1
@@ -86,6 +83,6 @@ module _ (owner : ℕ → Owner) (group bits : ℕ) (small : bits < 2 ^ 16) (are
     | inr before ↦ freed f i k (omega (arith, below, before.1)) is
     | inl here ↦
         let was : dead_bit (owner f) ≡ 1 = ap dead_bit is in
-        let zero : bit_at bits (f % 16) ≡ 0 = rw none (bit_at-zero (f % 16)) in
+        let zero : bit_at bits (taken_at f) ≡ 0 = rw none (bit_at-zero (f % 16)) in
         omega (arith, was, dead_told f here.1, zero)
   ]

@@ -1,9 +1,7 @@
 -- Fragments that go to another owner.
 use Rattle.std.proofs.Common.{◌≡◌, ℕ, ◌+◌, ◌<◌, ◌≤◌, ◌⊎◌, inl, inr, List, length, refl, arith, ◌≢◌}
 use Rattle.std.proofs.lemmas.Bool.Decides.{nat_tests}
-use Rattle.core_machine.specs.table.Fragments.{tally}
-use Rattle.core_machine.specs.machine.Sums.{sum_upto}
-use Rattle.core_rule.specs.Owners.{Owner, owner_after, Dead}
+use Rattle.core_rule.proofs.Terms.{tally, sum_upto, Owner, owner_after, Dead}
 use Rattle.core_rule.proofs.lists.SumLemmas.{sum_plus}
 use Rattle.core_rule.proofs.lists.Tallies.{sum_tally}
 

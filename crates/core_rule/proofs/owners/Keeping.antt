@@ -1,9 +1,7 @@
 -- A new object gets its fragments, which its maker had.
 use Rattle.std.proofs.Common.{◌≡◌, ◌≢◌, ℕ, ◌<◌, ◌≤◌, ◌==◌, if◌then◌else◌, nat_lt, ◌⊎◌, inl, inr, List, length, sym, ap, ◌∙◌, subst, arith}
 use Rattle.std.proofs.lemmas.Bool.Decides.{nat_tests}
-use Rattle.core_machine.specs.table.Fragments.{tally}
-use Rattle.core_rule.specs.Book.{fragment_at}
-use Rattle.core_rule.specs.Owners.{Owner, Kept, Dead}
+use Rattle.core_rule.proofs.Terms.{tally, fragment_at, Owner, Kept, Dead}
 use Rattle.core_rule.proofs.owners.Handed.{none_or_some}
 use Rattle.core_rule.proofs.lists.Members.{place_of, tally_at, place_within, place_of-at}
 

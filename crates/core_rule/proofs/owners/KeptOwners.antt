@@ -1,14 +1,8 @@
 -- Whose the fragments are once a seat's object keeps its own.
 use Rattle.std.specs.List.{list_all}
 use Rattle.std.proofs.Common.{◌≡◌, ◌≢◌, ℕ, ◌+◌, ◌≤◌, List, [], length, refl, sym, ap, arith, ◌<◌, Bool, true, bit_or, ◌∙◌}
-use Rattle.heap_model.specs.declared.heap.Heap.{Heap}
-use Rattle.core_machine.specs.declared.table.address.Address.TheVariants.{Control}
-use Rattle.core_machine.specs.table.Fragments.{tally, in_group, part_in, mask_of}
-use Rattle.core_machine.specs.table.Layout.{at, put, table_length}
-use Rattle.core_machine.specs.table.Operation.{birth_bits_of}
-use Rattle.core_rule.specs.ControlWords.{Bits}
-use Rattle.core_rule.specs.Holding.{Holding}
-use Rattle.core_rule.specs.Owners.{Owner, Free, taken_bit, free_bit, born_bit, holds_bit, bears_bit}
+use Rattle.core_rule.proofs.Terms.{Heap, Control, tally, in_group, part_in, mask_of, at, put, table_length, birth_bits_of, Bits, Holding, Owner, Free, taken_bit, free_bit}
+use Rattle.core_rule.proofs.Terms.{born_bit, holds_bit, bears_bit}
 use Rattle.core_rule.proofs.hand.Bodies.{body_borne, body_once, body_own}
 use Rattle.core_rule.proofs.words.ControlSteps.{birth_word_bits}
 use Rattle.core_rule.proofs.hand.HandMoves.{SameHand, hand_once, hand_held}

@@ -1,7 +1,6 @@
 -- Owners stand as they have to when fragments go to another one.
 use Rattle.std.proofs.Common.{ℕ, ◌≤◌, List}
-use Rattle.core_machine.specs.table.Fragments.{tally}
-use Rattle.core_rule.specs.Owners.{Owner, IsSeated, IsBoards, OwnersStand, owner_after}
+use Rattle.core_rule.proofs.Terms.{tally, Owner, IsSeated, IsBoards, OwnersStand, owner_after}
 use Rattle.core_rule.proofs.owners.Handed.{handed_cases}
 use Rattle.core_rule.proofs.owners.Keeping.{kept_by, kept_cases}
 

@@ -1,6 +1,6 @@
 -- What the bits of an owner tell.
 use Rattle.std.proofs.Common.{◌≡◌, ◌≢◌, ℕ, zero, suc, ◌+◌, ◌-◌, ◌≤◌, refl, sym, ap, ◌∙◌, arith}
-use Rattle.core_rule.specs.Owners.{Owner, Free, Taken, Borne, Kept, Dead, IsBoards, taken_bit, free_bit, born_bit, holds_bit, bears_bit, dead_bit}
+use Rattle.core_rule.proofs.Terms.{Owner, Free, Taken, Borne, Kept, Dead, IsBoards, taken_bit, free_bit, born_bit, holds_bit, bears_bit, dead_bit}
 use Rattle.core_rule.proofs.lists.Tallies.{one_at_some, one_at_bit}
 
 -- what isn't taken is nobody's

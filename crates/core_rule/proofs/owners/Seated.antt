@@ -1,12 +1,6 @@
 -- What a seat has by its owner stands in the lists of a seat that there is.
 use Rattle.std.proofs.Common.{◌≡◌, ℕ, ◌+◌, ◌<◌, ◌≤◌, List, [], ◌∷◌, refl, ap, ◌∙◌, subst, arith}
-use Rattle.heap_model.specs.declared.heap.Heap.{Heap}
-use Rattle.core_machine.specs.table.Fragments.{tally}
-use Rattle.core_machine.specs.machine.Machine.{State, seat_at}
-use Rattle.core_rule.specs.Book.{Book}
-use Rattle.core_rule.specs.Holding.{Holding}
-use Rattle.core_rule.specs.Owners.{Owner, Taken, Borne, IsSeated, holds_bit, bears_bit}
-use Rattle.core_rule.specs.Rule.{Rule}
+use Rattle.core_rule.proofs.Terms.{Heap, tally, State, seat_at, Book, Holding, Owner, Taken, Borne, IsSeated, holds_bit, bears_bit, Rule}
 use Rattle.core_rule.proofs.hand.Bodies.{body_borne}
 use Rattle.core_rule.proofs.hand.HandMoves.{bears_nothing}
 use Rattle.core_rule.proofs.lists.Tallies.{one_at_same}

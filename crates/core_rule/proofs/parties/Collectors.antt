@@ -2,11 +2,8 @@
 use Rattle.std.proofs.Common.{◌≡◌, ◌≤◌, true, List, [], ◌∷◌, length, filter, refl, ap, arith}
 use Rattle.std.proofs.lemmas.List.Sums.{sum_by-cons}
 use Rattle.std.specs.List.{AllByRecursion}
-use Rattle.heap_model.specs.declared.entry.Entry.{Entry}
-use Rattle.heap_model.specs.declared.entry.Entry.TheVariants.{Advance}
-use Rattle.heap_model.specs.account.Effects.{effect_of}
+use Rattle.core_rule.proofs.Terms.{Entry, Advance, effect_of, phase}
 use Rattle.heap_model.specs.account.Noting.{is_collectors}
-use Rattle.heap_model.specs.account.PhaseCounts.{phase}
 
 -- none of them is another's
 pub all_collectors : (added : List Entry) → AllByRecursion (λ entry. is_collectors entry ≡ true) added → filter is_collectors added ≡ added

@@ -3,10 +3,9 @@ use Rattle.std.proofs.Common.{ℕ, ◌≤◌, List, length, inl, inr, arith}
 use Rattle.std.proofs.lemmas.Bool.Decides.{eqb_tells}
 use Rattle.heap_model.specs.declared.calls.collect.Inner.{Inner}
 use Rattle.heap_model.specs.declared.calls.collect.Inner.TheVariants as inners
-use Rattle.heap_model.specs.declared.heap.Heap.{Heap}
+use Rattle.core_rule.proofs.Terms.{Heap, at}
 use Rattle.core_machine.specs.declared.table.address.Address.TheVariants.{Phase}
 use Rattle.core_machine.specs.machine.InnerCalls.{inner_entries}
-use Rattle.core_machine.specs.table.Layout.{at}
 
 -- it tells one entry at most
 pub few_told : (heap : Heap) (words : List ℕ) (number answered : ℕ) (inner : Inner) → length (inner_entries heap words number answered inner) ≤ 1

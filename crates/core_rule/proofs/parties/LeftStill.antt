@@ -3,9 +3,7 @@ use Rattle.std.proofs.Common.{◌≡◌, ℕ, Bool, true, List, [], ◌∷◌, �
 use Rattle.std.specs.List.{list_any}
 use Rattle.std.proofs.lemmas.Bool.{cond-true, or_right, or_left}
 use Rattle.std.proofs.lemmas.List.Folds.{list_any-append}
-use Rattle.heap_model.specs.declared.entry.Entry.{Entry}
-use Rattle.heap_model.specs.account.PhaseCounts.{has_left, is_leave_of}
-use Rattle.heap_model.specs.account.Windows.{up_to_last}
+use Rattle.core_rule.proofs.Terms.{Entry, has_left, is_leave_of, up_to_last}
 
 -- who has left stays so
 pub left_still : (number : ℕ) (front behind : List Entry) → has_left number front ≡ true → has_left number (front ++ behind) ≡ true

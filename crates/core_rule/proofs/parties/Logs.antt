@@ -2,13 +2,8 @@
 use Rattle.std.proofs.Common.{◌≡◌, ℕ, ◌<◌, ◌≤◌, List, [], ◌∷◌, ◌++◌, length, drop, refl, sym, ap, ◌∙◌, length-append, arith}
 use Rattle.std.proofs.lemmas.Bool.{ne_eqb, eq-eqb}
 use Rattle.std.proofs.Math.Seq.{drop-append_seam}
-use Rattle.heap_model.specs.declared.command.Command.{Command}
-use Rattle.heap_model.specs.declared.entry.Entry.{Entry}
-use Rattle.heap_model.specs.declared.entry.Entry.TheVariants.{Said}
-use Rattle.heap_model.specs.declared.reply.Reply.{Reply}
+use Rattle.core_rule.proofs.Terms.{Command, Entry, Said, Reply, seat_at, MachineValue, log_of}
 use Rattle.core_machine.specs.machine.Calls.{PlaysCall}
-use Rattle.core_machine.specs.machine.Machine.{seat_at}
-use Rattle.core_machine.specs.machine.Value.{MachineValue, log_of}
 use Rattle.core_rule.proofs.parties.OneSeat.{after_call}
 
 -- a seat's log is its own list

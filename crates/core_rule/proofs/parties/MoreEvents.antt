@@ -1,9 +1,6 @@
 -- Events that come after others.
 use Rattle.std.proofs.Common.{◌≡◌, List, [], ◌∷◌, ◌++◌, refl, sym, ap, ◌∙◌, append_assoc}
-use Rattle.heap_model.specs.declared.heap.Heap.{Heap}
-use Rattle.heap_model.specs.declared.entry.Entry.{Entry}
-use Rattle.core_machine.specs.machine.Machine.{State, Event, state_after, entries, Run, state_after_all, history}
-use Rattle.core_rule.specs.Laws.{OneCallAtATime}
+use Rattle.core_rule.proofs.Terms.{Heap, Entry, State, Event, state_after, entries, Run, state_after_all, history, OneCallAtATime}
 
 pub Run-append : (heap : Heap) (state : State) (events more : List Event) → Run heap state events → Run heap (state_after_all heap state events) more → Run heap state (events ++ more)
 Run-append heap state [] more run then_ = then_

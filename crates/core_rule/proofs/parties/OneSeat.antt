@@ -1,16 +1,11 @@
 -- A call changes its own seat alone.
 use Rattle.std.proofs.Common.{◌≡◌, ◌≢◌, ℕ, zero, suc, length, Option, None, Some, refl, ap, ◌∙◌, replicate, subst, sym, arith}
 use Rattle.std.proofs.lemmas.List.{get_or-set_other, length-set}
-use Rattle.heap_model.specs.declared.heap.Heap.{Heap}
-use Rattle.heap_model.specs.declared.command.Command.{Command}
-use Rattle.heap_model.specs.declared.reply.Reply.{Reply}
+use Rattle.core_rule.proofs.Terms.{Heap, Command, Reply, State, seat_at, Begins, BeginsInner, Steps, state_after_due, state_after, state_after_all, Move, next_move, absent_seat}
+use Rattle.core_rule.proofs.Terms.{IsAlone, NotesNow, OneCallAtATime}
 use Rattle.core_machine.specs.machine.Calls.{call_events, PlaysCall}
 use Rattle.heap_model.specs.declared.calls.collect.Inner.{Inner}
 use Rattle.core_machine.specs.machine.InnerCalls.{inner_events, PlaysInner}
-use Rattle.core_machine.specs.machine.Machine.{State, seat_at, Begins, BeginsInner, Steps, state_after_due, state_after, state_after_all}
-use Rattle.core_machine.specs.Moves.{Move, next_move}
-use Rattle.core_machine.specs.seat.Seat.{absent_seat}
-use Rattle.core_rule.specs.Laws.{IsAlone, NotesNow, OneCallAtATime}
 
 -- a state with the same seats but for one, and the same collector
 pub record SameBut (number : ℕ) (old new : State) : Type 0 where

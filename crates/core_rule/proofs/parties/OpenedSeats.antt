@@ -1,12 +1,9 @@
 -- The seats of a machine that has just been opened.
 use Rattle.std.proofs.Common.{◌≡◌, ℕ, ◌<◌, List, length, refl, sym, ap, subst, ◌∙◌, arith}
 use Rattle.std.proofs.lemmas.List.FromFn.{length-map-range_with_len, get_or-map-range_with_len}
-use Rattle.heap_model.specs.declared.heap.Heap.{Heap}
+use Rattle.core_rule.proofs.Terms.{Heap, State, seat_at, Seat, absent_seat, AllIdle}
 use Rattle.core_machine.specs.declared.place.Place.TheVariants.{Idle}
-use Rattle.core_machine.specs.machine.Machine.{State, seat_at}
 use Rattle.core_machine.specs.machine.Opening.{IsOpening, opening_seat}
-use Rattle.core_machine.specs.seat.Seat.{Seat, absent_seat}
-use Rattle.core_rule.specs.Laws.{AllIdle}
 
 -- each of its seats is as at the opening
 pub opening_seats : (heap : Heap) (state : State) → IsOpening heap state → (P : Seat → Type 0) → (number : ℕ) → number < heap.seats → P (opening_seat heap number) → P (seat_at state number)

@@ -1,25 +1,14 @@
 -- What the rule says of a machine whose seat has no call in flight, by the entries so far.
 use Rattle.std.proofs.Common.{◌≡◌, ℕ, ◌+◌, ◌<◌, ◌≤◌, false, List, [], length, refl, sym, ap, subst, ◌∙◌, arith}
-use Rattle.heap_model.specs.declared.heap.Heap.{Heap}
-use Rattle.heap_model.specs.declared.command.Command.{Command}
+use Rattle.core_rule.proofs.Terms.{Heap, Command, Entry, graph_of, phase, last_answer, has_left, fragments_gained, fragments_lost, taken_of, spent_of, words_granted}
+use Rattle.core_rule.proofs.Terms.{words_returned, graph_seat, Budget, State, seat_at, IsAtRest, FitsPlace, Seat, HasNumberLeft, at, StandsFor, AllIdle, WordsAreUsed}
+use Rattle.core_rule.proofs.Terms.{fragments_in_hand, answer_word}
 use Rattle.heap_model.specs.declared.command.Command.TheVariants as commands
-use Rattle.heap_model.specs.declared.entry.Entry.{Entry}
-use Rattle.heap_model.specs.account.Cycles.{graph_of}
-use Rattle.heap_model.specs.account.PhaseCounts.{phase, last_answer, has_left}
-use Rattle.heap_model.specs.account.Space.{fragments_gained, fragments_lost, taken_of, spent_of, words_granted, words_returned}
 use Rattle.heap_model.specs.calls.SeatCalls.{HasNumber}
-use Rattle.heap_model.specs.graph.Objects.{graph_seat}
 use Rattle.core_machine.specs.declared.place.Place.TheVariants.{Idle}
-use Rattle.core_machine.specs.declared.table.address.Address.TheVariants.{Phase, Answer, Budget}
+use Rattle.core_machine.specs.declared.table.address.Address.TheVariants.{Phase, Answer}
 use Rattle.core_machine.specs.machine.Calls.{IsPhaseNear}
-use Rattle.core_machine.specs.machine.Machine.{State, seat_at}
-use Rattle.core_machine.specs.seat.Fits.{IsAtRest, FitsPlace}
-use Rattle.core_machine.specs.seat.Seat.{Seat, HasNumberLeft}
-use Rattle.core_machine.specs.table.Layout.{at}
 use Rattle.core_rule.proofs.told.NearPhases.{phase_told}
-use Rattle.core_rule.specs.Laws.{StandsFor, AllIdle, WordsAreUsed}
-use Rattle.core_rule.specs.Holding.{fragments_in_hand}
-use Rattle.core_rule.specs.Phases.{answer_word}
 
 module _ (heap : Heap) (state : State) (told : List Entry) (s : StandsFor heap state [] told) where
   -- the phase word is the phase

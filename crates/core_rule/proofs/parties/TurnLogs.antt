@@ -2,16 +2,11 @@
 use Rattle.std.proofs.Common.{◌≡◌, ℕ, ◌+◌, ◌≤◌, List, [], ◌∷◌, ◌++◌, length, drop, filter, None, inl, inr, refl, sym, ap, ◌∙◌, length-append, arith}
 use Rattle.std.proofs.Math.Seq.{drop-append_seam}
 use Rattle.std.proofs.lemmas.List.Elements.{filter-append}
-use Rattle.heap_model.specs.declared.entry.Entry.{Entry}
-use Rattle.heap_model.specs.declared.entry.Entry.TheVariants.{Ends}
+use Rattle.core_rule.proofs.Terms.{Entry, Ends, phase, State, Turns, Can, state_after, entries, MachineValue, log_of, StandsFor, EachEventKeeps, EachTurnComesTo}
 use Rattle.heap_model.specs.account.Noting.{is_collectors}
-use Rattle.heap_model.specs.account.PhaseCounts.{phase}
 use Rattle.heap_model.specs.declared.calls.collector_calls.Turn.{Turn}
 use Rattle.heap_model.specs.declared.calls.collector_calls.Turn.TheVariants as turns
 use Rattle.heap_model.specs.calls.CollectorCalls.{CollectorState, ComesTo}
-use Rattle.core_machine.specs.machine.Machine.{State, Turns, Can, state_after, entries}
-use Rattle.core_machine.specs.machine.Value.{MachineValue, log_of}
-use Rattle.core_rule.specs.Laws.{StandsFor, EachEventKeeps, EachTurnComesTo}
 use Rattle.core_rule.proofs.parties.Collectors.{all_collectors}
 use Rattle.core_rule.proofs.parties.Logs.{log_of_collector}
 
@@ -24,6 +19,7 @@ few_added old new (turns.Ended cycle kept) comes = omega (arith, ap (length {A =
 
 -- the log has the turn's entries more, and these are one at most
 pub record TurnFacts (one two : MachineValue) (party : ℕ) : Type 0 where
+  pub last : length one.state.seats ≡ party
   pub longer : length (log_of one party) ≤ length (log_of two party)
   pub told : drop (length (log_of one party)) (log_of two party) ≡ entries one.heap one.state Turns
   pub few : length (entries one.heap one.state Turns) ≤ 1
@@ -46,6 +42,7 @@ turn_facts keeps each one two told party s can after is =
     let logs : log_of two party ≡ log_of one party ++ added = two_log ∙ more ∙ ap (λ es. es ++ added) (sym one_log) in
     let many = ap (length {A = Entry}) more ∙ length-append one.state.collector.log added in
     record {
+      last = sym is;
       longer = omega (arith, ap (length {A = Entry}) logs, length-append (log_of one party) added);
       told = rw logs (drop-append_seam (log_of one party) added);
       few = omega (arith, few_added old new _ comes.1, many);

@@ -2,14 +2,10 @@
 use Rattle.std.specs.Prelude.{if◌then◌else◌}
 use Rattle.std.proofs.Common.{◌≡◌, ℕ, suc, ◌+◌, ◌-◌, ◌^◌, ◌<◌, ◌≤◌, min, Bool, true, false, List, [], ◌∷◌, inl, inr, ap, ◌∙◌, arith}
 use Rattle.std.proofs.lemmas.Bool.Decides.{leb_tells}
-use Rattle.heap_model.specs.declared.heap.Heap.{Heap}
+use Rattle.core_rule.proofs.Terms.{Heap, State, seat_at, Event, state_after, Run, state_after_all, Seat, Book, EachEventKeeps}
 use Rattle.heap_model.specs.Heap.{IsHeap}
 use Rattle.core_machine.specs.machine.Opening.{IsOpening}
-use Rattle.core_machine.specs.machine.Machine.{State, seat_at, Event, state_after, Run, state_after_all}
-use Rattle.core_machine.specs.seat.Seat.{Seat}
-use Rattle.core_rule.specs.Book.{Book}
-use Rattle.core_rule.specs.Finds.{CountsFind, is_find, finds_in, WaitsAreFinds}
-use Rattle.core_rule.specs.Laws.{EachEventKeeps}
+use Rattle.core_rule.specs.looks.Finds.{CountsFind, is_find, finds_in, WaitsAreFinds}
 use Rattle.core_rule.specs.Stands.{Stands}
 use Rattle.core_rule.proofs.looks.Finds.{event_follows}
 use Rattle.core_rule.proofs.runs.OpeningStands.{opening_seat_at}

@@ -3,37 +3,27 @@ use Rattle.std.specs.List.{AllByRecursion}
 use Rattle.std.proofs.Common.{◌≡◌, ℕ, ◌+◌, ◌<◌, true, inl, inr, List, [], ◌∷◌, ◌++◌, length, refl, sym, ap, ◌∙◌, subst, append_assoc, arith}
 use Rattle.std.proofs.lemmas.Bool.{eq-eqb}
 use Rattle.std.proofs.lemmas.List.{get_or-set_same, get_or-set_other}
-use Rattle.heap_model.specs.account.Effects.{effect_of}
+use Rattle.core_rule.proofs.Terms.{effect_of, taken_of, spent_of, words_granted, words_returned, Command, Entry, Heap, Withdrawing, State, seat_at, Event, Begins, BeginsInner}
+use Rattle.core_rule.proofs.Terms.{Steps, Turns, Can, Run, state_after, after_begin, entries, history, next_move, FitsPlace, IsAtRest, Seat, absent_seat, Book, IsAlone, Rule}
 use Rattle.heap_model.specs.account.Noting.{is_collectors}
-use Rattle.heap_model.specs.account.Space.{taken_of, spent_of, words_granted, words_returned}
-use Rattle.heap_model.specs.declared.command.Command.{Command}
-use Rattle.heap_model.specs.declared.entry.Entry.{Entry}
 use Rattle.heap_model.specs.declared.entry.Entry.TheVariants as entries
-use Rattle.heap_model.specs.declared.heap.Heap.{Heap}
-use Rattle.core_machine.specs.declared.place.Making.TheVariants.{Withdrawing}
 use Rattle.core_machine.specs.declared.place.Place.TheVariants as places
 use Rattle.core_machine.specs.machine.Calls.{within_reach}
-use Rattle.core_machine.specs.machine.Machine.{State, seat_at, Event, Begins, BeginsInner, Steps, Turns, Can, Run, state_after, after_begin, entries, history}
-use Rattle.core_machine.specs.Moves.{next_move}
-use Rattle.core_machine.specs.seat.Fits.{FitsPlace, IsAtRest}
-use Rattle.core_machine.specs.seat.Seat.{Seat, absent_seat}
 use Rattle.core_machine.proofs.machine_lemmas.Runs.{machine_after}
-use Rattle.core_rule.specs.LoneLaws.{IsOfSeat, ShowsWhatWas, EachLoneRefusalIsRight}
-use Rattle.core_rule.specs.Book.{Book}
-use Rattle.core_rule.specs.Laws.{IsAlone}
-use Rattle.core_rule.specs.Rule.{Rule}
+use Rattle.core_rule.specs.runs.LoneLaws.{IsOfSeat, ShowsWhatWas, EachLoneRefusalIsRight}
 use Rattle.core_rule.specs.Stands.{Stands}
 use Rattle.core_rule.proofs.counts.FreeSums.{free_is_unused}
 use Rattle.core_rule.proofs.entries.AtRest.{seat_fits}
 use Rattle.core_rule.proofs.entries.Begins.{begins}
 use Rattle.core_rule.proofs.entries.InFlight.{is_busy}
-use Rattle.core_rule.proofs.footprint.EndsRightly.{ends_rightly}
+use Rattle.core_rule.proofs.sweep_exact.EndsRightly.{ends_rightly}
 use Rattle.core_rule.proofs.footprint.SeatCycle.{step_cycle, begin_cycle}
 use Rattle.core_rule.proofs.footprint.TurnCycle.{turn_cycle}
 use Rattle.core_rule.proofs.hand.Bodies.{bare_hand}
 use Rattle.core_rule.proofs.looks.Origins.{IsUsual, begin_usual}
 use Rattle.core_rule.proofs.runs.ComingTurns.{turn_collects}
-use Rattle.core_rule.proofs.runs.LoneEntries.{IsNoOthers, all_append, all_mapped, IsShown, shown_at}
+use Rattle.core_rule.proofs.runs.LoneEntries.{IsNoOthers, all_append, all_mapped, IsShown, all_shown}
+use Rattle.core_rule.proofs.steps.Seats.{step_kind}
 use Rattle.core_rule.proofs.runs.LoneRefusals.{grown_total, unmade, GoesAlone, WasWithin, shows_rightly}
 use Rattle.core_rule.proofs.runs.PlayNotes.{step_tells}
 use Rattle.core_rule.proofs.runs.PlayRuns.{moved_other}
@@ -59,7 +49,7 @@ module _ (heap : Heap) (number : ℕ) (before : List Entry) (here : number < hea
         let now : State = state_after heap state (Steps number) in
         let es : List Entry = entries heap state (Steps number) in
         let keeps = each_step_keeps heap state book number rule here (goes.stands.looks number here) (machine_after heap state (Steps number) rule.machine can) in
-        let shown : AllByRecursion (IsShown number seat) es = shown_at heap state number seat.place refl in
+        let shown : AllByRecursion (IsShown number seat) es = all_shown heap state number es ((step_kind seat.place).shows heap state number) in
         let calls : keeps.now.begun number ≡ length before = ap (λ (begun : ℕ → ℕ). begun number) keeps.calls ∙ goes.calls in
         let added : List Entry = goes.added ++ es in
         let grown : keeps.now.history ≡ before ++ added = keeps.grown ∙ ap (λ xs. xs ++ es) goes.grown ∙ append_assoc before goes.added es in

@@ -1,43 +1,17 @@
 -- What a seat's step and a turn of the collector show: the seat's own entries, of which two refuse for want of space, and the collector's.
 use Rattle.std.specs.List.{AllByRecursion, list_any}
-use Rattle.std.specs.Prelude.{if◌then◌else◌, Option, None, Some, IfSome}
+use Rattle.std.specs.Prelude.{if◌then◌else◌}
 use Rattle.std.proofs.Common.{◌≡◌, ◌==◌, ℕ, ◌+◌, ◌%◌, ◌^◌, Bool, true, false, ◌||◌, ◌⊎◌, inl, inr, List, [], ◌∷◌, ◌++◌, length, refl, sum_by, arith}
 use Rattle.std.proofs.lemmas.Bool.{eq-eqb}
-use Rattle.std.proofs.lemmas.Bool.Decides.{eqb_tells}
 use Rattle.std.proofs.lemmas.List.Sums.{sum_by-cons}
-use Rattle.heap_model.specs.account.Effects.{effect_of, is_of}
+use Rattle.core_rule.proofs.Terms.{effect_of, is_of, is_reply_to, Command, Entry, Heap, Reply, Withdrawing, Refusing, State, seat_at, Seat}
 use Rattle.heap_model.specs.account.Noting.{is_collectors}
-use Rattle.heap_model.specs.account.Windows.{is_reply_to}
 use Rattle.heap_model.specs.declared.account.effect.Effect.{Effect}
-use Rattle.heap_model.specs.declared.calls.collect.CollectReply.{CollectReply}
-use Rattle.heap_model.specs.declared.calls.collect.CollectReply.TheVariants as notes
-use Rattle.heap_model.specs.declared.command.Command.{Command}
-use Rattle.heap_model.specs.declared.entry.Entry.{Entry}
 use Rattle.heap_model.specs.declared.entry.Entry.TheVariants as entries
-use Rattle.heap_model.specs.declared.heap.Heap.{Heap}
-use Rattle.heap_model.specs.declared.reply.Reply.{Reply}
 use Rattle.heap_model.specs.declared.reply.Reply.TheVariants as replies
-use Rattle.core_machine.specs.declared.place.Access.TheVariants.{LoadingMeta, Getting, Swapping}
-use Rattle.core_machine.specs.declared.place.Collecting.TheVariants.{Looking, Asking as AskingBehind, Comparing, Noting}
-use Rattle.core_machine.specs.declared.place.Leaving.TheVariants.{Emptying, Parting}
-use Rattle.core_machine.specs.declared.place.Making.TheVariants.{Withdrawing, Gathering, Returning, Refusing, Bearing}
-use Rattle.core_machine.specs.declared.place.Place.{Place}
 use Rattle.core_machine.specs.declared.place.Place.TheVariants as places
-use Rattle.core_machine.specs.declared.place.Polling.TheVariants.{Asking, Answering}
-use Rattle.core_machine.specs.declared.table.address.Address.TheVariants.{Word, Phase}
-use Rattle.core_machine.specs.machine.Machine.{State, seat_at, entries_shown}
-use Rattle.core_machine.specs.Moves.{move_at, takes_some, is_last_birth, last_birth_move, birth_move}
-use Rattle.core_machine.specs.seat.Access.{meta_reply_of}
-use Rattle.core_machine.specs.seat.AccessMoves.{got_shows, reply_entries_if}
-use Rattle.core_machine.specs.seat.HandshakeMoves.{phase_told}
-use Rattle.core_machine.specs.seat.Local.{local_reply_of}
-use Rattle.core_machine.specs.seat.Looks.{noted_reply}
-use Rattle.core_machine.specs.seat.Making.{next_object_id}
-use Rattle.core_machine.specs.seat.Seat.{Seat}
-use Rattle.core_machine.specs.table.Layout.{at}
-use Rattle.heap_words.specs.Loaded.{head_of}
-use Rattle.core_rule.proofs.entries.PhasesTold.{told_cases, told_if}
-use Rattle.core_rule.proofs.runs.PlayEntries.{local_plain, meta_plain}
+use Rattle.core_rule.proofs.entries.PhasesTold.{told_cases}
+use Rattle.core_rule.proofs.entries.StepTells.{SeatTells, SeatShows, takes, gives, says, refuses, refuses_words, waits, shows_none, shows_one, shows_answer}
 use Rattle.core_rule.proofs.runs.Plays.{IsPlainReply}
 
 -- the entry is the seat's or the collector's
@@ -130,61 +104,17 @@ module _ (heap : Heap) (state : State) (number : ℕ) where
   plain_refuses command (replies.SpineFull need used) plain = absurd plain
   plain_refuses command _ plain = tt
 
-  one : (entry : Entry) → is_of number entry ≡ true → RefusesAt seat entry → AreShown (entry ∷ [])
-  one entry own refuses = (record { own = own; refuses = refuses }, tt)
+  own_shown : (entry : Entry) → SeatTells number seat seat.place entry → IsShown number seat entry
+  own_shown _ (takes count) = record { own = itself number; refuses = tt }
+  own_shown _ (gives count) = record { own = itself number; refuses = tt }
+  own_shown _ (says reply plain) = record { own = itself number; refuses = plain_refuses seat.command reply plain }
+  own_shown _ (refuses is) = record { own = itself number; refuses = (is, refl) }
+  own_shown _ (refuses_words is) = record { own = itself number; refuses = (is, refl) }
+  own_shown _ (waits other answered p is) = record { own = itself number; refuses = tt }
 
-  says : (reply : Reply) → IsPlainReply reply → AreShown (entries.Said number seat.command reply ∷ [])
-  says reply plain = one (entries.Said number seat.command reply) (itself number) (plain_refuses seat.command reply plain)
-
-  took : (count : ℕ) → AreShown (takes_some number count)
-  took count = elim (eqb_tells count 0) as (λ _. AreShown (takes_some number count)) [
-    | inl none ↦ rw none.0 tt
-    | inr some ↦ rw some.0 (one (entries.Takes number count) (itself number) tt)
-  ]
-
-  gave : (count : ℕ) → AreShown (entries.GivesBack number count ∷ [])
-  gave count = one (entries.GivesBack number count) (itself number) tt
-
-  bears : (last : Bool) → AreShown (entries_shown heap state (Some (if last then last_birth_move number seat else birth_move seat)))
-  bears true = says (replies.Made (next_object_id number seat)) tt
-  bears false = tt
-
-  answers : (p : ℕ) → AreShown (entries.Answers number p ∷ phase_told number seat.command p)
-  answers p = (record { own = itself number; refuses = tt }, told_cases AreShown number seat.command p tt (says (replies.Phase p) tt))
-
-  polls : (b : Bool) (p : ℕ) → AreShown (if b then phase_told number seat.command p else [])
-  polls b p = told_if AreShown number seat.command p b tt (says (replies.Phase p) tt)
-
-  metas : (reply : Option Reply) → IfSome reply IsPlainReply → AreShown (reply_entries_if number seat reply)
-  metas None plain = tt
-  metas (Some reply) plain = says reply plain
-
-  gets : (found : ℕ) (head : Option ℕ) → AreShown (got_shows heap number seat state.words found head)
-  gets found None = says _ tt
-  gets found (Some head) = says _ tt
-
-  notes_one : (reply : CollectReply) → AreShown (entries.Said number seat.command (noted_reply reply) ∷ [])
-  notes_one (notes.Cycle j) = says (replies.Cycle j) tt
-  notes_one (notes.Waits other answer p) = one (entries.Said number seat.command (replies.Waits other answer p)) (itself number) tt
-
-  -- what the step that is due at a place shows
-  pub shown_at : (place : Place) → seat.place ≡ place → AreShown (entries_shown heap state (move_at heap number seat place))
-  shown_at (places.Making Withdrawing) placed = one _ (itself number) (placed, refl)
-  shown_at (places.Making Gathering) placed = took _
-  shown_at (places.Making Returning) placed = gave _
-  shown_at (places.Making Refusing) placed = one _ (itself number) (placed, refl)
-  shown_at (places.Making Bearing) placed = bears (is_last_birth seat)
-  shown_at places.Local placed = says (local_reply_of seat.registers seat.command) (local_plain seat.registers seat.command)
-  shown_at (places.Access LoadingMeta) placed =
-      metas (meta_reply_of seat.command (at heap state.words (Word seat.reached 0))) (meta_plain seat.command (at heap state.words (Word seat.reached 0)))
-  shown_at (places.Access Getting) placed = gets (at heap state.words (Word seat.reached seat.part)) (head_of (at heap state.words (Word seat.reached seat.part)))
-  shown_at (places.Access Swapping) placed = says _ tt
-  shown_at (places.Polling Asking) placed = polls (at heap state.words Phase == seat.answered) (at heap state.words Phase)
-  shown_at (places.Polling Answering) placed = answers seat.asked
-  shown_at (places.Collecting Looking) placed = tt
-  shown_at (places.Collecting (AskingBehind other)) placed = tt
-  shown_at (places.Collecting (Comparing other p)) placed = tt
-  shown_at (places.Collecting (Noting reply)) placed = notes_one reply
-  shown_at (places.Leaving Emptying) placed = gave _
-  shown_at (places.Leaving Parting) placed = says replies.Done tt
-  shown_at _ placed = tt
+  -- what the seat's step shows
+  pub all_shown : (added : List Entry) → SeatShows number seat seat.place added → AreShown added
+  all_shown _ shows_none = tt
+  all_shown _ (shows_one entry tells) = (own_shown entry tells, tt)
+  all_shown _ (shows_answer is) =
+      (record { own = itself number; refuses = tt }, told_cases AreShown number seat.command seat.asked tt (record { own = itself number; refuses = plain_refuses seat.command (replies.Phase seat.asked) tt }, tt))

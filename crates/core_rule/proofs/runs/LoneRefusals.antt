@@ -4,29 +4,17 @@ use Rattle.std.specs.Prelude.{if◌then◌else◌}
 use Rattle.std.proofs.Common.{◌≡◌, ℕ, ◌+◌, ◌*◌, ◌<◌, ◌≤◌, false, List, [], ◌++◌, length, drop, sym, ap, ◌∙◌, subst, arith}
 use Rattle.std.proofs.Math.Seq.{drop-append_seam}
 use Rattle.std.proofs.lemmas.List.Sums.{sum_by-append}
-use Rattle.heap_model.specs.account.Effects.{effect_of, is_of}
-use Rattle.heap_model.specs.account.Space.{total, fragments_gained, fragments_lost, taken_of, spent_of, words_granted, words_returned}
-use Rattle.heap_model.specs.account.Windows.{is_reply_to}
-use Rattle.heap_model.specs.declared.entry.Entry.{Entry}
+use Rattle.core_rule.proofs.Terms.{effect_of, is_of, total, fragments_gained, fragments_lost, taken_of, spent_of, words_granted, words_returned, is_reply_to, Entry, Heap}
+use Rattle.core_rule.proofs.Terms.{Withdrawing, Refusing, State, seat_at, history, SeatIsRefusing, Seat, Book, GathersRight, IsAlone, Rule}
 use Rattle.heap_model.specs.declared.entry.Entry.TheVariants as entries
-use Rattle.heap_model.specs.declared.heap.Heap.{Heap}
 use Rattle.heap_model.specs.declared.reply.Reply.TheVariants as replies
 use Rattle.heap_model.proofs.account_lemmas.Windows.{total-split}
-use Rattle.core_machine.specs.declared.place.Making.TheVariants.{Withdrawing, Refusing}
 use Rattle.core_machine.specs.declared.place.Place.TheVariants as places
-use Rattle.core_machine.specs.machine.Machine.{State, seat_at, history}
-use Rattle.core_machine.specs.seat.Fits.{SeatIsRefusing}
-use Rattle.core_machine.specs.seat.Seat.{Seat}
-use Rattle.core_rule.specs.LoneLaws.{ShowsWhatWas}
-use Rattle.core_rule.specs.Book.{Book}
-use Rattle.core_rule.specs.Gathers.{GathersRight}
-use Rattle.core_rule.specs.Laws.{IsAlone}
-use Rattle.core_rule.specs.Rule.{Rule}
+use Rattle.core_rule.specs.runs.LoneLaws.{ShowsWhatWas}
 use Rattle.core_rule.specs.Stands.{Stands}
 use Rattle.core_rule.proofs.counts.FreeSums.{taken_and_free, passed_all}
-use Rattle.core_rule.proofs.entries.AtRest.{seat_fits}
+use Rattle.core_rule.proofs.entries.AtRest.{refusing_reserve, seat_fits}
 use Rattle.core_rule.proofs.entries.InFlight.{is_busy}
-use Rattle.core_rule.proofs.hand.Bodies.{bare_hand}
 use Rattle.core_rule.proofs.runs.LoneEntries.{IsNoOthers, none_made, none_taken, none_given, RefusesAt, IsShown}
 
 -- a sum over the history is one over what was before and one over what was added
@@ -73,8 +61,7 @@ module _ (heap : Heap) (number : ℕ) (before : List Entry) where
         let stands = rule.seats_stand number here in
         let fits = seat_fits rule number here in
         let refuses : SeatIsRefusing heap seat × (seat.hand ≡ []) = rw placed at fits.at_place in
-        let own : length seat.reserve + spent_of number book.history ≡ taken_of number book.history
-        = bare_hand seat.reserve seat.hand seat.body (spent_of number book.history) (taken_of number book.history) refuses.1 refuses.0.no_body stands.told.counts.unborn in
+        let own = refusing_reserve heap state book number rule here refuses in
         let gathers : GathersRight heap book.owner number goes.added seat.cursor heap.groups seat.given
         = subst (λ es. GathersRight heap book.owner number es seat.cursor heap.groups seat.given) (since_begun book goes.added goes.calls goes.grown)
         (subst (λ n. GathersRight heap book.owner number (drop (book.begun number) book.history) seat.cursor n seat.given) refuses.0.all_tried stands.told.gathers) in

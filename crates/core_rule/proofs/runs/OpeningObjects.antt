@@ -5,24 +5,14 @@ use Rattle.std.proofs.lemmas.Bool.{cases_lt, false≢true}
 use Rattle.std.proofs.lemmas.Bool.Decides.{nat_tests, eqb_tells}
 use Rattle.std.proofs.lemmas.List.{get_or_past, length-replicate}
 use Rattle.std.proofs.lemmas.Nat.Bits.{bit_at-zero}
+use Rattle.core_rule.proofs.Terms.{born_at, marked_at, scanned_at, taken_at, Heap, Id, Board, Made, absent_graph_seat, graph_seat, IsMade, opening, opening_graph_seat, fresh}
+use Rattle.core_rule.proofs.Terms.{unset, Control, Word, at, InTable, no_spot, White, fragment_at, id_at, object_number, object_head, Marks, Bits, FitsName, AreMade, IsKept}
+use Rattle.core_rule.proofs.Terms.{NamesKept, KeptObject, Objects, node_at, cells_at, Kept, taken_bit, born_bit}
 use Rattle.heap_words.specs.declared.spot.Spot.{Spot}
 use Rattle.heap_model.specs.declared.graph.cell.Cell.{Cell}
-use Rattle.heap_model.specs.declared.heap.Heap.{Heap}
-use Rattle.heap_model.specs.declared.id.Id.{Id}
-use Rattle.heap_model.specs.declared.id.Id.TheVariants.{Board, Made}
-use Rattle.heap_model.specs.graph.Objects.{absent_graph_seat, graph_seat}
-use Rattle.heap_model.specs.graph.Reach.{IsMade}
-use Rattle.heap_model.specs.graph.Graph.{GraphSeat, opening, opening_graph_seat, fresh, unset}
+use Rattle.heap_model.specs.graph.Graph.{GraphSeat}
 use Rattle.core_machine.specs.declared.table.address.Address.{Address}
-use Rattle.core_machine.specs.declared.table.address.Address.TheVariants.{Control, Word}
-use Rattle.core_machine.specs.table.Layout.{at, InTable}
-use Rattle.core_machine.specs.seat.Seat.{no_spot}
 use Rattle.core_machine.specs.machine.Opening.{board, board_name, opening_word}
-use Rattle.core_rule.specs.Book.{White, fragment_at, id_at, object_number, object_head}
-use Rattle.core_rule.specs.Colours.{Marks}
-use Rattle.core_rule.specs.ControlWords.{Bits}
-use Rattle.core_rule.specs.Objects.{FitsName, AreMade, IsKept, NamesKept, KeptObject, Objects, node_at, cells_at}
-use Rattle.core_rule.specs.Owners.{Kept, taken_bit, born_bit}
 use Rattle.core_rule.proofs.graph.GraphRegisters.{opening_at}
 use Rattle.core_rule.proofs.objects.Newborn.{newborn_is}
 use Rattle.core_rule.proofs.objects.ObjectsGrowth.{unset_cell}
@@ -61,16 +51,16 @@ opening_ids heap = record {
 }
 
 module _ (heap : Heap) (words : List ℕ) (some : 1 ≤ heap.groups) (open_words : (address : Address) → InTable heap address → at heap words address ≡ opening_word heap address) where
-  group_taken : (f : ℕ) → f < 16 * heap.groups → bit_at (opening_word heap (Control (f / 16))) (f % 16) ≡ taken_bit (opening_owner f)
-  group_taken f within = elim (eqb_tells (f / 16) 0) as (λ _. bit_at (opening_word heap (Control (f / 16))) (f % 16) ≡ taken_bit (opening_owner f)) [
+  group_taken : (f : ℕ) → f < 16 * heap.groups → bit_at (opening_word heap (Control (f / 16))) (taken_at f) ≡ taken_bit (opening_owner f)
+  group_taken f within = elim (eqb_tells (f / 16) 0) as (λ _. bit_at (opening_word heap (Control (f / 16))) (taken_at f) ≡ taken_bit (opening_owner f)) [
     | inl first ↦ let place : f % 16 ≡ f = omega (arith, first.1) in rw (first.0, place) (board_taken heap f (omega (arith, first.1)))
     | inr later ↦ rw (later.0, nobodys f (omega (arith, later.1))) (bit_at-zero (f % 16))
   ]
 
-  group_born : (f : ℕ) → f < 16 * heap.groups → bit_at (opening_word heap (Control (f / 16))) (16 + f % 16) ≡ born_bit (opening_owner f)
-  group_born f within = elim (eqb_tells (f / 16) 0) as (λ _. bit_at (opening_word heap (Control (f / 16))) (16 + f % 16) ≡ born_bit (opening_owner f)) [
+  group_born : (f : ℕ) → f < 16 * heap.groups → bit_at (opening_word heap (Control (f / 16))) (born_at f) ≡ born_bit (opening_owner f)
+  group_born f within = elim (eqb_tells (f / 16) 0) as (λ _. bit_at (opening_word heap (Control (f / 16))) (born_at f) ≡ born_bit (opening_owner f)) [
     | inl first ↦ let place : f % 16 ≡ f = omega (arith, first.1) in rw (first.0, place) (board_born heap f (omega (arith, first.1)))
-    | inr later ↦ rw (later.0, nobodys f (omega (arith, later.1))) (bit_at-zero (16 + f % 16))
+    | inr later ↦ rw (later.0, nobodys f (omega (arith, later.1))) (bit_at-zero (born_at f))
   ]
 
   -- the control words have the bits of the owners
@@ -90,8 +80,8 @@ module _ (heap : Heap) (words : List ℕ) (some : 1 ≤ heap.groups) (open_words
 
   pub opening_marks : Marks heap words (λ f. White)
   opening_marks = record {
-    marked = λ f within. rw (open_words (Control (f / 16)) (omega (arith, within))) (plain (f / 16) (32 + f % 16) (omega arith));
-    scanned = λ f within. rw (open_words (Control (f / 16)) (omega (arith, within))) (plain (f / 16) (48 + f % 16) (omega arith));
+    marked = λ f within. rw (open_words (Control (f / 16)) (omega (arith, within))) (plain (f / 16) (marked_at f) (omega arith));
+    scanned = λ f within. rw (open_words (Control (f / 16)) (omega (arith, within))) (plain (f / 16) (scanned_at f) (omega arith));
     outside = λ f past. refl;
   }
 

@@ -4,13 +4,9 @@ use Rattle.std.proofs.Common.{◌≡◌, ℕ, suc, ◌+◌, ◌-◌, ◌*◌, �
 use Rattle.std.proofs.lemmas.Bool.{cases_lt}
 use Rattle.std.proofs.lemmas.Bool.Decides.{nat_tests}
 use Rattle.std.proofs.lemmas.Nat.Bits.{bit_at_above}
-use Rattle.heap_model.specs.declared.heap.Heap.{Heap}
+use Rattle.core_rule.proofs.Terms.{Heap, sum_upto, fragment_at, AreUsed, Owner, Free, Kept, IsSeated, OwnersStand, taken_bit, born_bit}
 use Rattle.core_machine.specs.machine.Opening.{board, board_group}
-use Rattle.core_machine.specs.machine.Sums.{sum_upto}
 use Rattle.core_machine.proofs.table_lemmas.Free.{sum_zero}
-use Rattle.core_rule.specs.Book.{fragment_at}
-use Rattle.core_rule.specs.Counts.{AreUsed}
-use Rattle.core_rule.specs.Owners.{Owner, Free, Kept, IsSeated, OwnersStand, taken_bit, born_bit}
 use Rattle.core_rule.proofs.lists.SumLemmas.{sum_parts, sum_ones}
 
 -- the first eleven fragments are the board's

@@ -1,27 +1,16 @@
 -- When a heap opens nobody has a spine word, and none is granted.
 use Rattle.std.proofs.Common.{◌≡◌, ◌≢◌, ℕ, ◌*◌, ◌%◌, ◌<◌, ◌==◌, true, List, [], refl, sym, ap, ◌∙◌, subst, arith}
 use Rattle.std.specs.Prelude.{if◌then◌else◌}
-use Rattle.heap_words.specs.Spot.{spot_in, spot_word}
+use Rattle.core_rule.proofs.Terms.{cycle_phases, spot_in, spot_word, Heap, opening, spine_words_of, Collector, opening_collector, Place, Budget, State, seat_at, Seat, no_spot, at}
+use Rattle.core_rule.proofs.Terms.{Book, White, BudgetsStand, SweepCounts, of_seats, granted_at, placed_at, refused_at, kept_weight, dead_weight, kept_sum, dead_sum}
+use Rattle.core_rule.proofs.Terms.{words_of_object, words_in_half, nodes_in, returning, copying_words, HalvesStand, WhileCopying, half_at, node_at, SpineOwner, Open, Dead}
+use Rattle.core_rule.proofs.Terms.{CopyingStands, CopyInHand, SpinesStand, SpineInHand, HasPlace, next_spine}
+use Rattle.heap_model.specs.PhasePlan.{copying as copying_phase}
 use Rattle.heap_words.specs.declared.spot.Spot.{Spot as SpinePlace}
-use Rattle.heap_model.specs.declared.heap.Heap.{Heap}
-use Rattle.heap_model.specs.graph.Graph.{opening}
-use Rattle.heap_model.specs.graph.Sizes.{spine_words_of}
-use Rattle.core_machine.specs.collector.Collector.{Collector, opening_collector}
-use Rattle.core_machine.specs.declared.place.Place.{Place}
 use Rattle.core_machine.specs.declared.place.Place.TheVariants as places
-use Rattle.core_machine.specs.declared.table.address.Address.TheVariants.{Budget, Spot}
-use Rattle.core_machine.specs.machine.Machine.{State, seat_at}
+use Rattle.core_machine.specs.declared.table.address.Address.TheVariants.{Spot}
 use Rattle.core_machine.specs.machine.Opening.{opening_seat, opening_word}
-use Rattle.core_machine.specs.seat.Seat.{Seat, no_spot}
-use Rattle.core_machine.specs.table.Layout.{at}
 use Rattle.core_machine.proofs.table_lemmas.Free.{sum_zero}
-use Rattle.core_rule.specs.Book.{Book, White}
-use Rattle.core_rule.specs.Budgets.{BudgetsStand, SweepCounts, of_seats, granted_at, placed_at, refused_at, kept_weight, dead_weight, kept_sum, dead_sum, words_of_object, words_in_half, nodes_in, returning, copying_words}
-use Rattle.core_rule.specs.Halves.{HalvesStand, WhileCopying, half_at}
-use Rattle.core_rule.specs.Objects.{node_at}
-use Rattle.core_rule.specs.Owners.{SpineOwner, Open, Dead}
-use Rattle.core_rule.specs.Replicas.{CopyingStands, CopyInHand}
-use Rattle.core_rule.specs.Spines.{SpinesStand, SpineInHand, HasPlace, next_spine}
 use Rattle.core_rule.proofs.hand.GoesOn.{none_either}
 use Rattle.core_rule.proofs.runs.OpeningObjects.{opening_made, opening_fragments, opening_spines}
 use Rattle.core_rule.proofs.runs.OpeningOwners.{opening_owner, opening_cases}
@@ -115,7 +104,7 @@ module _ (heap : Heap) (state : State) (seats : (number : ℕ) → number < heap
       before = λ half offset some. absurd (some refl);
       arrays = λ i below is an_array. absurd (no_array i below an_array);
       hands = λ number below has. absurd (subst (λ (s : Seat). ¬ HasPlace s s.place) (sym (seats number below)) (λ none. none) has);
-      swung = λ copies. absurd (subst (λ (c : Collector). c.phase % 7 ≢ 4) (sym done) (λ e. omega (arith, e)) copies);
+      swung = λ copies. absurd (subst (λ (c : Collector). c.phase % cycle_phases ≢ copying_phase) (sym done) (λ e. omega (arith, e)) copies);
       copies = subst (λ (c : Collector). WhileCopying (CopyingStands (nodes_in heap (opening_book heap)) opening_made opening_owner (λ f. White) (opening_fragments heap) opening_spines (next_spine heap state.words).half) c.stage)
           (sym done) tt;
       copy = subst (λ (c : Collector). CopyInHand heap state.words opening_spine_owner c.stage) (sym done) record { placed = tt; own = λ half offset j is. absurd (cc); copied = tt };

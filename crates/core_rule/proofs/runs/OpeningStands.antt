@@ -2,34 +2,21 @@
 use Rattle.std.proofs.Common.{◌≡◌, ◌≢◌, ℕ, zero, suc, ◌+◌, ◌%◌, ◌<◌, inl, List, [], ◌∷◌, length, get_or, replicate, refl, sym, ap, ◌∙◌, subst, arith, inr}
 use Rattle.std.proofs.lemmas.Bool.{lt-ltb}
 use Rattle.std.proofs.lemmas.List.FromFn.{get_or-map-range_with_len}
-use Rattle.heap_model.specs.declared.heap.Heap.{Heap}
+use Rattle.core_rule.proofs.Terms.{cycle_phases, Heap, Value, opening, Budget, Register, Collector, at, State, seat_at, Seat, absent_seat, IsMachine, White, StandsFor}
+use Rattle.core_rule.proofs.Terms.{MarkingStands, IsSettled, Dead, holds_bit, bears_bit, CollectorAgrees, Registers, Rule, SeatStands}
+use Rattle.heap_model.specs.PhasePlan.{marking as marking_phase}
 use Rattle.heap_model.specs.declared.id.Id.TheVariants as ids
-use Rattle.heap_model.specs.declared.id.Value.{Value}
 use Rattle.heap_model.specs.declared.id.Value.TheVariants as values
 use Rattle.heap_model.specs.Heap.{IsHeap}
-use Rattle.heap_model.specs.graph.Graph.{GraphSeat, opening}
-use Rattle.core_machine.specs.declared.table.address.Address.TheVariants.{Answer, Phase, Budget, Spot}
+use Rattle.heap_model.specs.graph.Graph.{GraphSeat}
+use Rattle.core_machine.specs.declared.table.address.Address.TheVariants.{Answer, Phase, Spot}
 use Rattle.core_machine.specs.declared.place.Place.TheVariants as places
-use Rattle.core_machine.specs.declared.seat.register.Register.{Register}
 use Rattle.core_machine.specs.declared.seat.register.Register.TheVariants as registers
 use Rattle.core_machine.specs.declared.collector.stage.Stage.TheVariants as stages
-use Rattle.core_machine.specs.collector.Collector.{Collector}
-use Rattle.core_machine.specs.table.Layout.{at}
-use Rattle.core_machine.specs.machine.Machine.{State, seat_at}
 use Rattle.core_machine.specs.machine.Opening.{IsOpening, opening_seat, opening_word}
-use Rattle.core_machine.specs.seat.Seat.{Seat, absent_seat}
-use Rattle.core_machine.specs.machine.Value.{IsMachine}
 use Rattle.core_machine.proofs.machine_lemmas.OpeningMachine.{opening_machine}
-use Rattle.core_rule.specs.Book.{White}
-use Rattle.core_rule.specs.Laws.{StandsFor}
-use Rattle.core_rule.specs.Marking.{MarkingStands}
-use Rattle.core_rule.specs.Sweep.{IsSettled}
-use Rattle.core_rule.specs.Owners.{Dead, holds_bit, bears_bit}
-use Rattle.core_rule.specs.Phases.{CollectorAgrees}
-use Rattle.core_rule.specs.Registers.{Registers}
-use Rattle.core_rule.specs.Registers as regs
-use Rattle.core_rule.specs.Looks.{LooksStand}
-use Rattle.core_rule.specs.Rule.{Rule, SeatStands}
+use Rattle.core_rule.specs.graph.Registers as regs
+use Rattle.core_rule.specs.looks.Looks.{LooksStand}
 use Rattle.core_rule.proofs.hand.EmptyHand.{nothing_together}
 use Rattle.core_rule.proofs.gather.GatherMoves.{nothing_tried}
 use Rattle.core_rule.proofs.graph.GraphRegisters.{opening_at}
@@ -133,7 +120,7 @@ opening_rule heap state fits machine opens = record {
       alive = λ goes_on f i k. opening_cases (λ o. o ≢ Dead i k) f (λ less is. cc) (λ past is. cc);
       after = λ settled. absurd (never settled);
     };
-    roots = λ number below marks. absurd (subst (λ (c : Collector). c.phase % 7 ≢ 3) (sym opens.nothing_done) (λ e. omega (arith, e)) marks.phase);
+    roots = λ number below marks. absurd (subst (λ (c : Collector). c.phase % cycle_phases ≢ marking_phase) (sym opens.nothing_done) (λ e. omega (arith, e)) marks.phase);
   };
   space = record {
     budgets = opening_budgets heap state (λ number below. opening_seat_at heap state number opens below) (opens.words_open Spot tt) opens.nothing_done (opens.words_open Budget tt);

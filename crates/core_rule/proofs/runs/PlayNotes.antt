@@ -4,32 +4,22 @@ use Rattle.std.proofs.Common.{◌≡◌, ◌≢◌, ◌++◌, ℕ, ◌+◌, ◌<
 use Rattle.std.proofs.lemmas.Bool.{false≢true}
 use Rattle.std.proofs.lemmas.Bool.Decides.{eqb_tells}
 use Rattle.std.proofs.lemmas.List.{append-nil, get_or-set_same}
-use Rattle.heap_model.specs.declared.command.Command.{Command}
-use Rattle.heap_model.specs.declared.entry.Entry.{Entry}
-use Rattle.heap_model.specs.declared.heap.Heap.{Heap}
-use Rattle.heap_model.specs.account.Space.{words_granted, words_returned}
+use Rattle.core_rule.proofs.Terms.{Command, Entry, Heap, words_granted, words_returned, Granting, Withdrawing, Place, Budget, at, Rule, State, seat_at, state_after_due, Begins}
+use Rattle.core_rule.proofs.Terms.{Steps, Can, state_after, after_begin, entries, entries_shown, found_by, Move, move_at, next_move, seat_after_due, Seat, absent_seat, Book}
+use Rattle.core_rule.proofs.Terms.{granted_at, refused_at, of_seats, IsAlone, NotesNow}
 use Rattle.core_machine.specs.declared.place.Collecting.TheVariants.{Looking, Asking, Comparing, Noting}
-use Rattle.core_machine.specs.declared.place.Making.TheVariants.{Granting, Withdrawing}
-use Rattle.core_machine.specs.declared.place.Place.{Place}
 use Rattle.core_machine.specs.declared.place.Place.TheVariants as places
 use Rattle.heap_model.specs.declared.calls.collect.Inner.{Inner}
 use Rattle.heap_model.specs.declared.calls.collect.Inner.TheVariants as inners
 use Rattle.heap_model.specs.declared.calls.collect.CollectReply.TheVariants as notes
-use Rattle.core_machine.specs.declared.table.address.Address.TheVariants.{Budget}
-use Rattle.core_machine.specs.table.Layout.{at}
 use Rattle.core_machine.proofs.table_lemmas.Free.{sum_zero}
 use Rattle.core_machine.specs.machine.Opening.{IsOpening}
 use Rattle.core_machine.specs.seat.Collecting.{inner_place}
-use Rattle.core_rule.specs.Rule.{Rule}
-use Rattle.core_machine.specs.machine.Machine.{State, seat_at, state_after_due, Begins, Steps, Can, state_after, after_begin, entries, entries_shown, found_by}
-use Rattle.core_machine.specs.Moves.{Move, move_at, next_move, seat_after, seat_after_due}
-use Rattle.core_machine.specs.seat.Seat.{Seat, absent_seat}
-use Rattle.core_rule.specs.Book.{Book}
-use Rattle.core_rule.specs.Budgets.{granted_at, refused_at, of_seats}
-use Rattle.core_rule.specs.Laws.{IsAlone, NotesNow}
+use Rattle.core_machine.specs.Moves.{seat_after}
 use Rattle.core_rule.proofs.runs.PlayEntries.{FoundNow}
-use Rattle.core_rule.proofs.looks.Moves.{GoesBy, goes_at}
-use Rattle.core_rule.proofs.looks.Origins.{IsUsual, ComesFrom, comes_from, grant_finds, begin_usual}
+use Rattle.core_rule.proofs.looks.Moves.{GoesBy}
+use Rattle.core_rule.proofs.steps.Seats.{step_kind}
+use Rattle.core_rule.proofs.looks.Origins.{IsUsual, ComesFrom, grant_finds, begin_usual}
 use Rattle.core_rule.proofs.looks.Ways.{IsNote, elsewhere_unnoted, begin_stays}
 use Rattle.core_rule.proofs.runs.OpeningStands.{opening_seat_at}
 
@@ -87,7 +77,7 @@ module _ (heap : Heap) (state : State) (book : Book) (number : ℕ) (rule : Rule
   tells_at : (place : Place) → seat.place ≡ place → TellsBy (move_at heap number seat place)
   tells_at (places.Making Granting) placed = λ is.
       rw (append-nil book.history) (grant_tells placed ∙ ap (λ n. n + words_returned book.history) (sym (grant_finds heap seat (at heap state.words Budget) is)))
-  tells_at place placed = no_grant place (λ e. cc) (move_at heap number seat place) (λ found. comes_from heap number seat found place placed)
+  tells_at place placed = no_grant place (λ e. cc) (move_at heap number seat place) (λ found. (step_kind place).looks.comes heap number seat found placed)
 
   -- so where a seat has come to take spine words back it has found those that are in use
   pub step_tells : number < length state.seats → Can heap state (Steps number) → (seat_at (state_after heap state (Steps number)) number).place ≡ places.Making Withdrawing
@@ -107,7 +97,7 @@ module _ (heap : Heap) (state : State) (book : Book) (number : ℕ) (rule : Rule
   pub step_noted : number < length state.seats → FoundNow heap state.words book.history seat seat.place
       → FoundNow heap (state_after heap state (Steps number)).words (book.history ++ entries heap state (Steps number)) (seat_at (state_after heap state (Steps number)) number)
       (seat_at (state_after heap state (Steps number)) number).place
-  step_noted here was = moves (next_move heap number seat) (goes_at heap state book rule number seat.place refl) (tells_at seat.place refl)
+  step_noted here was = moves (next_move heap number seat) ((step_kind seat.place).looks.goes heap state book rule number refl) (tells_at seat.place refl)
     where
       moves : (move : Option Move) → GoesBy heap state book rule number move → TellsBy move
           → FoundNow heap (state_after_due heap state number move).words (book.history ++ entries_shown heap state move) (seat_at (state_after_due heap state number move) number)

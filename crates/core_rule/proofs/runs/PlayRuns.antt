@@ -1,39 +1,28 @@
 -- A run of whole calls, one after another, has a history that is legal as a play.
 use Rattle.std.specs.List.{list_all}
 use Rattle.std.specs.Prelude.{Option, None, Some, IsSome}
-use Rattle.std.proofs.Common.{◌≡◌, ◌≢◌, ℕ, zero, suc, ◌+◌, ◌/◌, ◌<◌, ◌≤◌, true, false, inl, inr, List, [], ◌∷◌, ◌++◌, length, drop, refl, sym, ap, ◌∙◌, subst, append_assoc}
+use Rattle.std.proofs.Common.{◌≡◌, ◌≢◌, ℕ, zero, suc, ◌<◌, ◌≤◌, true, false, inl, inr, List, [], ◌∷◌, ◌++◌, length, drop, refl, sym, ap, ◌∙◌, subst, append_assoc}
 use Rattle.std.proofs.lemmas.Bool.{false≢true, eq-eqb}
 use Rattle.std.proofs.lemmas.Bool.Decides.{eqb_tells}
 use Rattle.std.proofs.lemmas.List.{append-nil, get_or-set_same, get_or-set_other, drop-append-le}
 use Rattle.std.proofs.lemmas.List.Folds.{list_all-append}
-use Rattle.std.specs.Prelude.{count_ones}
-use Rattle.heap_model.specs.declared.command.Command.{Command}
-use Rattle.heap_model.specs.declared.entry.Entry.{Entry}
-use Rattle.heap_model.specs.declared.entry.Entry.TheVariants.{Advance, Frees, Returns, Swings, Ends}
-use Rattle.heap_model.specs.declared.heap.Heap.{Heap}
-use Rattle.heap_model.specs.account.Account.{IsLegal}
-use Rattle.heap_model.specs.account.Effects.{is_of}
-use Rattle.heap_model.specs.graph.Graph.{opening}
+use Rattle.core_rule.proofs.Terms.{Command, Entry, Heap, IsLegal, is_of, opening, next_turn, State, seat_at, found_by, state_after_due, Event, Begins, BeginsInner, Steps, Turns}
+use Rattle.core_rule.proofs.Terms.{Can, state_after, entries, Run, history, after_inner_begin, Move, move_at, next_move, Seat, absent_seat, Book, IsAlone, AllIdle, OneCallAtATime}
+use Rattle.core_rule.proofs.Terms.{WholeCallsPlay, HappensAlone, NotesNow}
 use Rattle.core_machine.specs.declared.place.Place.TheVariants as places
 use Rattle.heap_model.specs.declared.calls.collect.Inner.{Inner}
-use Rattle.core_machine.specs.declared.collector.stage.Copying.TheVariants.{Swinging}
-use Rattle.core_machine.specs.declared.collector.stage.Stage.{Stage}
-use Rattle.core_machine.specs.declared.collector.stage.Stage.TheVariants as stages
-use Rattle.core_machine.specs.collector.Collector.{Collector, turn_at}
-use Rattle.core_machine.specs.machine.Machine.{State, seat_at, state_after_due, Event, Begins, BeginsInner, Steps, Turns, Can, state_after, entries, Run, history, after_inner_begin}
-use Rattle.core_machine.specs.Moves.{Move, move_at, next_move}
-use Rattle.core_machine.specs.seat.Seat.{Seat, absent_seat}
-use Rattle.core_rule.specs.Book.{Book}
-use Rattle.core_rule.specs.Laws.{IsAlone, AllIdle, OneCallAtATime, WholeCallsPlay, HappensAlone, NotesNow}
 use Rattle.core_rule.specs.Stands.{Stands}
 use Rattle.core_rule.proofs.entries.Begins.{begins}
-use Rattle.core_rule.proofs.footprint.EndsRightly.{ends_rightly}
+use Rattle.core_rule.proofs.sweep_exact.EndsRightly.{ends_rightly}
 use Rattle.core_rule.proofs.footprint.SeatCycle.{step_cycle, begin_cycle, inner_cycle}
 use Rattle.core_rule.proofs.footprint.TurnCycle.{turn_cycle}
 use Rattle.core_rule.proofs.steps.Assemble.{Keeps}
+use Rattle.core_rule.proofs.steps.Seats.{step_kind}
 use Rattle.core_rule.proofs.runs.PlayEntries.{AddsPlay, FoundNow, adds_play}
 use Rattle.core_rule.proofs.runs.PlayNotes.{idle_noted, noted_alone, step_noted, begin_noted, inner_noted, opening_noted}
-use Rattle.core_rule.proofs.runs.Plays.{MayPlay, play_more, advancing, freeing, returning, swinging, ending, plain_keeps}
+use Rattle.core_rule.proofs.entries.TurnShapes.{shape_may}
+use Rattle.core_rule.proofs.steps.collector.{turn_kind}
+use Rattle.core_rule.proofs.runs.Plays.{MayPlay, play_more}
 use Rattle.core_rule.proofs.runs.Runs.{MachineStays, OpeningStands, EachStepKeeps, EachBeginKeeps, EachInnerKeeps, EachTurnKeeps, seat_of_step}
 
 -- the history is a play's, what a seat has found is so, and since the call of a seat began all entries are its own
@@ -90,7 +79,7 @@ step_plays stays steps heap state book number plays alone can =
     let active : (seat_at state number).place ≢ places.Idle = busy heap number (seat_at state number) can in
     let keeps = steps heap state book number plays.stands.rule here (plays.stands.looks number here) (stays heap state (Steps number) plays.stands.rule.machine can) in
     let adds : AddsPlay heap book.history number (entries heap state (Steps number))
-    = adds_play heap state book number (seat_at state number).place plays.stands.rule here refl (plays.own number here active) (plays.noted number here) in
+    = adds_play heap state book number plays.stands.rule here (plays.own number here active) (plays.noted number here) _ ((step_kind (seat_at state number).place).shows heap state number) in
     let earlier : book.begun number ≤ length book.history = (plays.stands.rule.seats_stand number here).told.began.earlier in
     let own_now : list_all (is_of number) (drop (keeps.now.begun number) keeps.now.history) ≡ true
     = rw (keeps.calls, keeps.grown) (own_more number (book.begun number) book.history (entries heap state (Steps number)) earlier (plays.own number here active) adds.own) in
@@ -128,20 +117,12 @@ inner_plays stays inners heap state book number inner plays alone now can =
     (own_alone heap state (state_after heap state (BeginsInner number inner)) keeps.now number alone plays.stands.rule.machine.seated
     (λ r apart. get_or-set_other state.seats number r _ absent_seat apart) own_now)
 
--- what a turn of the collector adds may stand in a play
-turn_may : (heap : Heap) (before : List Entry) (collector : Collector) (stage : Stage) → MayPlay heap before (turn_at heap collector stage).adds
-turn_may heap before collector stages.Advancing = (plain_keeps heap before (Advance (collector.phase + 1)) (advancing (collector.phase + 1)), tt)
-turn_may heap before collector (stages.Freeing group dead words) = (plain_keeps heap before (Frees (count_ones dead)) (freeing (count_ones dead)), tt)
-turn_may heap before collector (stages.Returning group words) = (plain_keeps heap before (Returns words) (returning words), tt)
-turn_may heap before collector (stages.Copying (Swinging copy)) = (plain_keeps heap before (Swings copy.array.id) (swinging copy.array.id), tt)
-turn_may heap before collector (stages.Ending kept) = (plain_keeps heap before (Ends (collector.phase / 7) kept) (ending (collector.phase / 7) kept), tt)
-turn_may heap before collector _ = tt
-
 turn_plays : MachineStays → EachTurnKeeps → (heap : Heap) (state : State) (book : Book) → PlaysOn heap state book → AllIdle state → Can heap state Turns
     → PlaysNext heap (state_after heap state Turns) book.history (entries heap state Turns)
 turn_plays stays turn heap state book plays idle can =
+    let found : ℕ = found_by heap state (next_turn heap state.collector).step in
     let keeps = turn heap state book plays.stands.rule (ends_rightly heap state book plays.stands) can (stays heap state Turns plays.stands.rule.machine can) in
-    plays_next keeps (turn_cycle heap state book plays.stands state.collector.stage refl keeps) (turn_may heap book.history state.collector state.collector.stage) plays.legal (λ r below. idle_noted heap (state_after heap state Turns).words (book.history ++ entries heap state Turns) (seat_at state r) (idle r (rw plays.stands.rule.machine.seated below))) (λ r below active. absurd (active (idle r (rw plays.stands.rule.machine.seated below))))
+    plays_next keeps (turn_cycle heap state book plays.stands state.collector.stage refl keeps) (shape_may heap book.history state.collector found state.collector.stage ((turn_kind state.collector.stage).shape heap state.collector found)) plays.legal (λ r below. idle_noted heap (state_after heap state Turns).words (book.history ++ entries heap state Turns) (seat_at state r) (idle r (rw plays.stands.rule.machine.seated below))) (λ r below active. absurd (active (idle r (rw plays.stands.rule.machine.seated below))))
 
 module _ (stays : MachineStays) (steps : EachStepKeeps) (begin : EachBeginKeeps) (inners_keep : EachInnerKeeps) (turn : EachTurnKeeps) where
   event_plays : (heap : Heap) (state : State) (book : Book) (event : Event) → PlaysOn heap state book → HappensAlone heap state event → Can heap state event

@@ -3,24 +3,15 @@ use Rattle.std.specs.List.{list_all}
 use Rattle.std.proofs.Common.{◌≡◌, ℕ, ◌+◌, ◌*◌, ◌<◌, Bool, true, false, ◌&&◌, List, [], ◌∷◌, ◌++◌, drop, refl, sym, subst, cond, append_assoc, arith}
 use Rattle.std.proofs.lemmas.List.{append-nil}
 use Rattle.std.proofs.lemmas.List.Sums.{sum_by-cons}
-use Rattle.heap_model.specs.declared.command.Command.{Command}
+use Rattle.core_rule.proofs.Terms.{Command, Entry, Heap, Id, Reply, KeepsSpace, KeepsSpaceAfter, IsLegal, effect_of, is_of, taken_of, spent_of, total, total_but, AreUsed}
+use Rattle.core_rule.proofs.Terms.{GathersRight, Owner}
 use Rattle.heap_model.specs.declared.command.Command.TheVariants as commands
 use Rattle.heap_model.specs.declared.account.effect.Effect.{Effect}
-use Rattle.heap_model.specs.declared.entry.Entry.{Entry}
 use Rattle.heap_model.specs.declared.entry.Entry.TheVariants as entries
-use Rattle.heap_model.specs.declared.heap.Heap.{Heap}
-use Rattle.heap_model.specs.declared.id.Id.{Id}
-use Rattle.heap_model.specs.declared.reply.Reply.{Reply}
 use Rattle.heap_model.specs.declared.reply.Reply.TheVariants as replies
-use Rattle.heap_model.specs.account.Account.{KeepsSpace, KeepsSpaceAfter, IsLegal}
-use Rattle.heap_model.specs.account.Effects.{effect_of, is_of}
 use Rattle.heap_model.specs.account.Phases.{IsBehind, ShowsPhases}
 use Rattle.heap_model.specs.account.Refusals.{FindsSpace, FindsSpine, ShowsSpace, ShowsSpine}
-use Rattle.heap_model.specs.account.Space.{taken_of, spent_of, total, total_but}
 use Rattle.heap_model.proofs.Histories.{KeepsSpaceAfter-more}
-use Rattle.core_rule.specs.Counts.{AreUsed}
-use Rattle.core_rule.specs.Gathers.{GathersRight}
-use Rattle.core_rule.specs.Owners.{Owner}
 use Rattle.core_rule.proofs.counts.FreeSums.{taken_and_free, passed_all}
 use Rattle.core_rule.proofs.entries.Legality.{keeps_takes, keeps_gives, keeps_answers, keeps_begins, keeps_ends, keeps_frees, keeps_returns, keeps_swings}
 

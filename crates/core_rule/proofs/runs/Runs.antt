@@ -6,20 +6,13 @@ use Rattle.std.proofs.lemmas.List.{append-nil}
 use Rattle.std.proofs.Math.ListN.{get_or-eq_default}
 use Rattle.std.proofs.lemmas.Bool.{false≢true}
 use Rattle.heap_model.specs.declared.calls.collect.Inner.{Inner}
-use Rattle.heap_model.specs.declared.command.Command.{Command}
-use Rattle.heap_model.specs.declared.heap.Heap.{Heap}
+use Rattle.core_rule.proofs.Terms.{Command, Heap, State, seat_at, Event, Begins, BeginsInner, Steps, Turns, Can, state_after, entries, Run, state_after_all, history, next_move}
+use Rattle.core_rule.proofs.Terms.{Seat, absent_seat, IsMachine, Book, StandsFor, EachEventKeeps, EveryRunKeeps, Rule}
 use Rattle.heap_model.specs.Heap.{IsHeap}
-use Rattle.core_machine.specs.machine.Machine.{State, seat_at, Event, Begins, BeginsInner, Steps, Turns, Can, state_after, entries, Run, state_after_all, history}
-use Rattle.core_machine.specs.Moves.{next_move}
 use Rattle.core_machine.specs.machine.Opening.{IsOpening}
-use Rattle.core_machine.specs.seat.Seat.{Seat, absent_seat}
-use Rattle.core_machine.specs.machine.Value.{IsMachine}
-use Rattle.core_rule.specs.Book.{Book}
-use Rattle.core_rule.specs.Looks.{LooksStand}
-use Rattle.core_rule.specs.Laws.{StandsFor, EachEventKeeps, EveryRunKeeps}
-use Rattle.core_rule.specs.Rule.{Rule}
+use Rattle.core_rule.specs.looks.Looks.{LooksStand}
 use Rattle.core_rule.specs.Stands.{Stands}
-use Rattle.core_rule.proofs.footprint.EndsRightly.{ends_rightly}
+use Rattle.core_rule.proofs.sweep_exact.EndsRightly.{ends_rightly}
 use Rattle.core_rule.proofs.footprint.SeatCycle.{step_cycle, begin_cycle, inner_cycle}
 use Rattle.core_rule.proofs.footprint.TurnCycle.{turn_cycle}
 use Rattle.core_rule.proofs.steps.Assemble.{Keeps}

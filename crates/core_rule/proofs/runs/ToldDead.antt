@@ -1,24 +1,11 @@
 -- The word that the sweep finds of a fragment that is to be freed tells how many spine words its array has.
 use Rattle.std.proofs.Common.{◌≡◌, ℕ, zero, suc, ◌+◌, ◌*◌, ◌==◌, ◌<◌, Bool, true, false, if◌then◌else◌, refl, sym, ◌∙◌, subst, arith, length}
-use Rattle.heap_model.specs.declared.heap.Heap.{Heap}
-use Rattle.heap_model.specs.account.Cycles.{graph_of}
-use Rattle.heap_model.specs.graph.Graph.{Node}
-use Rattle.heap_model.specs.graph.Sizes.{spine_words_of}
-use Rattle.core_machine.specs.collector.Collector.{turn_at}
-use Rattle.core_machine.specs.collector.FitsTurns.{IsExamining}
+use Rattle.core_rule.proofs.Terms.{Heap, graph_of, Node, spine_words_of, turn_at, IsExamining, Word, State, found_by, at, Book, IsDeadTold, EachDeadIsTold, node_at, IsSized, Dead}
+use Rattle.core_rule.proofs.Terms.{dead_bit, Rule, SweepStands, AreDead}
 use Rattle.core_machine.specs.declared.collector.stage.Stage.TheVariants as stages
-use Rattle.core_machine.specs.declared.table.address.Address.TheVariants.{Word}
-use Rattle.core_machine.specs.machine.Machine.{State, found_by}
-use Rattle.core_machine.specs.table.Layout.{at}
-use Rattle.core_rule.specs.Book.{Book}
-use Rattle.core_rule.specs.Laws.{IsDeadTold, EachDeadIsTold}
-use Rattle.core_rule.specs.Objects.{node_at, IsSized}
-use Rattle.core_rule.specs.Owners.{Dead, dead_bit}
-use Rattle.core_rule.specs.Rule.{Rule}
-use Rattle.core_rule.specs.Sweep.{SweepStands, AreDead}
 use Rattle.core_rule.proofs.owners.OwnerLemmas.{is_dead}
 use Rattle.core_rule.proofs.ways.KeptWords.{array_has_words}
-use Rattle.core_rule.proofs.spines.DeadWords.{none_behind}
+use Rattle.core_rule.proofs.dying.DeadWords.{none_behind}
 
 -- an array's first fragment has spine words, and no other has
 words_some : (object : Node) (part n : ℕ) → IsSized object.array (length object.cells) → n ≡ (if part == 0 then spine_words_of object else 0)

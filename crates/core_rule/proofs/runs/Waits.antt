@@ -4,21 +4,11 @@ use Rattle.std.proofs.lemmas.Bool.{false_from_ne_true}
 use Rattle.std.proofs.lemmas.Bool.Decides.{eqb_tells}
 use Rattle.heap_words.specs.declared.phase.TheConstants.{LEFT}
 use Rattle.heap_model.specs.declared.calls.collector_calls.Turn.TheVariants.{Stepped, Waits}
-use Rattle.heap_model.specs.declared.entry.Entry.{Entry}
-use Rattle.heap_model.specs.declared.heap.Heap.{Heap}
+use Rattle.core_rule.proofs.Terms.{Entry, Heap, Stage, Collector, has_answered_of, turn_at, at, State, found_by, seat_at, Seat, Book, EachWaitIsBehind, answer_word, Rule}
 use Rattle.heap_model.specs.account.Phases.{IsBehind}
 use Rattle.core_machine.specs.declared.table.address.Address.TheVariants.{Answer}
-use Rattle.core_machine.specs.declared.collector.stage.Stage.{Stage}
 use Rattle.core_machine.specs.declared.collector.stage.Stage.TheVariants as stages
-use Rattle.core_machine.specs.collector.Collector.{Collector, has_answered_of, turn_at}
 use Rattle.core_machine.specs.seat.Fits.{FitsStage}
-use Rattle.core_machine.specs.table.Layout.{at}
-use Rattle.core_machine.specs.machine.Machine.{State, found_by, seat_at}
-use Rattle.core_machine.specs.seat.Seat.{Seat}
-use Rattle.core_rule.specs.Book.{Book}
-use Rattle.core_rule.specs.Laws.{EachWaitIsBehind}
-use Rattle.core_rule.specs.Phases.{answer_word}
-use Rattle.core_rule.specs.Rule.{Rule}
 
 -- a word that shows no answer is neither the phase nor that of a seat that has left
 unanswered : (p word : ℕ) → has_answered_of p word ≡ false → (word ≢ p) × (word ≢ LEFT)

@@ -2,15 +2,9 @@
 use Rattle.std.proofs.Common.{◌≡◌, ◌≢◌, ℕ, ◌+◌, ◌*◌, ◌<◌, ◌≤◌, ◌==◌, List, length, refl, sym, ap, ◌∙◌, arith}
 use Rattle.std.specs.Prelude.{if◌then◌else◌}
 use Rattle.std.proofs.lemmas.Bool.Decides.{nat_tests}
-use Rattle.heap_model.specs.declared.heap.Heap.{Heap}
-use Rattle.core_machine.specs.declared.collector.stage.Stage.{Stage}
+use Rattle.core_rule.proofs.Terms.{Heap, Stage, sum_upto, tally, fragment_at, SweepCounts, kept_weight, dead_weight, kept_sum, dead_sum, Owner, Kept, Dead}
 use Rattle.core_machine.specs.declared.collector.stage.Stage.TheVariants as stages
-use Rattle.core_machine.specs.machine.Sums.{sum_upto}
-use Rattle.core_machine.specs.table.Fragments.{tally}
 use Rattle.core_machine.proofs.table_lemmas.Free.{sum_same, sum_but_one}
-use Rattle.core_rule.specs.Book.{fragment_at}
-use Rattle.core_rule.specs.Budgets.{SweepCounts, kept_weight, dead_weight, kept_sum, dead_sum}
-use Rattle.core_rule.specs.Owners.{Owner, Kept, Dead}
 use Rattle.core_rule.proofs.lists.Members.{place_of, place_within, place_of-at, tally_at}
 use Rattle.core_rule.proofs.owners.Keeping.{kept_by, kept_cases}
 

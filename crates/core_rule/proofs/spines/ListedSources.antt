@@ -2,42 +2,21 @@
 use Rattle.std.specs.Prelude.{IfSome}
 use Rattle.std.proofs.lemmas.Bool.{cases_eq}
 use Rattle.std.proofs.Common.{◌≡◌, ◌≢◌, ◌⊎◌, ℕ, zero, suc, ◌+◌, ◌*◌, ◌%◌, ◌^◌, ◌<◌, ◌≤◌, false, eqb, inl, inr, List, length, get_or, refl, sym, ap, ◌∙◌, subst, arith}
+use Rattle.core_rule.proofs.Terms.{cycle_phases, spot_in, spot_word, Command, Heap, need_of, spine_need_of, graph_of, phase, Stage, Listing, Word, State, seat_at, MakesObject}
+use Rattle.core_rule.proofs.Terms.{IsArrayCall, HasArrayBody, Fits, newborn_word, newborn_word_of, next_name, Seat, spine_need, spine_words_in, at, put, spine_place, Book, White}
+use Rattle.core_rule.proofs.Terms.{Black, WordPointsTo, node_at, Owner, Free, Taken, Borne, Kept, Dead, born_bit, SpineOwner, Open, Placed, Rule, SeatStands, nodes_in}
+use Rattle.core_rule.proofs.Terms.{WhileCopying, CopyingStands, CopyInHand, IsToCopy, copy_in, HasPlace, next_spine, HasMarked, IsSettled}
+use Rattle.heap_model.specs.PhasePlan.{copying as copying_phase, sweep as sweep_phase, marking as marking_phase}
 use Rattle.heap_words.specs.declared.name.Name.{Name}
 use Rattle.heap_words.specs.declared.spot.Spot.{Spot}
-use Rattle.heap_words.specs.Spot.{spot_in, spot_word}
-use Rattle.heap_model.specs.declared.command.Command.{Command}
 use Rattle.heap_model.specs.declared.command.Command.TheVariants as commands
-use Rattle.heap_model.specs.declared.heap.Heap.{Heap}
 use Rattle.heap_model.specs.Command.{IsCommand}
-use Rattle.heap_model.specs.Needs.{need_of, spine_need_of}
-use Rattle.heap_model.specs.account.Cycles.{graph_of}
-use Rattle.heap_model.specs.account.PhaseCounts.{phase}
 use Rattle.core_machine.specs.collector.CopyingTurns.{sentinel_at}
 use Rattle.core_machine.specs.collector.FitsTurns.{FitsStage}
 use Rattle.core_machine.specs.declared.collector.stage.Copying.TheVariants as copying
 use Rattle.core_machine.specs.declared.collector.stage.SpineCopy.{SpineCopy}
-use Rattle.core_machine.specs.declared.collector.stage.Stage.{Stage}
 use Rattle.core_machine.specs.declared.collector.stage.Stage.TheVariants as stages
-use Rattle.core_machine.specs.declared.place.Making.TheVariants.{Listing}
 use Rattle.core_machine.specs.declared.place.Place.TheVariants as places
-use Rattle.core_machine.specs.declared.table.address.Address.TheVariants.{Word}
-use Rattle.core_machine.specs.machine.Machine.{State, seat_at}
-use Rattle.core_machine.specs.seat.Commands.{MakesObject, IsArrayCall}
-use Rattle.core_machine.specs.seat.Fits.{HasArrayBody, Fits}
-use Rattle.core_machine.specs.seat.Making.{newborn_word, newborn_word_of, next_name}
-use Rattle.core_machine.specs.seat.Seat.{Seat, spine_need}
-use Rattle.core_machine.specs.table.Decode.{spine_words_in}
-use Rattle.core_machine.specs.table.Layout.{at, put, spine_place}
-use Rattle.core_rule.specs.Book.{Book, White, Black}
-use Rattle.core_rule.specs.Colours.{WordPointsTo}
-use Rattle.core_rule.specs.Objects.{node_at}
-use Rattle.core_rule.specs.Owners.{Owner, Free, Taken, Borne, Kept, Dead, born_bit, SpineOwner, Open, Placed}
-use Rattle.core_rule.specs.Rule.{Rule, SeatStands}
-use Rattle.core_rule.specs.Budgets.{nodes_in}
-use Rattle.core_rule.specs.Halves.{WhileCopying}
-use Rattle.core_rule.specs.Replicas.{CopyingStands, CopyInHand, IsToCopy, copy_in}
-use Rattle.core_rule.specs.Spines.{HasPlace, next_spine}
-use Rattle.core_rule.specs.Sweep.{HasMarked, IsSettled}
 use Rattle.core_rule.proofs.colours.LeadsFrames.{SameSources, leads_same}
 use Rattle.core_rule.proofs.colours.NoSpines.{newborn_no_spine}
 use Rattle.core_rule.proofs.entries.AtRest.{seat_fits}
@@ -78,11 +57,11 @@ ended_or_not _ = inr (λ e. e)
 
 -- marking has ended, and the sweep hasn't, or not
 settled_or_not : (phase : ℕ) (stage : Stage) → IsSettled phase stage ⊎ (¬ IsSettled phase stage)
-settled_or_not phase stage = elim (cases_eq (phase % 7) 4) as (λ _. IsSettled phase stage ⊎ (¬ IsSettled phase stage)) [
+settled_or_not phase stage = elim (cases_eq (phase % cycle_phases) copying_phase) as (λ _. IsSettled phase stage ⊎ (¬ IsSettled phase stage)) [
   | inl copies ↦ inl (inr (inl copies))
-  | inr no_copies ↦ elim (cases_eq (phase % 7) 5) as (λ _. IsSettled phase stage ⊎ (¬ IsSettled phase stage)) [
+  | inr no_copies ↦ elim (cases_eq (phase % cycle_phases) sweep_phase) as (λ _. IsSettled phase stage ⊎ (¬ IsSettled phase stage)) [
     | inl sweeps ↦ inl (inr (inr sweeps))
-    | inr no_sweeps ↦ elim (cases_eq (phase % 7) 3) as (λ _. IsSettled phase stage ⊎ (¬ IsSettled phase stage)) [
+    | inr no_sweeps ↦ elim (cases_eq (phase % cycle_phases) marking_phase) as (λ _. IsSettled phase stage ⊎ (¬ IsSettled phase stage)) [
       | inl third ↦ elim (ended_or_not stage) as (λ _. IsSettled phase stage ⊎ (¬ IsSettled phase stage)) [
         | inl ended ↦ inl (inl (third, ended))
         | inr goes ↦ inr (unsettled phase stage third goes)
@@ -92,7 +71,7 @@ settled_or_not phase stage = elim (cases_eq (phase % 7) 4) as (λ _. IsSettled p
   ]
 ]
   where
-    never : phase % 7 ≢ 4 → phase % 7 ≢ 5 → phase % 7 ≢ 3 → ¬ IsSettled phase stage
+    never : phase % cycle_phases ≢ copying_phase → phase % cycle_phases ≢ sweep_phase → phase % cycle_phases ≢ marking_phase → ¬ IsSettled phase stage
     never no_copies no_sweeps other (inl ended) = other ended.0
     never no_copies no_sweeps other (inr (inl copies)) = no_copies copies
     never no_copies no_sweeps other (inr (inr sweeps)) = no_sweeps sweeps

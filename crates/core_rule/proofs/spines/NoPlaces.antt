@@ -1,7 +1,6 @@
 -- A seat whose spine has no place has no range.
-use Rattle.core_machine.specs.seat.Seat.{Seat}
-use Rattle.core_rule.specs.Spines.{HasPlace}
-use Rattle.core_rule.proofs.spines.NoneMade.{SameRange}
+use Rattle.core_rule.proofs.Terms.{Seat, HasPlace}
+use Rattle.core_rule.proofs.budgets.NoneMade.{SameRange}
 
 pub away_range : (old now : Seat) → ¬ HasPlace now now.place → SameRange old now
 away_range old now none = record { had = λ has. absurd (none has); spine = λ has. absurd (none has); answered = λ has. absurd (none has) }

@@ -1,9 +1,8 @@
 -- The spine words, the budget and the place of the next spine stay at a step on another word.
 use Rattle.std.proofs.Common.{◌≡◌, ◌≢◌, ℕ, ◌+◌, ◌*◌, ◌<◌, List, refl, sym, arith}
-use Rattle.heap_model.specs.declared.heap.Heap.{Heap}
+use Rattle.core_rule.proofs.Terms.{Heap, index_of, at, put}
 use Rattle.core_machine.specs.declared.table.address.Address.{Address}
 use Rattle.core_machine.specs.declared.table.address.Address.TheVariants as addresses
-use Rattle.core_machine.specs.table.Layout.{index_of, at, put}
 use Rattle.core_rule.proofs.words.Addresses.{at-put_apart, SameSpines, spines_elsewhere}
 
 -- each spine word and the spot are as before

@@ -4,21 +4,14 @@ use Rattle.std.specs.Prelude.{if◌then◌else◌}
 use Rattle.std.proofs.lemmas.Bool.{cases_eq}
 use Rattle.std.proofs.lemmas.Bool.Decides.{eqb_tells, nat_tests}
 use Rattle.heap_words.specs.declared.spot.Spot.{Spot}
-use Rattle.heap_model.specs.declared.heap.Heap.{Heap}
-use Rattle.heap_model.specs.graph.Graph.{Node}
-use Rattle.heap_model.specs.graph.Sizes.{spine_words_of}
-use Rattle.core_machine.specs.seat.Seat.{Seat, spine_need}
-use Rattle.core_machine.specs.table.Fragments.{tally}
-use Rattle.core_rule.specs.Book.{fragment_at}
-use Rattle.core_rule.specs.Objects.{IsKept}
-use Rattle.core_rule.specs.Owners.{Owner, Kept, SpineOwner, Open, Placed, Spined, Gone}
-use Rattle.core_rule.specs.Spines.{SpinesStand, SpineInHand, HasPlace, IsWordOf}
+use Rattle.core_rule.proofs.Terms.{Heap, Node, spine_words_of, Seat, spine_need, tally, fragment_at, IsKept, Owner, Kept, SpineOwner, Open, Placed, Spined, Gone, SpinesStand}
+use Rattle.core_rule.proofs.Terms.{SpineInHand, HasPlace, IsWordOf}
 use Rattle.core_rule.proofs.graph.SameNodes.{SameShape, shape_words}
 use Rattle.core_rule.proofs.objects.ObjectsGrowth.{with_spine, spine_new, spine_old}
 use Rattle.core_rule.proofs.owners.Keeping.{kept_by, with_object, object_new, object_old, kept_was, kept_stays}
 use Rattle.core_rule.proofs.spines.OtherWords.{LeavesSpines}
 use Rattle.core_rule.proofs.spines.SpineFrames.{SpinesLeft}
-use Rattle.core_rule.proofs.spines.DeadWords.{DeadStay, dead_tell}
+use Rattle.core_rule.proofs.dying.DeadWords.{DeadStay, dead_tell}
 
 -- whose a spine word is once the seat's are those of the object of this number
 abbrev pub born_word : ℕ → ℕ → SpineOwner → SpineOwner

@@ -1,27 +1,15 @@
 -- Whose the spine words are, and what they are, stands as before where a step leaves them.
 use Rattle.std.proofs.Common.{true, ◌≡◌, ℕ, ◌+◌, ◌<◌, ◌⊎◌, inl, inr, List, length, refl, sym, ap, ◌∙◌, subst}
 use Rattle.heap_words.specs.declared.spot.Spot.{Spot}
-use Rattle.heap_model.specs.declared.heap.Heap.{Heap}
-use Rattle.heap_model.specs.declared.id.Id.{Id}
-use Rattle.heap_model.specs.graph.Graph.{Node}
-use Rattle.heap_model.specs.graph.Sizes.{spine_words_of}
-use Rattle.core_machine.specs.declared.place.Place.{Place}
+use Rattle.core_rule.proofs.Terms.{Heap, Id, Node, spine_words_of, Place, Seat, spine_need, at, spine_place, spine_word, fragment_at, IsKept, Owner, Kept, SpineOwner, Placed, Gone}
+use Rattle.core_rule.proofs.Terms.{AddressStands, IsLeftReplica, SpinesStand, SpineInHand, HasPlace, WayStands}
 use Rattle.core_machine.specs.declared.table.address.Address.TheVariants as addresses
-use Rattle.core_machine.specs.seat.Seat.{Seat, spine_need}
-use Rattle.core_machine.specs.table.Layout.{at, spine_place}
-use Rattle.heap_words.specs.Newborn.{spine_word}
-use Rattle.core_rule.specs.Book.{fragment_at}
-use Rattle.core_rule.specs.Objects.{IsKept}
-use Rattle.core_rule.specs.Owners.{Owner, Kept, SpineOwner, Placed, Gone}
-use Rattle.core_rule.specs.Replicas.{AddressStands, IsLeftReplica}
-use Rattle.core_rule.specs.Spines.{SpinesStand, SpineInHand, HasPlace}
-use Rattle.core_rule.specs.Ways.{WayStands}
 use Rattle.core_rule.proofs.graph.SameNodes.{SameShape, shape_words, shape_same}
 use Rattle.core_rule.proofs.objects.ObjectFrames.{SameKept}
 use Rattle.core_rule.proofs.spines.OtherWords.{LeavesPlaces, LeavesSpines, places_of}
 use Rattle.core_rule.proofs.ways.WayFrames.{ObjectStays}
 use Rattle.core_rule.proofs.words.Addresses.{SameSpines}
-use Rattle.core_rule.proofs.spines.DeadWords.{DeadStay, dead_tell}
+use Rattle.core_rule.proofs.dying.DeadWords.{DeadStay, dead_tell}
 use Rattle.core_rule.proofs.ways.LoadedPlaces.{loaded_goes, loaded_way, called_head}
 
 -- the same fragments are kept where whose they are is as before

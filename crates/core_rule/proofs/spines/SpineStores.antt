@@ -2,18 +2,10 @@
 use Rattle.std.proofs.Common.{◌≡◌, ◌≢◌, ℕ, ◌+◌, ◌*◌, ◌<◌, ◌≤◌, inl, inr, List, length, sym, ap, ◌∙◌, subst, arith}
 use Rattle.std.proofs.lemmas.Bool.{cases_eq}
 use Rattle.heap_words.specs.declared.spot.Spot.{Spot}
-use Rattle.heap_model.specs.declared.heap.Heap.{Heap}
-use Rattle.heap_model.specs.graph.Graph.{Node}
-use Rattle.heap_model.specs.graph.Sizes.{spine_words_of}
+use Rattle.core_rule.proofs.Terms.{Heap, Node, spine_words_of, Seat, spine_need, at, put, spine_place, table_length, spine_word, fragment_at, IsKept, Owner, SpineOwner, Open}
+use Rattle.core_rule.proofs.Terms.{Placed, Spined, Gone, SpinesStand, SpineInHand, HasPlace}
 use Rattle.core_machine.specs.declared.table.address.Address.TheVariants as addresses
-use Rattle.core_machine.specs.seat.Seat.{Seat, spine_need}
-use Rattle.core_machine.specs.table.Layout.{at, put, spine_place, table_length}
-use Rattle.heap_words.specs.Newborn.{spine_word}
 use Rattle.core_machine.proofs.table_lemmas.Addresses.{at-put_same}
-use Rattle.core_rule.specs.Book.{fragment_at}
-use Rattle.core_rule.specs.Objects.{IsKept}
-use Rattle.core_rule.specs.Owners.{Owner, SpineOwner, Open, Placed, Spined, Gone}
-use Rattle.core_rule.specs.Spines.{SpinesStand, SpineInHand, HasPlace}
 use Rattle.core_rule.proofs.spines.SpineFrames.{SpineIsStored}
 use Rattle.core_rule.proofs.words.Addresses.{at-put_apart, spine_other}
 

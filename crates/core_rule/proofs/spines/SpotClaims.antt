@@ -3,26 +3,17 @@ use Rattle.std.proofs.Common.{◌≡◌, ◌≢◌, ℕ, ◌+◌, ◌-◌, ◌%�
 use Rattle.std.specs.Prelude.{if◌then◌else◌}
 use Rattle.std.proofs.lemmas.Bool.Decides.{eqb_tells, leb_tells}
 use Rattle.heap_words.specs.declared.spot.Spot.{Spot}
-use Rattle.heap_words.specs.Spot.{spot_in, spot_word}
-use Rattle.heap_model.specs.declared.heap.Heap.{Heap}
-use Rattle.heap_model.specs.account.Cycles.{graph_of}
+use Rattle.core_rule.proofs.Terms.{spot_in, spot_word, Heap, graph_of, State, seat_at, Seat, spine_need, at, put, table_length, FitsSpot, Book, fragment_at, HalvesStand}
+use Rattle.core_rule.proofs.Terms.{AwaitsCopy, IsBeforeNext, IsEarlyRange, IsLeftBehind, WhileCopying, node_at, SpineOwner, Open, Placed, Spined, Gone, CopyingStands, copy_in}
+use Rattle.core_rule.proofs.Terms.{SpinesStand, SpineInHand, HasPlace, IsWordOf, next_spine}
 use Rattle.core_machine.specs.declared.table.address.Address.TheVariants as addresses
-use Rattle.core_machine.specs.machine.Machine.{State, seat_at}
-use Rattle.core_machine.specs.seat.Seat.{Seat, spine_need}
-use Rattle.core_machine.specs.table.Layout.{at, put, table_length, FitsSpot}
 use Rattle.core_machine.proofs.table_lemmas.Addresses.{at-put_same}
 use Rattle.core_machine.proofs.collector_lemmas.SpineTurns.{told_spot}
-use Rattle.core_rule.specs.Book.{Book, fragment_at}
-use Rattle.core_rule.specs.Halves.{HalvesStand, AwaitsCopy, IsBeforeNext, IsEarlyRange, IsLeftBehind, WhileCopying}
-use Rattle.core_rule.specs.Objects.{node_at}
-use Rattle.core_rule.specs.Owners.{SpineOwner, Open, Placed, Spined, Gone}
-use Rattle.core_rule.specs.Replicas.{CopyingStands, copy_in}
-use Rattle.core_rule.specs.Spines.{SpinesStand, SpineInHand, HasPlace, IsWordOf, next_spine}
-use Rattle.core_rule.proofs.spines.HalvesFrames.{if_some}
-use Rattle.core_rule.proofs.spines.HalvesMoves.{copy_left}
+use Rattle.core_rule.proofs.halves.HalvesFrames.{if_some}
+use Rattle.core_rule.proofs.halves.HalvesMoves.{copy_left}
 use Rattle.core_rule.proofs.spines.SpineFrames.{SpinesLeft, PlacesStay, same_shapes}
 use Rattle.core_rule.proofs.ways.ArrayWords.{spot_in-word}
-use Rattle.core_rule.proofs.spines.DeadWords.{dead_tell}
+use Rattle.core_rule.proofs.dying.DeadWords.{dead_tell}
 use Rattle.core_rule.proofs.words.Addresses.{SameSpines, at-put_apart, spines_elsewhere}
 
 -- the place of the next spine behind so many words

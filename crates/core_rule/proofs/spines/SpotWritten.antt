@@ -1,19 +1,11 @@
 -- What stands of the heap and of the seats where the place of the next spine is written: all of it.
 use Rattle.std.proofs.Common.{◌≡◌, ℕ, ◌<◌, List, length, sym, ap, ◌∙◌, arith}
-use Rattle.heap_words.specs.Spot.{spot_in, spot_word}
-use Rattle.heap_model.specs.declared.heap.Heap.{Heap}
-use Rattle.heap_model.specs.account.Cycles.{graph_of}
+use Rattle.core_rule.proofs.Terms.{spot_in, spot_word, Heap, graph_of, State, seat_at, at, put, Book, node_at, Rule, HeapStands, SeatStands, next_spine}
 use Rattle.core_machine.specs.declared.table.address.Address.TheVariants as addresses
-use Rattle.core_machine.specs.machine.Machine.{State, seat_at}
-use Rattle.core_machine.specs.table.Layout.{at, put}
 use Rattle.core_machine.proofs.table_lemmas.Addresses.{at-put_same}
-use Rattle.core_rule.specs.Book.{Book}
-use Rattle.core_rule.specs.Objects.{node_at}
-use Rattle.core_rule.specs.Rule.{Rule, HeapStands, SeatStands}
-use Rattle.core_rule.specs.Spines.{next_spine}
 use Rattle.core_rule.proofs.colours.LeadsFrames.{SameSources, leads_same, same_ahead}
 use Rattle.core_rule.proofs.frames.BesideFrames.{LeavesBeside, ArraysStay, beside_aside, arrays_stay, heap_beside, seat_beside}
-use Rattle.core_rule.proofs.spines.DeadWords.{dead_tell}
+use Rattle.core_rule.proofs.dying.DeadWords.{dead_tell}
 use Rattle.core_rule.proofs.spines.SpineFrames.{same_shapes, spine_words_stay, spines_left, places_same}
 use Rattle.core_rule.proofs.words.Addresses.{SameSpines, at-put_apart, spines_elsewhere}
 

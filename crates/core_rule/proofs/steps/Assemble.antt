@@ -2,35 +2,21 @@
 use Rattle.std.proofs.Common.{◌≡◌, ◌≢◌, ℕ, ◌<◌, ◌≤◌, List, ap, arith, [], ◌++◌, length, filter, slice_set, slice_index_or, refl, sym, false, ◌∙◌, subst, inl, inr}
 use Rattle.std.proofs.lemmas.List.{append-nil}
 use Rattle.std.proofs.lemmas.List.Elements.{filter-append}
-use Rattle.heap_model.specs.declared.entry.Entry.{Entry}
-use Rattle.heap_model.specs.declared.heap.Heap.{Heap}
-use Rattle.heap_model.specs.account.Cycles.{graph_of}
-use Rattle.heap_model.specs.graph.Objects.{graph_seat}
-use Rattle.heap_model.specs.account.PhaseCounts.{phase, last_answer, has_left}
+use Rattle.core_rule.proofs.Terms.{Entry, Heap, graph_of, graph_seat, phase, last_answer, has_left, Place, Collector, Move, State, seat_at, state_after_move, found_by, Seat}
+use Rattle.core_rule.proofs.Terms.{absent_seat, IsMachine, Book, IsMarked, CollectorAgrees, IsReached, Rule, HeapStands, SeatStands, MarksStand, SpaceStands}
 use Rattle.core_machine.specs.declared.place.Making.{Making}
-use Rattle.core_machine.specs.declared.place.Place.{Place}
 use Rattle.core_machine.specs.declared.place.Place.TheVariants as places
-use Rattle.core_machine.specs.collector.Collector.{Collector}
-use Rattle.core_machine.specs.Moves.{Move}
-use Rattle.core_machine.specs.machine.Machine.{State, seat_at, state_after_move, found_by}
-use Rattle.core_machine.specs.seat.Seat.{Seat, absent_seat}
-use Rattle.core_machine.specs.machine.Value.{IsMachine}
-use Rattle.core_rule.specs.Book.{Book}
-use Rattle.core_rule.specs.Colours.{IsMarked}
-use Rattle.core_rule.specs.Counts.{is_collectors}
-use Rattle.core_rule.specs.Phases.{CollectorAgrees}
-use Rattle.core_rule.specs.Roots.{RootsAreReached}
-use Rattle.core_rule.specs.Paths.{IsReached}
-use Rattle.core_rule.specs.Rule.{Rule, HeapStands, SeatStands, MarksStand, SpaceStands}
+use Rattle.core_rule.specs.counts.Counts.{is_collectors}
+use Rattle.core_rule.specs.roots.Roots.{RootsAreReached}
 pub use Rattle.core_rule.proofs.entries.AtRest.{seat_fits, in_flight}
 use Rattle.core_rule.proofs.entries.Begins.{begins, book_begun, heap_begins, other_begins}
 use Rattle.core_rule.proofs.entries.PhaseEntries.{seats_phase, answers_grow, was_present}
-use Rattle.core_rule.proofs.footprint.BookGoing.{BookGoesOn, book_stays}
+use Rattle.core_rule.proofs.book.BookGoing.{BookGoesOn, book_stays}
 use Rattle.core_rule.proofs.colours.SpineStays.{same_sources}
 use Rattle.core_rule.proofs.marking.Marks.{MarksGoOn, RootsGoOn, roots_more, leaves_words, marks_go_on}
-use Rattle.core_rule.proofs.spines.BudgetFrames.{stepped, SameGrants, grants_same, budgets_stay}
-use Rattle.core_rule.proofs.spines.HalvesFrames.{each_seat, halves_stay}
-use Rattle.core_rule.proofs.spines.NoneMade.{SameWeights}
+use Rattle.core_rule.proofs.budgets.BudgetFrames.{stepped, SameGrants, grants_same, budgets_stay}
+use Rattle.core_rule.proofs.halves.HalvesFrames.{each_seat, halves_stay}
+use Rattle.core_rule.proofs.budgets.NoneMade.{SameWeights}
 use Rattle.core_rule.proofs.spines.OtherWords.{LeavesSpines, places_of, spines_left_none}
 
 -- where the history grows by entries of which none is the collector's, and the seats have answered as it says, the collector stands as before

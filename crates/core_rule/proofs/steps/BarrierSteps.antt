@@ -1,32 +1,12 @@
 -- How a set with the barrier on goes on, up to its swap.
 use Rattle.std.proofs.Common.{◌≡◌, ℕ, ◌<◌, true, [], filter, Option, Some, None, refl, sym, subst, arith, ◌/◌, slice_set}
 use Rattle.std.proofs.lemmas.List.{append-nil}
-use Rattle.heap_model.specs.declared.heap.Heap.{Heap}
-use Rattle.heap_model.specs.account.Cycles.{graph_of}
-use Rattle.heap_model.specs.account.Effects.{is_of}
-use Rattle.heap_model.specs.graph.Objects.{register_value}
-use Rattle.heap_model.specs.account.PhaseCounts.{phase, last_answer, has_left}
-use Rattle.heap_model.specs.graph.Graph.{Graph}
-use Rattle.core_machine.specs.declared.table.address.Address.TheVariants.{Word}
+use Rattle.core_rule.proofs.Terms.{Heap, is_of, register_value, phase, last_answer, has_left, Word, ShadingNew, Swapping, target_of, State, seat_at, has_barrier_of, new_place_of}
+use Rattle.core_rule.proofs.Terms.{register_in, Seat, IsMachine, Book, Colour, WordPointsTo, IsBetween, Awaits, FieldStands, ShadedStands, IsAnswered, node_at, IsAwaited}
+use Rattle.core_rule.proofs.Terms.{HoldsValue, Rule, AccessStands}
 use Rattle.core_machine.specs.declared.place.Place.TheVariants as places
 use Rattle.core_machine.specs.declared.place.Access.{Access}
-use Rattle.core_machine.specs.declared.place.Access.TheVariants.{ShadingNew, Swapping}
-use Rattle.core_machine.specs.seat.Commands.{target_of}
-use Rattle.core_machine.specs.machine.Machine.{State, seat_at}
-use Rattle.core_machine.specs.seat.Access.{has_barrier_of, new_place_of}
-use Rattle.core_machine.specs.seat.Registers.{register_in}
-use Rattle.core_machine.specs.seat.Seat.{Seat}
-use Rattle.core_machine.specs.machine.Value.{IsMachine}
-use Rattle.core_rule.specs.Book.{Book, Colour}
-use Rattle.core_rule.specs.Colours.{WordPointsTo, IsBetween}
-use Rattle.core_rule.specs.Counts.{Awaits}
-use Rattle.core_rule.specs.Flight.{FieldStands, ShadedStands}
-use Rattle.core_rule.specs.Gathers.{IsAnswered}
-use Rattle.core_rule.specs.Objects.{node_at}
-use Rattle.core_rule.specs.Registers.{IsAwaited, HoldsValue}
-use Rattle.core_rule.specs.Roots.{IsInMarking, AtCall, OfRoots}
-use Rattle.core_rule.specs.Rule.{Rule}
-use Rattle.core_rule.specs.Ways.{AccessStands}
+use Rattle.core_rule.specs.roots.Roots.{IsInMarking, AtCall, OfRoots}
 use Rattle.core_rule.proofs.frames.SeatFrames.{AddressAt}
 use Rattle.core_rule.proofs.steps.Assemble.{Keeps}
 use Rattle.core_rule.proofs.ways.AtObject.{is_near}
@@ -35,13 +15,14 @@ use Rattle.core_rule.proofs.cycle.CycleFrames.{cycle_by_flight}
 use Rattle.core_rule.proofs.entries.InFlight.{began_on}
 use Rattle.core_rule.proofs.colours.Births.{births_stay}
 use Rattle.core_rule.proofs.colours.LeadsFrames.{leads_control}
-use Rattle.core_rule.proofs.footprint.BookGoing.{IsNamed}
+use Rattle.core_rule.proofs.book.BookGoing.{IsNamed}
 use Rattle.core_rule.proofs.ways.LoadedObjects.{KeptHead}
-use Rattle.core_rule.proofs.marking.CallRoots.{IsReachedNow, roots_on_way}
+use Rattle.core_rule.proofs.roots.CallRoots.{IsReachedNow, roots_on_way}
 use Rattle.core_rule.proofs.steps.Loads.{went, loaded_state, load_goes}
 use Rattle.core_rule.proofs.entries.SeatLists.{list_more}
 use Rattle.core_rule.proofs.colours.ShadeColours.{with_mark}
 use Rattle.core_rule.proofs.steps.ShadeStep.{shading, words_shaded, shade_keeps, shade_within, answer_shaded, borne_unshaded}
+use Rattle.core_rule.proofs.graph.ToldGraph.{told_graph}
 
 -- where the new value goes next
 pub new_cases : (P : Access → Type 0) (head : Option ℕ) → (head ≡ None → P Swapping) → ((f : ℕ) → head ≡ Some f → P ShadingNew) → P (new_place_of head)
@@ -54,9 +35,6 @@ module _ (heap : Heap) (state : State) (book : Book) (number : ℕ) (rule : Rule
   abbrev seat : Seat
   seat = seat_at state number
 
-  abbrev g : Graph
-  g = graph_of heap book.history
-
   abbrev p : ℕ
   p = phase book.history
 
@@ -66,7 +44,7 @@ module _ (heap : Heap) (state : State) (book : Book) (number : ℕ) (rule : Rule
   awake : (d r : ℕ) → ¬ IsAwaited seat.place d r
   awake d r awaited = unnamed d r (subst (λ x. IsAwaited x d r) place awaited)
 
-  pub holds_all : (r : ℕ) → HoldsValue book.made book.owner book.fragments (register_in seat.registers r) (register_value g number r)
+  pub holds_all : (r : ℕ) → HoldsValue book.made book.owner book.fragments (register_in seat.registers r) (register_value (told_graph heap book) number r)
   holds_all r = (rule.seats_stand number here).names.registers r (awake (target_of seat.command) r)
 
   -- what marking comes to when it comes to the roots that the seat had
@@ -75,12 +53,12 @@ module _ (heap : Heap) (state : State) (book : Book) (number : ℕ) (rule : Rule
 
   -- what a call has at a place other than a name's
   abbrev Unnamed : Access → Type 0
-  Unnamed next = (seat_now : Seat) → Awaits g book.made book.owner book.fragments number seat_now (places.Access next) []
+  Unnamed next = (seat_now : Seat) → Awaits (told_graph heap book) book.made book.owner book.fragments number seat_now (places.Access next) []
 
   -- a load that leads on
   pub loads_on : (loaded : ℕ) (next : Access) → Unnamed next
       → AddressAt heap state.words book (went seat seat.registers seat.reached seat.links seat.part seat.address loaded (places.Access next) seat.looks []) (places.Access next)
-      → AccessStands (node_at g book.made) book.made book.owner book.fragments (went seat seat.registers seat.reached seat.links seat.part seat.address loaded (places.Access next) seat.looks []) next
+      → AccessStands (node_at (told_graph heap book) book.made) book.made book.owner book.fragments (went seat seat.registers seat.reached seat.links seat.part seat.address loaded (places.Access next) seat.looks []) next
       → (IsBetween 2 5 p → FieldStands heap state.words book.colour (went seat seat.registers seat.reached seat.links seat.part seat.address loaded (places.Access next) seat.looks []) next)
       → ShadedStands book.colour (went seat seat.registers seat.reached seat.links seat.part seat.address loaded (places.Access next) seat.looks []) next
       → CallGoesOn (went seat seat.registers seat.reached seat.links seat.part seat.address loaded (places.Access next) seat.looks []) next
@@ -91,7 +69,7 @@ module _ (heap : Heap) (state : State) (book : Book) (number : ℕ) (rule : Rule
       let new : Seat = went seat seat.registers seat.reached seat.links seat.part seat.address loaded (places.Access next) seat.looks [] in
       load_goes heap state book number rule here (Word seat.reached seat.part) seat.registers seat.reached seat.links seat.part seat.address loaded (places.Access next) seat.looks [] machine (rw place tt) tt
       (λ r unawaited. holds_all r)
-      (list_more g book.made book.owner book.fragments number seat book.history busy stands.told.list g book.history new [] [] [] refl refl (sym (append-nil (filter (is_of number) book.history))) (names new))
+      (list_more (told_graph heap book) book.made book.owner book.fragments number seat book.history busy stands.told.list (told_graph heap book) book.history new [] [] [] refl refl (sym (append-nil (filter (is_of number) book.history))) (names new))
       way address
       (began_on book.history number (book.begun number) seat.place (places.Access next) busy stands.told.began)
       (cycle_by_flight heap state.words state.words book.owner book.owner book.colour book.colour p (last_answer number book.history) (has_left number book.history) number seat new
@@ -114,7 +92,7 @@ module _ (heap : Heap) (state : State) (book : Book) (number : ℕ) (rule : Rule
 
     -- a shade that leads on
     pub shades_on : (next : Access) → Unnamed next → AddressAt heap state.words book (shading seat seat.shaded (places.Access next)) (places.Access next)
-        → AccessStands (node_at g book.made) book.made book.owner book.fragments (shading seat seat.shaded (places.Access next)) next
+        → AccessStands (node_at (told_graph heap book) book.made) book.made book.owner book.fragments (shading seat seat.shaded (places.Access next)) next
         → (IsBetween 2 5 p → IsBetween 2 5 seat.answered → FieldStands heap (words_shaded heap state book number rule here f head.index head.kept head.is) coloured (shading seat seat.shaded (places.Access next)) next)
         → (IsBetween 1 5 p → ShadedStands coloured (shading seat seat.shaded (places.Access next)) next)
         → (IsInMarking state.collector → seat.answered ≡ state.collector.phase → IsReachedNow heap state book f)
@@ -127,7 +105,7 @@ module _ (heap : Heap) (state : State) (book : Book) (number : ℕ) (rule : Rule
         let new : Seat = shading seat seat.shaded (places.Access next) in
         shade_keeps heap state book number rule here f head.index head.kept head.is seat.shaded (places.Access next) (barrier_runs p seat.answered (is_near heap state book number rule here from place) (barrier_window seat on)) machine
         (λ r unawaited. holds_all r)
-        (list_more g book.made book.owner book.fragments number seat book.history busy stands.told.list g book.history new [] [] [] refl refl (sym (append-nil (filter (is_of number) book.history))) (names new))
+        (list_more (told_graph heap book) book.made book.owner book.fragments number seat book.history busy stands.told.list (told_graph heap book) book.history new [] [] [] refl refl (sym (append-nil (filter (is_of number) book.history))) (names new))
         way (rw place tt) tt address busy
         (cycle_by_flight heap state.words (words_shaded heap state book number rule here f head.index head.kept head.is) book.owner book.owner book.colour coloured p
         (last_answer number book.history) (has_left number book.history) number seat new

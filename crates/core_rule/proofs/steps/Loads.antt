@@ -3,49 +3,22 @@ use Rattle.std.proofs.Common.{◌≡◌, ℕ, ◌<◌, false, List, [], ◌∷�
 use Rattle.std.proofs.lemmas.Bool.{eq-eqb}
 use Rattle.std.proofs.lemmas.List.{append-nil}
 use Rattle.heap_words.specs.declared.spot.Spot.{Spot}
-use Rattle.heap_model.specs.declared.command.Command.{Command}
-use Rattle.heap_model.specs.declared.entry.Entry.{Entry}
-use Rattle.heap_model.specs.declared.entry.Entry.TheVariants.{Said}
-use Rattle.heap_model.specs.declared.heap.Heap.{Heap}
-use Rattle.heap_model.specs.declared.reply.Reply.{Reply}
-use Rattle.heap_model.specs.account.Account.{KeepsSpace}
-use Rattle.heap_model.specs.account.Cycles.{graph_of}
-use Rattle.heap_model.specs.account.Effects.{effect_of, no_effect}
-use Rattle.heap_model.specs.graph.Growth.{after_reply}
-use Rattle.heap_model.specs.graph.Legal.{Accepts}
-use Rattle.heap_model.specs.account.PhaseCounts.{phase, last_answer, has_left, is_leave_of}
-use Rattle.heap_model.specs.graph.Graph.{Graph}
+use Rattle.core_rule.proofs.Terms.{Command, Entry, Said, Heap, Reply, KeepsSpace, graph_of, effect_of, no_effect, after_reply, Accepts, phase, last_answer, has_left, is_leave_of}
+use Rattle.core_rule.proofs.Terms.{Graph, Place, Register, target_of, IsAtRest, IsSilent, at, put, State, seat_at, has_barrier_of, Seat, no_spot, with_entries, call_over}
+use Rattle.core_rule.proofs.Terms.{after_call, IsMachine, Book, OwnList, SeatInCycle, Began, IsAnswered, node_at, Registers, Rule, OwnStands, AddressStands, WayStands}
 use Rattle.core_machine.specs.declared.table.address.Address.{Address}
-use Rattle.core_machine.specs.declared.place.Place.{Place}
 use Rattle.core_machine.specs.declared.place.Place.TheVariants as places
-use Rattle.core_machine.specs.declared.seat.register.Register.{Register}
-use Rattle.core_machine.specs.seat.Commands.{target_of}
-use Rattle.core_machine.specs.seat.Fits.{IsAtRest, IsSilent}
-use Rattle.core_machine.specs.table.Layout.{at, put}
-use Rattle.core_machine.specs.machine.Machine.{State, seat_at}
-use Rattle.core_machine.specs.seat.Access.{has_barrier_of}
-use Rattle.core_machine.specs.seat.Seat.{Seat, no_spot, with_entries, call_over, after_call}
 use Rattle.core_machine.specs.declared.seat.looks.Looks.{Looks}
 use Rattle.core_machine.specs.seat.Looks.{forgotten}
-use Rattle.core_machine.specs.machine.Value.{IsMachine}
 use Rattle.core_machine.proofs.table_lemmas.Addresses.{put-at}
 use Rattle.core_machine.proofs.seat_lemmas.Aside.{over_way}
-use Rattle.core_rule.specs.Book.{Book}
-use Rattle.core_rule.specs.Counts.{OwnList}
-use Rattle.core_rule.specs.Cycle.{SeatInCycle}
-use Rattle.core_rule.specs.Gathers.{Began, IsAnswered}
-use Rattle.core_rule.specs.Objects.{node_at}
-use Rattle.core_rule.specs.Registers.{Registers}
-use Rattle.core_rule.specs.Rule.{Rule, OwnStands}
-use Rattle.core_rule.specs.Replicas.{AddressStands}
-use Rattle.core_rule.specs.Ways.{WayStands}
-use Rattle.core_rule.proofs.spines.BudgetFrames.{grants_same}
+use Rattle.core_rule.proofs.budgets.BudgetFrames.{grants_same}
 use Rattle.core_rule.proofs.frames.SeatFrames.{AddressAt, with_entry}
 use Rattle.core_rule.proofs.colours.SpineStays.{same_sources}
 use Rattle.core_rule.proofs.marking.Marks.{Leaves, RootsGoOn, marks_go_on, leaves_words}
-use Rattle.core_rule.proofs.footprint.BookGoing.{book_stays}
+use Rattle.core_rule.proofs.book.BookGoing.{book_stays}
 use Rattle.core_rule.proofs.steps.Assemble.{Keeps, seat_steps, step_space}
-use Rattle.core_rule.proofs.spines.NoneMade.{MakesNone, none_has_place, none_used, none_weights}
+use Rattle.core_rule.proofs.budgets.NoneMade.{MakesNone, none_has_place, none_used, none_weights}
 use Rattle.core_rule.proofs.spines.OtherWords.{spines_left_none}
 use Rattle.core_rule.proofs.spines.SpineFrames.{spine_away}
 use Rattle.core_rule.proofs.cycle.CycleHistory.{cycle_own}

@@ -1,29 +1,13 @@
 -- A reply that stands at a load, and changes no word, keeps the rule.
 use Rattle.std.proofs.Common.{◌≡◌, ℕ, ◌<◌, false, List, [], ◌∷◌, ◌++◌, filter, slice_set, refl, sym, ap, ◌∙◌, subst, arith}
-use Rattle.heap_model.specs.declared.entry.Entry.{Entry}
+use Rattle.core_rule.proofs.Terms.{Entry, Heap, Reply, graph_of, is_of, after_reply, graph_seat, phase, last_answer, has_left, is_leave_of, Graph, IsAtRest, at, put, State}
+use Rattle.core_rule.proofs.Terms.{seat_at, Seat, IsMachine, Book, BornColours, HeapInCycle, Rule}
 use Rattle.heap_model.specs.declared.entry.Entry.TheVariants as entries
-use Rattle.heap_model.specs.declared.heap.Heap.{Heap}
-use Rattle.heap_model.specs.declared.reply.Reply.{Reply}
 use Rattle.heap_model.specs.Command.{IsCommand}
-use Rattle.heap_model.specs.account.Cycles.{graph_of}
-use Rattle.heap_model.specs.account.Effects.{is_of}
-use Rattle.heap_model.specs.graph.Growth.{after_reply}
-use Rattle.heap_model.specs.graph.Objects.{graph_seat}
-use Rattle.heap_model.specs.account.PhaseCounts.{phase, last_answer, has_left, is_leave_of}
-use Rattle.heap_model.specs.graph.Graph.{Graph}
 use Rattle.core_machine.specs.declared.table.address.Address.{Address}
 use Rattle.core_machine.specs.declared.table.address.Address.TheVariants.{Answer}
 use Rattle.core_machine.specs.declared.place.Place.TheVariants as places
-use Rattle.core_machine.specs.seat.Fits.{IsAtRest}
-use Rattle.core_machine.specs.table.Layout.{at, put}
-use Rattle.core_machine.specs.machine.Machine.{State, seat_at}
-use Rattle.core_machine.specs.seat.Seat.{Seat}
-use Rattle.core_machine.specs.machine.Value.{IsMachine}
 use Rattle.core_machine.proofs.table_lemmas.Addresses.{put-at}
-use Rattle.core_rule.specs.Book.{Book}
-use Rattle.core_rule.specs.Colours.{BornColours}
-use Rattle.core_rule.specs.Cycle.{HeapInCycle}
-use Rattle.core_rule.specs.Rule.{Rule}
 use Rattle.core_rule.proofs.frames.SeatFrames.{with_entry}
 use Rattle.core_rule.proofs.colours.SpineStays.{same_sources}
 use Rattle.core_rule.proofs.marking.Marks.{MarksGoOn, RootsGoOn, marks_go_on, leaves_words}
@@ -35,7 +19,7 @@ use Rattle.core_rule.proofs.entries.Legality.{legal_more, keeps_said}
 use Rattle.core_rule.proofs.graph.LocalReplies.{IsLocalReply}
 use Rattle.core_rule.proofs.steps.ReplyStep.{reply_keeps, graph_replies}
 use Rattle.core_rule.proofs.hand.StoredFrames.{SameUnkept}
-use Rattle.core_rule.proofs.spines.NoneMade.{MakesNone}
+use Rattle.core_rule.proofs.budgets.NoneMade.{MakesNone}
 use Rattle.core_rule.proofs.spines.OtherWords.{spines_left_none}
 use Rattle.core_rule.proofs.cycle.Unwatched.{IsApart, cycle_apart}
 

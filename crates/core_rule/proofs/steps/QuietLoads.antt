@@ -1,25 +1,16 @@
 -- A load that is noted nowhere keeps the rule: the call is over there, or goes on at a place of its own.
 use Rattle.std.proofs.Common.{◌≡◌, ℕ, ◌<◌, [], filter, refl, ◌∙◌}
 use Rattle.std.proofs.lemmas.List.{append-nil}
-use Rattle.heap_model.specs.declared.heap.Heap.{Heap}
-use Rattle.heap_model.specs.account.Effects.{is_of}
+use Rattle.core_rule.proofs.Terms.{Heap, is_of, State, seat_at, IsMachine, target_of, IsAtRest, IsSilent, Seat, no_spot, with_entries, call_over, Book, IsAnswered, IsAwaited, Rule}
+use Rattle.core_rule.proofs.Terms.{SeatStands}
 use Rattle.core_machine.specs.declared.place.Collecting.{Collecting}
 use Rattle.core_machine.specs.declared.place.Place.TheVariants as places
 use Rattle.core_machine.specs.declared.table.address.Address.{Address}
-use Rattle.core_machine.specs.machine.Machine.{State, seat_at}
-use Rattle.core_machine.specs.machine.Value.{IsMachine}
-use Rattle.core_machine.specs.seat.Commands.{target_of}
-use Rattle.core_machine.specs.seat.Fits.{IsAtRest, IsSilent}
 use Rattle.core_machine.specs.declared.seat.looks.Looks.{Looks}
-use Rattle.core_machine.specs.seat.Seat.{Seat, no_spot, with_entries, call_over}
-use Rattle.core_rule.specs.Book.{Book}
-use Rattle.core_rule.specs.Gathers.{IsAnswered}
-use Rattle.core_rule.specs.Registers.{IsAwaited}
-use Rattle.core_rule.specs.Rule.{Rule, SeatStands}
 use Rattle.core_rule.proofs.entries.InFlight.{began_on}
-use Rattle.core_rule.proofs.marking.CallRoots.{IsReachedNow}
+use Rattle.core_rule.proofs.roots.CallRoots.{IsReachedNow}
 use Rattle.core_rule.proofs.marking.Marks.{roots_off_way}
-use Rattle.core_rule.proofs.spines.NoneMade.{MakesNone}
+use Rattle.core_rule.proofs.budgets.NoneMade.{MakesNone}
 use Rattle.core_rule.proofs.steps.Assemble.{Keeps}
 use Rattle.core_rule.proofs.steps.Loads.{went, went_cycle, loaded_state, load_goes, ends_went}
 

@@ -1,32 +1,13 @@
 -- A reply that makes no object keeps the rule, where the words that it changes are none but a seat's answer or a kept object's.
 use Rattle.std.proofs.Common.{subst, ◌≡◌, ◌≢◌, ℕ, ◌<◌, false, List, [], ◌∷◌, ◌++◌, length, filter, drop, slice_set, refl, sym, ◌∙◌, arith, append-nil, ap}
 use Rattle.std.proofs.lemmas.List.{get_or-set_same, length-set}
-use Rattle.heap_model.specs.declared.command.Command.{Command}
-use Rattle.heap_model.specs.declared.entry.Entry.{Entry}
+use Rattle.core_rule.proofs.Terms.{Command, Entry, Heap, Reply, IsLegal, graph_of, is_of, after_reply, made_by, words_by, graph_seat, register_value, phase, last_answer, has_left}
+use Rattle.core_rule.proofs.Terms.{taken_of, spent_of, Graph, opening, Fits, IsAtRest, State, seat_at, register_in, Seat, absent_seat, IsMachine, Book, HeapInCycle, SeatInCycle}
+use Rattle.core_rule.proofs.Terms.{AreMade, Objects, node_at, Rule, OwnStands, NamesStand, ToldStands, dead_bit}
 use Rattle.heap_model.specs.declared.entry.Entry.TheVariants as entries
-use Rattle.heap_model.specs.declared.heap.Heap.{Heap}
-use Rattle.heap_model.specs.declared.reply.Reply.{Reply}
-use Rattle.heap_model.specs.account.Account.{IsLegal}
-use Rattle.heap_model.specs.account.Cycles.{graph_of}
-use Rattle.heap_model.specs.account.Effects.{is_of}
-use Rattle.heap_model.specs.graph.Growth.{after_reply}
-use Rattle.heap_model.specs.Needs.{made_by, words_by}
-use Rattle.heap_model.specs.graph.Objects.{graph_seat, register_value}
-use Rattle.heap_model.specs.account.PhaseCounts.{phase, last_answer, has_left}
-use Rattle.heap_model.specs.account.Space.{taken_of, spent_of}
-use Rattle.heap_model.specs.graph.Graph.{Graph, opening}
 use Rattle.heap_model.proofs.Histories.{graph_after-more}
 use Rattle.core_machine.specs.declared.place.Place.TheVariants as places
-use Rattle.core_machine.specs.seat.Fits.{Fits, IsAtRest}
-use Rattle.core_machine.specs.machine.Machine.{State, seat_at}
-use Rattle.core_machine.specs.seat.Registers.{register_in}
-use Rattle.core_machine.specs.seat.Seat.{Seat, absent_seat}
-use Rattle.core_machine.specs.machine.Value.{IsMachine}
-use Rattle.core_rule.specs.Book.{Book}
-use Rattle.core_rule.specs.Cycle.{HeapInCycle, SeatInCycle}
-use Rattle.core_rule.specs.Objects.{AreMade, Objects, node_at}
-use Rattle.core_rule.specs.Registers as regs
-use Rattle.core_rule.specs.Rule.{Rule, OwnStands, NamesStand, ToldStands}
+use Rattle.core_rule.specs.graph.Registers as regs
 use Rattle.core_rule.proofs.marking.Marks.{MarksGoOn}
 use Rattle.core_rule.proofs.steps.Assemble.{Keeps, seat_fits, seat_steps, step_space}
 use Rattle.core_rule.proofs.entries.AtRest.{own_reserve}
@@ -41,15 +22,14 @@ use Rattle.core_rule.proofs.entries.Others.{of_other}
 use Rattle.core_rule.proofs.entries.OwnEntries.{own_grows}
 use Rattle.core_rule.proofs.entries.ReplyEntries.{said_own, said_used, said_taken, said_spent}
 use Rattle.core_rule.proofs.graph.SameNodes.{SameShape, ids_stay, objects_stay, shapes_stay}
-use Rattle.core_rule.proofs.footprint.BookGoing.{book_stays}
+use Rattle.core_rule.proofs.book.BookGoing.{book_stays}
 use Rattle.core_rule.proofs.frames.SeatFrames.{SameParty, with_entry, seat_stays, same_party}
 use Rattle.core_rule.proofs.hand.StoredFrames.{SameUnkept, stored_stays}
-use Rattle.core_rule.proofs.spines.SameBooks.{grants_alike}
+use Rattle.core_rule.proofs.budgets.SameBooks.{grants_alike}
 use Rattle.core_rule.proofs.entries.ToldSpines.{seats_tell, told_spines}
-use Rattle.core_rule.proofs.spines.NoneMade.{MakesNone, SameWeights, none_has_place, none_weights, none_made_words}
+use Rattle.core_rule.proofs.budgets.NoneMade.{MakesNone, SameWeights, none_has_place, none_weights, none_made_words}
 use Rattle.core_rule.proofs.spines.SpineFrames.{same_kept, spines_stay, spine_away}
 use Rattle.core_rule.proofs.owners.DeadOwners.{dead_keeps_none}
-use Rattle.core_rule.specs.Owners.{dead_bit}
 
 -- the graph has the same objects of the same shapes, with the cells that their words have, and the other seats' data
 pub record GraphReplies (heap : Heap) (words : List ℕ) (book : Book) (g now : Graph) (number : ℕ) : Type 0 where
@@ -104,16 +84,20 @@ module _ (heap : Heap) (state : State) (book : Book) (number : ℕ) (words : Lis
       let below : number < length state.seats = rw rule.machine.seated here in
       subst (Fits heap) (get_or-set_same state.seats number now absent_seat below) (machine.fit number (rw (length-set state.seats number now) below))
 
+  -- the rule is kept where the heap, the seat and the others have their parts in the cycle, and marking goes on
+  abbrev KeepsInCycle : Type 0
+  KeepsInCycle = HeapInCycle heap words (phase book.history) book.owner book.colour book.fragments
+      → SeatInCycle heap words (phase later.history) (last_answer number later.history) (has_left number later.history) book.owner book.colour number now
+      → ((r : ℕ) → r < heap.seats → r ≢ number → LeavesCycle heap state.words words book.owner book.owner book.colour book.colour (phase book.history) r)
+      → MarksGoOn heap state book later words now
+      → Keeps heap state (record state { words = words; seats = slice_set state.seats number now }) book book.begun (entry ∷ [])
+
   -- a reply is told, and what the seat has, names and is told of stands
   pub told_keeps : IsLegal heap false later.history → SameUnkept heap book.owner state.words words → GraphReplies heap words book before after number
       → SameWeights seat now → words_by command reply ≡ 0
       → OwnStands heap words book.owner book.spine_owner number now → NamesStand heap words after book.made book.owner book.fragments book.spines book.spine_owner number now
       → ToldStands heap after later.history book.made book.owner book.fragments (book.begun number) number now
-      → HeapInCycle heap words (phase book.history) book.owner book.colour book.fragments
-      → SeatInCycle heap words (phase later.history) (last_answer number later.history) (has_left number later.history) book.owner book.colour number now
-      → ((r : ℕ) → r < heap.seats → r ≢ number → LeavesCycle heap state.words words book.owner book.owner book.colour book.colour (phase book.history) r)
-      → MarksGoOn heap state book later words now
-      → Keeps heap state (record state { words = words; seats = slice_set state.seats number now }) book book.begun (entry ∷ [])
+      → KeepsInCycle
   told_keeps legal same grows weights wordless own names told heap_cycle cycle leaves marks =
       seat_steps heap state book number words now later (entry ∷ []) rule here machine refl refl
       record {
@@ -146,11 +130,7 @@ module _ (heap : Heap) (state : State) (book : Book) (number : ℕ) (words : Lis
   -- the seat stands idle then
   pub reply_keeps : made_by command reply ≡ 0 → MakesNone seat.place → IsAtRest seat → seat.mine ≡ filter (is_of number) book.history → IsLegal heap false later.history
       → SameUnkept heap book.owner state.words words → GraphReplies heap words book before after number → SeatReplies book after number seat now entry
-      → HeapInCycle heap words (phase book.history) book.owner book.colour book.fragments
-      → SeatInCycle heap words (phase later.history) (last_answer number later.history) (has_left number later.history) book.owner book.colour number now
-      → ((r : ℕ) → r < heap.seats → r ≢ number → LeavesCycle heap state.words words book.owner book.owner book.colour book.colour (phase book.history) r)
-      → MarksGoOn heap state book later words now
-      → Keeps heap state (record state { words = words; seats = slice_set state.seats number now }) book book.begun (entry ∷ [])
+      → KeepsInCycle
   reply_keeps none makes rest told legal same grows replies heap_cycle cycle leaves marks =
       let stands = rule.seats_stand number here in
       let idle : IsAtRest now = rw replies.idle at fit_after.at_place in

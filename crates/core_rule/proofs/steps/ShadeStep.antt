@@ -2,32 +2,16 @@
 use Rattle.std.specs.Prelude.{bit_or}
 use Rattle.std.proofs.Common.{◌≡◌, ◌≢◌, ℕ, ◌*◌, ◌/◌, ◌%◌, ◌<◌, List, [], ◌++◌, slice_set, refl, sym, ap, ◌∙◌, subst, arith}
 use Rattle.std.proofs.lemmas.List.{append-nil}
-use Rattle.heap_model.specs.declared.heap.Heap.{Heap}
-use Rattle.heap_model.specs.account.Cycles.{graph_of}
-use Rattle.heap_model.specs.account.PhaseCounts.{phase, last_answer, has_left}
-use Rattle.core_machine.specs.declared.table.address.Address.TheVariants.{Answer, Control}
-use Rattle.core_machine.specs.declared.place.Place.{Place}
-use Rattle.core_machine.specs.seat.Commands.{target_of}
-use Rattle.core_machine.specs.table.Layout.{at, put}
-use Rattle.core_machine.specs.machine.Machine.{State, seat_at}
+use Rattle.core_rule.proofs.Terms.{cycle_phases, Heap, graph_of, phase, last_answer, has_left, Control, Place, target_of, at, put, State, seat_at, Seat, IsMachine, Book}
+use Rattle.core_rule.proofs.Terms.{fragment_at, OwnList, SeatInCycle, IsAnswered, IsMarked, IsKept, node_at, Borne, IsReached, Registers, Rule, WayStands}
+use Rattle.heap_model.specs.PhasePlan.{rest as resting, clearing as clearing_phase}
+use Rattle.core_machine.specs.declared.table.address.Address.TheVariants.{Answer}
 use Rattle.core_machine.specs.table.Operation.{shade_bit_of}
-use Rattle.core_machine.specs.seat.Seat.{Seat}
-use Rattle.core_machine.specs.machine.Value.{IsMachine}
-use Rattle.core_rule.specs.Book.{Book, fragment_at}
-use Rattle.core_rule.specs.Counts.{OwnList}
-use Rattle.core_rule.specs.Cycle.{SeatInCycle}
-use Rattle.core_rule.specs.Gathers.{IsAnswered}
-use Rattle.core_rule.specs.Colours.{IsMarked}
-use Rattle.core_rule.specs.Roots.{IsInMarking}
-use Rattle.core_rule.specs.Objects.{IsKept, node_at}
-use Rattle.core_rule.specs.Owners.{Borne, Kept as KeepsPart}
-use Rattle.core_rule.specs.Paths.{IsReached}
-use Rattle.core_rule.specs.Registers.{Registers}
-use Rattle.core_rule.specs.Rule.{Rule}
-use Rattle.core_rule.specs.Ways.{WayStands}
-use Rattle.core_rule.proofs.spines.BudgetFrames.{grants_same}
+use Rattle.core_rule.specs.roots.Roots.{IsInMarking}
+use Rattle.core_rule.specs.owners.Owners.{Kept as KeepsPart}
+use Rattle.core_rule.proofs.budgets.BudgetFrames.{grants_same}
 use Rattle.core_rule.proofs.frames.SeatFrames.{AddressAt}
-use Rattle.core_rule.proofs.footprint.BookGoing.{IsNamed, mark_goes}
+use Rattle.core_rule.proofs.book.BookGoing.{IsNamed, mark_goes}
 use Rattle.core_rule.proofs.frames.Recoloured.{Recolours, heap_recoloured, seat_recoloured}
 use Rattle.core_rule.proofs.colours.OneBit.{bits_marked}
 use Rattle.core_rule.proofs.words.Addresses.{at-put_apart}
@@ -40,7 +24,7 @@ use Rattle.core_rule.proofs.objects.ObjectFrames.{bears_keeps_none}
 use Rattle.core_rule.proofs.entries.OwnEntries.{counts_same}
 use Rattle.core_rule.proofs.colours.ShadeColours.{with_mark, mark_keeps, mark_marks, mark_away, marks_shade, coloured_shade}
 use Rattle.core_rule.proofs.hand.StoredFrames.{stored_control}
-use Rattle.core_rule.proofs.spines.NoneMade.{MakesNone, none_has_place, none_used, none_weights}
+use Rattle.core_rule.proofs.budgets.NoneMade.{MakesNone, none_has_place, none_used, none_weights}
 use Rattle.core_rule.proofs.spines.OtherWords.{spines_left_control}
 use Rattle.core_rule.proofs.spines.SpineFrames.{address_words, spine_away}
 
@@ -72,7 +56,7 @@ module _ (heap : Heap) (state : State) (book : Book) (number : ℕ) (rule : Rule
   borne_unshaded r x borne = mark_away book.colour f x (λ same. bears_keeps_none r index 0 (sym borne ∙ ap book.owner same ∙ owned))
 
   -- the control words have the new colours
-  recolours : phase book.history % 7 ≢ 0 → Recolours heap words_shaded book (with_mark book.colour f)
+  recolours : phase book.history % cycle_phases ≢ resting → Recolours heap words_shaded book (with_mark book.colour f)
   recolours runs = record {
     bits = bits_marked heap state.words book.owner 32 f rule.machine.table shade_within (omega arith) rule.heap_stands.control_words;
     marks = marks_shade heap state.words book.owner book.colour f rule.machine.table shade_within rule.heap_stands.cycle.marks;
@@ -82,7 +66,7 @@ module _ (heap : Heap) (state : State) (book : Book) (number : ℕ) (rule : Rule
     births = borne_unshaded;
   }
 
-  pub shade_keeps : (shaded : ℕ) (place : Place) → phase book.history % 7 ≢ 0
+  pub shade_keeps : (shaded : ℕ) (place : Place) → phase book.history % cycle_phases ≢ resting
       → IsMachine heap (record state { words = words_shaded; seats = slice_set state.seats number (shading (seat_at state number) shaded place) })
       → Registers (graph_of heap book.history) book.made book.owner book.fragments number (seat_at state number).registers place (target_of (seat_at state number).command)
       → OwnList (graph_of heap book.history) book.history book.made book.owner book.fragments number (shading (seat_at state number) shaded place)
@@ -91,7 +75,7 @@ module _ (heap : Heap) (state : State) (book : Book) (number : ℕ) (rule : Rule
       → ¬ IsAnswered (seat_at state number).place
       → SeatInCycle heap words_shaded (phase book.history) (last_answer number book.history) (has_left number book.history) book.owner (with_mark book.colour f) number (shading (seat_at state number) shaded place)
       → (IsInMarking state.collector → (seat_at state number).answered ≡ state.collector.phase → IsReached heap state.words book.owner book.colour f)
-      → RootsGoOn heap state book rule number here (shading (seat_at state number) shaded place) → (seat_at state number).answered % 7 ≢ 6
+      → RootsGoOn heap state book rule number here (shading (seat_at state number) shaded place) → (seat_at state number).answered % cycle_phases ≢ clearing_phase
       → IsNamed heap state book f → Keeps heap state (record state { words = words_shaded; seats = slice_set state.seats number (shading (seat_at state number) shaded place) }) book book.begun []
   shade_keeps shaded place runs machine held list way before after address busy cycle comes roots early named =
       let seat : Seat = seat_at state number in

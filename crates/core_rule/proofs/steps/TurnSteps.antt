@@ -1,27 +1,16 @@
 -- A turn of the collector keeps the rule, where the heap, each seat and the collector stand after it.
 use Rattle.std.proofs.Common.{◌≡◌, ℕ, ◌/◌, ◌<◌, List, [], ◌++◌, refl, sym, ◌∙◌, subst}
 use Rattle.std.proofs.lemmas.List.{append-nil}
-use Rattle.heap_model.specs.declared.entry.Entry.{Entry}
-use Rattle.heap_model.specs.declared.entry.Entry.TheVariants.{Ends}
-use Rattle.heap_model.specs.declared.heap.Heap.{Heap}
-use Rattle.heap_model.specs.PhasePlan.{cycle_phases}
-use Rattle.heap_model.specs.account.Cycles.{EndsCycle}
+use Rattle.core_rule.proofs.Terms.{Entry, Ends, Heap, cycle_phases, EndsCycle, Stage, Collector, turn_at, at, put, State, seat_at, state_after_turn, IsMachine, Book, HalvesStand}
+use Rattle.core_rule.proofs.Terms.{CollectorAgrees, Rule, HeapStands, SeatStands, MarksStand, SpaceStands}
 use Rattle.core_machine.specs.declared.table.address.Address.{Address}
-use Rattle.core_machine.specs.declared.collector.stage.Stage.{Stage}
 use Rattle.core_machine.specs.declared.collector.stage.Stage.TheVariants as stages
-use Rattle.core_machine.specs.collector.Collector.{Collector, Turn, turn_at}
-use Rattle.core_machine.specs.table.Layout.{at, put}
-use Rattle.core_machine.specs.machine.Machine.{State, seat_at, state_after_turn}
-use Rattle.core_machine.specs.machine.Value.{IsMachine}
+use Rattle.core_machine.specs.collector.Collector.{Turn}
 use Rattle.core_machine.proofs.table_lemmas.Addresses.{put-at}
-use Rattle.core_rule.specs.Book.{Book}
-use Rattle.core_rule.specs.Halves.{HalvesStand}
-use Rattle.core_rule.specs.Phases.{CollectorAgrees}
-use Rattle.core_rule.specs.Rule.{Rule, HeapStands, SeatStands, MarksStand, SpaceStands}
-use Rattle.core_rule.proofs.footprint.BookGoing.{BookGoesOn, book_stays}
-use Rattle.core_rule.proofs.spines.BudgetSteps.{budgets_told}
-use Rattle.core_rule.proofs.spines.BudgetFrames.{SameGrants, grants_same}
-use Rattle.core_rule.proofs.spines.HalvesFrames.{StageGoesOn, budgets_turn, halves_turn}
+use Rattle.core_rule.proofs.book.BookGoing.{BookGoesOn, book_stays}
+use Rattle.core_rule.proofs.budgets.BudgetSteps.{budgets_told}
+use Rattle.core_rule.proofs.budgets.BudgetFrames.{SameGrants, grants_same}
+use Rattle.core_rule.proofs.halves.HalvesFrames.{StageGoesOn, budgets_turn, halves_turn}
 use Rattle.core_rule.proofs.spines.OtherWords.{LeavesSpines, spines_left_none}
 use Rattle.core_rule.proofs.steps.Assemble.{Keeps, parts_keep}
 

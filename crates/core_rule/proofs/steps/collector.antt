@@ -1,4 +1,4 @@
--- Kinds of the collector, a file for each, and one for the loads of the sweep.
+-- Kinds of turns of the collector, a file for each, which hands over all that is asked of the kind, and the one table of them by stage.
 pub mod PassStep
 pub mod FlipStep
 pub mod AdvanceStep
@@ -20,50 +20,44 @@ pub mod CopyLoadStep
 pub mod CopyStoreStep
 pub mod SwingStep
 pub mod SweepStep
+pub mod FreeBits
 pub mod FreeStep
 pub mod ReturnStep
 pub mod ClearStep
 pub mod EndStep
-use Rattle.std.proofs.Common.{◌≡◌}
-use Rattle.heap_model.specs.declared.heap.Heap.{Heap}
 use Rattle.core_machine.specs.declared.collector.stage.Copying.{Copying}
 use Rattle.core_machine.specs.declared.collector.stage.Copying.TheVariants as copying
-use Rattle.core_machine.specs.declared.collector.stage.Stage.{Stage}
+use Rattle.core_rule.proofs.Terms.{Stage}
 use Rattle.core_machine.specs.declared.collector.stage.Stage.TheVariants as stages
-use Rattle.core_machine.specs.collector.Collector.{turn_at}
-use Rattle.core_machine.specs.machine.Machine.{State}
-use Rattle.core_rule.specs.Book.{Book}
-use Rattle.core_rule.specs.Rule.{Rule}
-use Rattle.core_rule.proofs.steps.TurnSteps.{TurnKeeps, MayEnd}
+use Rattle.core_rule.proofs.steps.TurnKinds.{TurnKind}
 
-module _ (heap : Heap) (state : State) (book : Book) (rule : Rule heap state book) (ends : MayEnd heap state book) where
-  -- each turn of copying keeps the rule
-  copying_keeps_at : (stage : Copying) → state.collector.stage ≡ stages.Copying stage → TurnKeeps heap state book (turn_at heap state.collector (stages.Copying stage))
-  copying_keeps_at (copying.Visiting group) is = VisitStep.visit_keeps group heap state book rule is
-  copying_keeps_at (copying.Inspecting visit) is = InspectStep.inspect_keeps visit heap state book rule is
-  copying_keeps_at (copying.Naming visit words) is = FindStep.name_copy_keeps visit words heap state book rule is
-  copying_keeps_at (copying.Locating array) is = FindStep.find_keeps array heap state book rule is
-  copying_keeps_at (copying.Claiming array from) is = CopyClaimStep.copy_claim_keeps array from heap state book rule is
-  copying_keeps_at (copying.Loading copy) is = CopyLoadStep.copy_load_keeps copy heap state book rule is
-  copying_keeps_at (copying.Storing copy word) is = CopyStoreStep.copy_store_keeps copy word heap state book rule is
-  copying_keeps_at (copying.Swinging copy) is = SwingStep.swing_keeps copy heap state book rule is
+-- the kind of turn at each stage of copying
+copying_kind : (stage : Copying) → TurnKind (stages.Copying stage)
+copying_kind (copying.Visiting group) = VisitStep.visit_kind group
+copying_kind (copying.Inspecting visit) = InspectStep.inspect_kind visit
+copying_kind (copying.Naming visit words) = FindStep.name_copy_kind visit words
+copying_kind (copying.Locating array) = FindStep.find_kind array
+copying_kind (copying.Claiming array from) = CopyClaimStep.copy_claim_kind array from
+copying_kind (copying.Loading copy) = CopyLoadStep.copy_load_kind copy
+copying_kind (copying.Storing copy word) = CopyStoreStep.copy_store_kind copy word
+copying_kind (copying.Swinging copy) = SwingStep.swing_kind copy
 
-  -- each turn keeps the rule, by its stage
-  pub turn_keeps_at : (stage : Stage) → state.collector.stage ≡ stage → TurnKeeps heap state book (turn_at heap state.collector stage)
-  turn_keeps_at stages.Looking is = LookStep.look_keeps heap state book rule is
-  turn_keeps_at (stages.Scanning scan) is = ScanStep.scan_keeps scan heap state book rule is
-  turn_keeps_at (stages.Shading scan target next) is = MarkShadeStep.mark_shade_keeps scan target next heap state book rule is
-  turn_keeps_at (stages.Locating scan count) is = LocateStep.locate_keeps scan count heap state book rule is
-  turn_keeps_at (stages.Indexing s) is = IndexStep.index_keeps s heap state book rule is
-  turn_keeps_at (stages.Spreading s target) is = SpreadStep.spread_keeps s target heap state book rule is
-  turn_keeps_at (stages.Blackening scan) is = BlackenStep.blacken_keeps scan heap state book rule is
-  turn_keeps_at stages.Advancing is = AdvanceStep.advance_keeps heap state book rule is
-  turn_keeps_at (stages.Passing group found) is = PassStep.pass_keeps group found heap state book rule is
-  turn_keeps_at stages.Flipping is = FlipStep.flip_keeps heap state book rule is
-  turn_keeps_at (stages.Copying stage) is = copying_keeps_at stage is
-  turn_keeps_at (stages.Sweeping group) is = SweepStep.sweep_keeps group heap state book rule is
-  turn_keeps_at (stages.Examining group dead place counted) is = SweepStep.examine_keeps group dead place counted heap state book rule is
-  turn_keeps_at (stages.Freeing group dead counted) is = FreeStep.free_keeps group dead counted heap state book rule is
-  turn_keeps_at (stages.Returning group counted) is = ReturnStep.return_keeps group counted heap state book rule is
-  turn_keeps_at (stages.Clearing group kept) is = ClearStep.clear_keeps group kept heap state book rule is
-  turn_keeps_at (stages.Ending kept) is = EndStep.end_keeps kept heap state book rule is (ends kept is)
+-- the kind of turn at each stage
+pub turn_kind : (stage : Stage) → TurnKind stage
+turn_kind stages.Looking = LookStep.look_kind
+turn_kind (stages.Passing group found) = PassStep.pass_kind group found
+turn_kind (stages.Scanning scan) = ScanStep.scan_kind scan
+turn_kind (stages.Shading scan target next) = MarkShadeStep.mark_shade_kind scan target next
+turn_kind (stages.Locating scan count) = LocateStep.locate_kind scan count
+turn_kind (stages.Indexing s) = IndexStep.index_kind s
+turn_kind (stages.Spreading s target) = SpreadStep.spread_kind s target
+turn_kind (stages.Blackening scan) = BlackenStep.blacken_kind scan
+turn_kind stages.Flipping = FlipStep.flip_kind
+turn_kind (stages.Copying stage) = copying_kind stage
+turn_kind (stages.Sweeping group) = SweepStep.sweep_kind group
+turn_kind (stages.Examining group dead place counted) = SweepStep.examine_kind group dead place counted
+turn_kind (stages.Freeing group dead counted) = FreeStep.free_kind group dead counted
+turn_kind (stages.Returning group counted) = ReturnStep.return_kind group counted
+turn_kind (stages.Clearing group kept) = ClearStep.clear_kind group kept
+turn_kind (stages.Ending kept) = EndStep.end_kind kept
+turn_kind stages.Advancing = AdvanceStep.advance_kind

@@ -1,36 +1,17 @@
 -- A seat's data are what its own list tells.
 use Rattle.std.proofs.Common.{◌≡◌, ℕ, ◌<◌, List, [], ◌∷◌, ◌++◌, length, filter, refl, sym, ap, ◌∙◌, subst, arith}
 use Rattle.std.proofs.lemmas.List.{append-nil}
-use Rattle.heap_model.specs.account.Cycles.{graph_of}
-use Rattle.heap_model.specs.account.Effects.{is_of, no_effect}
-use Rattle.heap_model.specs.account.Space.{total_of}
+use Rattle.core_rule.proofs.Terms.{graph_of, is_of, no_effect, total_of, Command, Entry, Heap, Said, Value, stamp_of, Graph, Node, register_value, Place, State, seat_at, target_of}
+use Rattle.core_rule.proofs.Terms.{FitsWay, register_in, Seat, Book, Awaits, OwnList, IsAwaited, Rule}
 use Rattle.heap_model.specs.declared.account.effect.Effect.{Effect}
-use Rattle.heap_model.specs.declared.command.Command.{Command}
 use Rattle.heap_model.specs.declared.command.Command.TheVariants as commands
-use Rattle.heap_model.specs.declared.entry.Entry.{Entry}
-use Rattle.heap_model.specs.declared.heap.Heap.{Heap}
-use Rattle.heap_model.specs.declared.entry.Entry.TheVariants.{Said}
-use Rattle.heap_model.specs.declared.id.Value.{Value}
 use Rattle.heap_model.specs.declared.id.Value.TheVariants as values
 use Rattle.heap_model.specs.declared.reply.Reply.TheVariants.{Got}
-use Rattle.heap_words.specs.Loaded.{stamp_of}
-use Rattle.heap_model.specs.graph.Graph.{Graph, Node}
-use Rattle.heap_model.specs.graph.Objects.{register_value}
 use Rattle.core_machine.specs.declared.place.Access.TheVariants.{Naming}
-use Rattle.core_machine.specs.declared.place.Place.{Place}
 use Rattle.core_machine.specs.declared.place.Place.TheVariants as places
-use Rattle.core_machine.specs.machine.Machine.{State, seat_at}
-use Rattle.core_machine.specs.seat.Commands.{target_of}
-use Rattle.core_machine.specs.seat.Fits.{FitsWay}
 use Rattle.core_machine.specs.seat.FitsAccess.{IsGet}
-use Rattle.core_machine.specs.seat.Registers.{register_in}
-use Rattle.core_machine.specs.seat.Seat.{Seat}
-use Rattle.core_rule.specs.Book.{Book}
-use Rattle.core_rule.specs.Counts.{Awaits, OwnList}
-use Rattle.core_rule.specs.OwnGraphs.{IsSeatsPart, EachOwnGraphIsPart}
-use Rattle.core_rule.specs.Registers.{IsAwaited}
-use Rattle.core_rule.specs.Rule.{Rule}
-use Rattle.core_rule.specs.Told.{IsAsTold, EachSeatIsAsTold}
+use Rattle.core_rule.specs.growth.OwnGraphs.{IsSeatsPart, EachOwnGraphIsPart}
+use Rattle.core_rule.specs.told.Told.{IsAsTold, EachSeatIsAsTold}
 use Rattle.core_rule.proofs.entries.AtRest.{seat_fits}
 use Rattle.core_rule.proofs.graph.SameValues.{held_value as value_held}
 use Rattle.core_rule.proofs.growth.OwnGraphs.{same_value, as_many, each_own_graph_is_part}

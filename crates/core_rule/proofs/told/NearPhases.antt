@@ -1,15 +1,8 @@
 -- The phase word is near to what a seat has answered, and so is another seat's word.
 use Rattle.std.proofs.Common.{◌≡◌, ℕ, ◌+◌, ◌<◌, ◌≤◌, Bool, true, false, refl, sym, ap, ◌∙◌, inl, inr, arith}
-use Rattle.heap_model.specs.account.PhaseCounts.{phase}
-use Rattle.heap_model.specs.declared.heap.Heap.{Heap}
+use Rattle.core_rule.proofs.Terms.{phase, Heap, State, seat_at, Seat, at, Book, IsNear, answer_word, Rule}
 use Rattle.core_machine.specs.declared.table.address.Address.TheVariants.{Phase, Answer}
-use Rattle.core_machine.specs.machine.Machine.{State, seat_at}
-use Rattle.core_machine.specs.seat.Seat.{Seat}
-use Rattle.core_machine.specs.table.Layout.{at}
-use Rattle.core_rule.specs.Book.{Book}
-use Rattle.core_rule.specs.Found.{IsAnsweredOrNext, TellsAnswer}
-use Rattle.core_rule.specs.Phases.{IsNear, answer_word}
-use Rattle.core_rule.specs.Rule.{Rule}
+use Rattle.core_rule.specs.told.Found.{IsAnsweredOrNext, TellsAnswer}
 
 -- the phase is at most one ahead of an answer that is near to it
 near_next : (phase answer : ℕ) → IsNear phase answer → phase ≤ answer + 1

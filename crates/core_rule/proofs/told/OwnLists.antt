@@ -4,20 +4,14 @@ use Rattle.std.specs.Prelude.{cond}
 use Rattle.std.proofs.lemmas.Bool.{cases_lt, eq-eqb}
 use Rattle.std.proofs.lemmas.List.{get_or-set_same, get_or-set_other, get_or_past}
 use Rattle.std.proofs.lemmas.List.Sums.{sum_by-cons}
-use Rattle.heap_model.specs.account.Cycles.{graph_of}
-use Rattle.heap_model.specs.account.Effects.{effect_of, is_of, no_effect}
-use Rattle.heap_model.specs.account.Space.{total_of}
+use Rattle.core_rule.proofs.Terms.{graph_of, effect_of, is_of, no_effect, total_of, Entry, Heap, Value, with_register, Graph, opening, graph_seat, absent_graph_seat}
+use Rattle.core_rule.proofs.Terms.{register_value}
 use Rattle.heap_model.specs.declared.account.effect.Effect.{Effect}
 use Rattle.heap_model.specs.declared.command.Command.TheVariants as commands
-use Rattle.heap_model.specs.declared.entry.Entry.{Entry}
 use Rattle.heap_model.specs.declared.entry.Entry.TheVariants as entries
-use Rattle.heap_model.specs.declared.heap.Heap.{Heap}
-use Rattle.heap_model.specs.declared.id.Value.{Value}
 use Rattle.heap_model.specs.declared.id.Value.TheVariants as values
 use Rattle.heap_model.specs.declared.reply.Reply.TheVariants as replies
-use Rattle.heap_model.specs.graph.Changes.{with_register}
-use Rattle.heap_model.specs.graph.Graph.{Graph, GraphSeat, opening}
-use Rattle.heap_model.specs.graph.Objects.{graph_seat, absent_graph_seat, register_value}
+use Rattle.heap_model.specs.graph.Graph.{GraphSeat}
 use Rattle.heap_model.proofs.Histories.{graph_after-more}
 use Rattle.core_rule.proofs.entries.OwnEntries.{total_of-own}
 

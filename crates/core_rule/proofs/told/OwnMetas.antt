@@ -3,36 +3,20 @@ use Rattle.std.specs.Prelude.{IfSome, if◌then◌else◌, option_map}
 use Rattle.std.proofs.Common.{◌≡◌, ℕ, ◌<◌, List, length, Option, Some, None, slice_get, filter, map, refl, sym, ap, ◌∙◌, subst, inl, inr}
 use Rattle.std.proofs.lemmas.Bool.{cases_eq}
 use Rattle.std.proofs.lemmas.Option.{slice_get-map}
-use Rattle.heap_model.specs.account.Cycles.{graph_of}
-use Rattle.heap_model.specs.account.Effects.{is_of}
+use Rattle.core_rule.proofs.Terms.{graph_of, is_of, Entry, Heap, Id, Board, Made, Value, Graph, Node, graph_seat, node, register_value, target_node, Word, State, seat_at}
+use Rattle.core_rule.proofs.Terms.{target_of, register_in, register_head, Register, Seat, at, Book, fragment_at, object_number, object_head, IsKept, NamesKept, node_in, node_at}
+use Rattle.core_rule.proofs.Terms.{HoldsValue, IsAwaited, Rule}
 use Rattle.heap_model.specs.calls.SeatState.{own_object, held_value}
-use Rattle.heap_model.specs.declared.entry.Entry.{Entry}
-use Rattle.heap_model.specs.declared.heap.Heap.{Heap}
-use Rattle.heap_model.specs.declared.id.Id.{Id}
-use Rattle.heap_model.specs.declared.id.Id.TheVariants.{Board, Made}
-use Rattle.heap_model.specs.declared.id.Value.{Value}
 use Rattle.heap_model.specs.declared.id.Value.TheVariants as values
-use Rattle.heap_model.specs.graph.Graph.{Graph, Node}
-use Rattle.heap_model.specs.graph.Objects.{graph_seat, node, register_value, target_node}
-use Rattle.core_machine.specs.declared.table.address.Address.TheVariants.{Word}
-use Rattle.core_machine.specs.machine.Machine.{State, seat_at}
-use Rattle.core_machine.specs.seat.Commands.{target_of}
-use Rattle.core_machine.specs.seat.Registers.{register_in, register_head}
-use Rattle.core_machine.specs.declared.seat.register.Register.{Register}
 use Rattle.core_machine.specs.declared.seat.register.Register.TheVariants.{Nil, Number, Object}
-use Rattle.core_machine.specs.seat.Seat.{Seat}
-use Rattle.core_machine.specs.table.Layout.{at}
-use Rattle.core_rule.specs.Book.{Book, fragment_at, object_number, object_head}
-use Rattle.core_rule.specs.Found.{IsMetaOf, TellsMeta}
-use Rattle.core_rule.specs.Objects.{IsKept, NamesKept, node_in, node_at}
-use Rattle.core_rule.specs.OwnGraphs.{Shape, shape_of, IsSeatsPart}
-use Rattle.core_rule.specs.Registers.{HoldsValue, IsAwaited}
+use Rattle.core_rule.specs.told.Found.{IsMetaOf, TellsMeta}
+use Rattle.core_rule.specs.growth.OwnGraphs.{Shape, shape_of, IsSeatsPart}
 use Rattle.core_rule.proofs.graph.Numbering.{id_at-number_of}
 use Rattle.core_rule.proofs.graph.SameValues.{held_value as value_held}
-use Rattle.core_rule.specs.Rule.{Rule}
-use Rattle.core_rule.specs.Told.{own_state}
+use Rattle.core_rule.specs.told.Told.{own_state}
 use Rattle.core_rule.proofs.told.AsTold.{own_part, as_told}
 use Rattle.core_rule.proofs.ways.KeptWords.{length_found, array_length_found}
+use Rattle.core_rule.proofs.graph.ToldGraph.{told_graph}
 
 -- an object that one list of objects has is one of that shape in each that is alike
 shape_in : (o : Option Node) (object : Node) → option_map shape_of o ≡ Some (shape_of object) → shape_of (node_in o) ≡ shape_of object
@@ -64,29 +48,26 @@ module _ (heap : Heap) (state : State) (book : Book) (number : ℕ) (rule : Rule
   abbrev seat : Seat
   seat = seat_at state number
 
-  abbrev g : Graph
-  g = graph_of heap book.history
-
   -- a kept object's meta tells its length, and whether it is an array
-  meta_is : (index : ℕ) (object : Node) → index < length book.made → IsKept book.owner book.fragments index → shape_of (node_at g book.made index) ≡ shape_of object
+  meta_is : (index : ℕ) (object : Node) → index < length book.made → IsKept book.owner book.fragments index → shape_of (node_at (told_graph heap book) book.made index) ≡ shape_of object
       → IsMetaOf object (at heap state.words (Word (fragment_at (book.fragments index) 0) 0))
   meta_is index object below kept shape = record {
-    length_is = length_found heap state.words g book.made book.owner book.fragments rule.machine.limits rule.heap_stands.control_words rule.heap_stands.ids rule.heap_stands.objects index below kept
+    length_is = length_found heap state.words (told_graph heap book) book.made book.owner book.fragments rule.machine.limits rule.heap_stands.control_words rule.heap_stands.ids rule.heap_stands.objects index below kept
         ∙ ap (λ (x : Shape). x.cells) shape;
-    kind_is = array_length_found heap state.words g book.made book.owner book.fragments rule.machine.limits rule.heap_stands.control_words rule.heap_stands.ids rule.heap_stands.objects index below kept
+    kind_is = array_length_found heap state.words (told_graph heap book) book.made book.owner book.fragments rule.machine.limits rule.heap_stands.control_words rule.heap_stands.ids rule.heap_stands.objects index below kept
         ∙ ap (λ (x : Shape). if x.array then Some x.cells else None) shape;
   }
 
   -- while no reply of its own is awaited, the object of an id by the seat's own graph has the meta
   module _ (told : seat.mine ≡ filter (is_of number) book.history) where
-    part : IsSeatsPart number (graph_of heap seat.mine) g
-    part = subst (λ (l : List Entry). IsSeatsPart number (graph_of heap l) g) (sym told) (own_part heap book.history number)
+    part : IsSeatsPart number (graph_of heap seat.mine) (told_graph heap book)
+    part = subst (λ (l : List Entry). IsSeatsPart number (graph_of heap l) (told_graph heap book)) (sym told) (own_part heap book.history number)
 
     named_meta : (id : Id) → NamesKept book.made book.owner book.fragments (values.Object id)
         → IfSome (node (graph_of heap seat.mine) id) (λ object. IsMetaOf object (at heap state.words (Word (object_head book.made book.fragments id) 0)))
     named_meta id kept = if_some (λ object. IsMetaOf object (at heap state.words (Word (object_head book.made book.fragments id) 0))) (node (graph_of heap seat.mine) id)
         (λ object there. meta_is (object_number book.made id) object kept.0 kept.1
-        (ap (λ x. shape_of (node_in (node g x))) (id_at-number_of book.made id kept.0) ∙ own_shape number (graph_of heap seat.mine) g part id object there))
+        (ap (λ x. shape_of (node_in (node (told_graph heap book) x))) (id_at-number_of book.made id kept.0) ∙ own_shape number (graph_of heap seat.mine) (told_graph heap book) part id object there))
 
     -- of each register
     held_meta : (r fragment : ℕ) (held : Register) (value : Value) → HoldsValue book.made book.owner book.fragments held value → held_value (own_state heap number seat) r ≡ value
@@ -102,5 +83,5 @@ module _ (heap : Heap) (state : State) (book : Book) (number : ℕ) (rule : Rule
     metas_told free fragment r begins =
         let none = free (target_of seat.command) r in
         let holds = (rule.seats_stand number here).names.registers r none in
-        held_meta r fragment (register_in seat.registers r) (register_value g number r) holds
-        (sym ((as_told heap state book number rule here).registers r none) ∙ sym (value_held book.made book.owner book.fragments (register_in seat.registers r) (register_value g number r) holds)) begins
+        held_meta r fragment (register_in seat.registers r) (register_value (told_graph heap book) number r) holds
+        (sym ((as_told heap state book number rule here).registers r none) ∙ sym (value_held book.made book.owner book.fragments (register_in seat.registers r) (register_value (told_graph heap book) number r) holds)) begins

@@ -1,52 +1,32 @@
 -- What a call has reached is of the object that its register holds.
 use Rattle.std.specs.Prelude.{if◌then◌else◌, option_map, unwrap_or}
 use Rattle.std.proofs.Common.{◌≡◌, ℕ, ◌%◌, ◌<◌, Option, Some, refl, sym, ap, ◌∙◌, subst, arith}
-use Rattle.heap_model.specs.account.Cycles.{graph_of}
-use Rattle.heap_model.specs.declared.heap.Heap.{Heap}
+use Rattle.core_rule.proofs.Terms.{Heap, Node, LoadingMeta, Walking, Indexing, Getting, LoadingOld, ShadingOld, ShadingNew, Swapping, Place, Word, State, seat_at, found_by, Move}
+use Rattle.core_rule.proofs.Terms.{move_at, due_step, part_of, field_of, FitsWay, Seat, id_of, at, Book, fragment_at, id_at, object_number, Awaits, IsAwaitingName, WhileAccess}
+use Rattle.core_rule.proofs.Terms.{node_at, IsAwaited, Rule, Kept, AccessStands, WayStands, Finds, Locates, SetsOut, OnWay}
 use Rattle.heap_model.specs.declared.id.Value.TheVariants as values
-use Rattle.heap_model.specs.graph.Graph.{Graph, Node}
 use Rattle.core_machine.specs.declared.place.Access.{Access}
-use Rattle.core_machine.specs.declared.place.Access.TheVariants.{LoadingMeta, Walking, Locating, Indexing, Getting, Naming, LoadingOld, ShadingOld, ShadingNew, Swapping}
-use Rattle.core_machine.specs.declared.place.Place.{Place}
+use Rattle.core_machine.specs.declared.place.Access.TheVariants.{Locating, Naming}
 use Rattle.core_machine.specs.declared.place.Place.TheVariants as places
 use Rattle.core_machine.specs.declared.step.AccessStep.TheVariants.{NameLoad}
 use Rattle.core_machine.specs.declared.step.Step.{Step}
 use Rattle.core_machine.specs.declared.step.Step.TheVariants as steps
-use Rattle.core_machine.specs.declared.table.address.Address.TheVariants.{Word}
-use Rattle.core_machine.specs.machine.Machine.{State, seat_at, found_by}
-use Rattle.core_machine.specs.Moves.{Move, move_at, due_step}
-use Rattle.core_machine.specs.seat.Access.{part_of}
 use Rattle.core_machine.specs.seat.AccessMoves.{loaded_head_of}
-use Rattle.core_machine.specs.seat.Commands.{field_of}
-use Rattle.core_machine.specs.seat.Fits.{FitsWay}
 use Rattle.core_machine.specs.seat.FitsAccess.{FitsAccess}
-use Rattle.core_machine.specs.seat.Seat.{Seat}
-use Rattle.core_machine.specs.table.Decode.{id_of}
-use Rattle.core_machine.specs.table.Layout.{at}
-use Rattle.core_rule.specs.Book.{Book, fragment_at, id_at, object_number}
-use Rattle.core_rule.specs.Counts.{Awaits, IsAwaitingName}
-use Rattle.core_rule.specs.Flight.{WhileAccess}
-use Rattle.core_rule.specs.Objects.{node_at}
-use Rattle.core_rule.specs.Registers.{IsAwaited}
-use Rattle.core_rule.specs.Rule.{Rule}
-use Rattle.core_rule.specs.Owners.{Kept}
-use Rattle.core_rule.specs.Reached.{IsOnObject, ReachesObject, ReachesArray, ReachesRow, IsFieldPlace, AwaitsName, ReachesOwn, EachReachesOwn, NamesReached, ReachesInBook}
+use Rattle.core_rule.specs.told.Reached.{IsOnObject, ReachesObject, ReachesArray, ReachesRow, IsFieldPlace, AwaitsName, ReachesOwn, EachReachesOwn, NamesReached, ReachesInBook}
 use Rattle.core_rule.specs.Stands.{Stands}
-use Rattle.core_rule.specs.Ways.{AccessStands, WayStands, Finds, Locates, SetsOut, OnWay}
 use Rattle.core_rule.proofs.entries.AtRest.{seat_fits, none_awaited}
 use Rattle.core_rule.proofs.graph.Numbering.{id_at-number_of}
 use Rattle.core_rule.proofs.ways.AtObject.{way_object}
 use Rattle.core_rule.proofs.ways.KeptWords.{row_ahead, name_found}
+use Rattle.core_rule.proofs.graph.ToldGraph.{told_graph}
 
 module _ (heap : Heap) (state : State) (book : Book) (number : ℕ) (rule : Rule heap state book) (here : number < heap.seats) where
   abbrev seat : Seat
   seat = seat_at state number
 
-  abbrev g : Graph
-  g = graph_of heap book.history
-
   abbrev nodes : ℕ → Node
-  nodes = node_at g book.made
+  nodes = node_at (told_graph heap book) book.made
 
   -- what was reached on the way to an object's row is of the object that the register holds
   on_object : (place : Access) → seat.place ≡ places.Access place → ((d r : ℕ) → ¬ IsAwaited (places.Access place) d r) → (index row : ℕ) → OnWay book.made book.owner book.fragments seat index row
@@ -75,7 +55,7 @@ module _ (heap : Heap) (state : State) (book : Book) (number : ℕ) (rule : Rule
   -- a row before the field's, or that
   at_row : (place : Access) → seat.place ≡ places.Access place → ((d r : ℕ) → ¬ IsAwaited (places.Access place) d r) → Finds nodes book.made book.owner book.fragments seat → ReachesRow heap book number seat seat.links
   at_row place is free finds =
-      let ahead = row_ahead heap state.words g book.made book.owner book.fragments rule.machine.limits rule.heap_stands.control_words rule.heap_stands.ids rule.heap_stands.objects seat finds in
+      let ahead = row_ahead heap state.words (told_graph heap book) book.made book.owner book.fragments rule.machine.limits rule.heap_stands.control_words rule.heap_stands.ids rule.heap_stands.objects seat finds in
       record {
         object = finds.index;
         row = finds.row;
@@ -91,8 +71,8 @@ module _ (heap : Heap) (state : State) (book : Book) (number : ℕ) (rule : Rule
   at_name : seat.place ≡ places.Access Naming → AwaitsName heap book number seat
   at_name is =
       let list = (rule.seats_stand number here).told.list in
-      let awaits : IsAwaitingName g book.made book.owner book.fragments number seat list.awaited =
-      subst (λ (p : Place). Awaits g book.made book.owner book.fragments number seat p list.awaited) is list.awaits in
+      let awaits : IsAwaitingName (told_graph heap book) book.made book.owner book.fragments number seat list.awaited =
+      subst (λ (p : Place). Awaits (told_graph heap book) book.made book.owner book.fragments number seat p list.awaited) is list.awaits in
       record {
         object = object_number book.made awaits.id;
         below = awaits.kept.0;
@@ -129,7 +109,7 @@ module _ (heap : Heap) (state : State) (book : Book) (number : ℕ) (rule : Rule
   named_by : (awaits : AwaitsName heap book number seat) → id_of (at heap state.words (Word (loaded_head_of seat) 1)) ≡ id_at book.made awaits.object
   named_by awaits =
       ap (λ (o : Option ℕ). id_of (at heap state.words (Word (unwrap_or o 0) 1))) awaits.loads
-      ∙ name_found heap state.words g book.made book.owner book.fragments rule.machine.limits rule.heap_stands.control_words rule.heap_stands.ids rule.heap_stands.objects awaits.object awaits.below awaits.kept
+      ∙ name_found heap state.words (told_graph heap book) book.made book.owner book.fragments rule.machine.limits rule.heap_stands.control_words rule.heap_stands.ids rule.heap_stands.objects awaits.object awaits.below awaits.kept
 
   module _ (step : Step) (due : due_step heap number seat ≡ Some step) where
     names_at : (place : Access) → seat.place ≡ places.Access place → (reaches : ReachesOwn heap book number seat place) → NamesReached heap book number seat (found_by heap state step) place reaches

@@ -1,10 +1,8 @@
 -- A store finds no word: what is told at its step is told of any word.
 use Rattle.std.specs.Prelude.{option_map}
 use Rattle.std.proofs.Common.{◌≡◌, ℕ, Some, ap, ◌∙◌}
-use Rattle.heap_model.specs.declared.heap.Heap.{Heap}
+use Rattle.core_rule.proofs.Terms.{Heap, LoadingMeta, Place, Move, move_at, due_step, access_move, Seat, operation_of, WhileAccess}
 use Rattle.core_machine.specs.declared.place.Access.{Access}
-use Rattle.core_machine.specs.declared.place.Access.TheVariants.{LoadingMeta, Walking, Locating, Indexing, Getting, Naming, LoadingOld, ShadingOld, ShadingNew, Swapping}
-use Rattle.core_machine.specs.declared.place.Place.{Place}
 use Rattle.core_machine.specs.declared.place.Place.TheVariants as places
 use Rattle.core_machine.specs.declared.step.AccessStep.TheVariants.{WalkLoad}
 use Rattle.core_machine.specs.declared.step.operation.Operation.TheVariants.{Store}
@@ -12,11 +10,7 @@ use Rattle.core_machine.specs.declared.step.SpineStep.TheVariants.{BudgetAdd}
 use Rattle.core_machine.specs.declared.step.Step.{Step}
 use Rattle.core_machine.specs.declared.step.Step.TheVariants as steps
 use Rattle.core_machine.specs.declared.step.TurningStep.TheVariants.{LookLoad}
-use Rattle.core_machine.specs.Moves.{Move, move_at, due_step, access_move}
-use Rattle.core_machine.specs.seat.Seat.{Seat}
-use Rattle.core_machine.specs.table.Operation.{operation_of}
-use Rattle.core_rule.specs.Flight.{WhileAccess}
-use Rattle.core_rule.specs.Found.{TellsWord, TellsFound}
+use Rattle.core_rule.specs.told.Found.{TellsWord, TellsFound}
 
 module _ (heap : Heap) (number : ℕ) (seat : Seat) (stored word : ℕ) where
   -- of no word that is loaded
@@ -30,15 +24,7 @@ module _ (heap : Heap) (number : ℕ) (seat : Seat) (stored word : ℕ) where
   -- and at no place of a call on an object
   no_access : (place : Access) → operation_of (access_move heap number seat place).step ≡ Store stored → ⊥
   no_access LoadingMeta stores = cc stores
-  no_access Walking stores = cc stores
-  no_access Locating stores = cc stores
-  no_access Indexing stores = cc stores
-  no_access Getting stores = cc stores
-  no_access Naming stores = cc stores
-  no_access LoadingOld stores = cc stores
-  no_access ShadingOld stores = cc stores
-  no_access ShadingNew stores = cc stores
-  no_access Swapping stores = cc stores
+  no_access _ stores = cc stores
 
   module _ (step : Step) (stores : operation_of step ≡ Store stored) where
     nowhere : (P : Access → Type 0) (place : Place) → option_map (λ (m : Move). m.step) (move_at heap number seat place) ≡ Some step → WhileAccess P place

@@ -3,24 +3,17 @@ use Rattle.std.specs.Prelude.{IfSome}
 use Rattle.std.proofs.Common.{◌≡◌, ℕ, suc, ◌+◌, ◌-◌, ◌*◌, ◌<◌, ◌≤◌, List, Option, Some, None, inl, inr, arith}
 use Rattle.std.proofs.lemmas.Bool.Decides.{eqb_tells, leb_tells}
 use Rattle.heap_words.specs.declared.spot.Spot.{Spot}
-use Rattle.heap_words.specs.Spot.{spot_in}
-use Rattle.heap_model.specs.declared.heap.Heap.{Heap}
+use Rattle.core_rule.proofs.Terms.{spot_in, Heap, IsCopying, FitsCopying, Stage, found_by, array_length_of, put, address_of, word_after, IsFewCopied}
 use Rattle.core_machine.specs.collector.Copying.{marked_bits_of, next_place_of, left_half, after_visited, after_seen, visit_on, after_inspected, after_located, copy_at}
 use Rattle.core_machine.specs.collector.CopyingTurns.{copying_step, after_copying}
-use Rattle.core_machine.specs.collector.FitsTurns.{IsCopying, FitsVisit, FitsCopying}
+use Rattle.core_machine.specs.collector.FitsTurns.{FitsVisit}
 use Rattle.core_machine.specs.declared.collector.stage.ArrayAt.{ArrayAt}
 use Rattle.core_machine.specs.declared.collector.stage.Copying.{Copying}
 use Rattle.core_machine.specs.declared.collector.stage.Copying.TheVariants as copying
 use Rattle.core_machine.specs.declared.collector.stage.SpineCopy.{SpineCopy}
-use Rattle.core_machine.specs.declared.collector.stage.Stage.{Stage}
 use Rattle.core_machine.specs.declared.collector.stage.Stage.TheVariants as stages
 use Rattle.core_machine.specs.declared.collector.stage.Visit.{Visit}
-use Rattle.core_machine.specs.machine.Machine.{found_by}
-use Rattle.heap_words.specs.Loaded.{array_length_of}
-use Rattle.core_machine.specs.table.Layout.{put}
-use Rattle.core_machine.specs.table.Operation.{address_of, word_after}
-use Rattle.core_rule.specs.Marking.{IsFewCopied}
-use Rattle.core_rule.specs.TurnsLeft.{visit_most, copy_most, visit_left, copying_left, stage_left}
+use Rattle.core_rule.specs.turns.TurnsLeft.{visit_most, copy_most, visit_left, copying_left, stage_left}
 use Rattle.core_rule.proofs.turns.Lefts.{StageLeavesFewer, fewer_at}
 use Rattle.core_rule.proofs.turns.NextPlaces.{place_after, place_within}
 
@@ -67,23 +60,44 @@ module _ (heap : Heap) (phase looked : ℕ) (words : List ℕ) where
     | inr whole ↦ rw whole.0
   ]
 
-  -- by the stage of copying
-  copying_leaves : (stage : Copying) (found : ℕ) → FitsCopying heap stage → IsFewCopied stage → left_at (after_copying heap phase stage found) < copying_left heap.groups stage
-  copying_leaves (copying.Visiting group) found fits few =
-      let next = seen_leaves group (marked_bits_of found) 0 (next_place_of (marked_bits_of found) 0) fits (place_after (marked_bits_of found) 0) (place_within (marked_bits_of found) 0) in
-      omega (arith, next, fits)
-  copying_leaves (copying.Inspecting visit) found fits few = inspected_leaves visit fits (array_length_of found)
-  copying_leaves (copying.Naming visit n) found fits few = omega (arith, fits.0.place_within)
-  copying_leaves (copying.Locating array) found fits few = located_leaves array (spot_in found) fits.there
-  copying_leaves (copying.Claiming array from) found fits few = rw (copy_leaves (record { array = array; from = from; to = spot_in found; index = 0 })) (omega (arith, fits.0.there.place_within))
-  copying_leaves (copying.Loading copy) found fits few = omega (arith, fits.0.array_fits.there.place_within, fits.1, few)
-  copying_leaves (copying.Storing copy word) found fits few = rw (copy_leaves (record copy { index = copy.index + 1 })) (omega (arith, fits.copies.array_fits.there.place_within, fits.more, few))
-  copying_leaves (copying.Swinging copy) found fits few = omega (arith, visit_on_leaves copy.array.visit fits.0.array_fits.there, fits.1, few)
+-- so few turns are left by the turn of this stage
+abbrev pub CopyingLeaves : Copying → Type 0
+CopyingLeaves stage = (heap : Heap) (phase looked : ℕ) (words : List ℕ) (found : ℕ) → FitsCopying heap stage → IsFewCopied stage
+    → stage_left heap words phase looked (after_copying heap phase stage found) < copying_left heap.groups stage
 
-pub copy_turn_leaves : (stage : Copying) → IsFewCopied stage → StageLeavesFewer (stages.Copying stage)
-copy_turn_leaves stage few heap state book rule copies stepped =
+pub visiting_leaves : (group : ℕ) → CopyingLeaves (copying.Visiting group)
+visiting_leaves group heap phase looked words found fits few =
+    let next = seen_leaves heap phase looked words group (marked_bits_of found) 0 (next_place_of (marked_bits_of found) 0) fits (place_after (marked_bits_of found) 0) (place_within (marked_bits_of found) 0) in
+    omega (arith, next, fits)
+
+pub inspecting_leaves : (visit : Visit) → CopyingLeaves (copying.Inspecting visit)
+inspecting_leaves visit heap phase looked words found fits few = inspected_leaves heap phase looked words visit fits (array_length_of found)
+
+pub naming_leaves : (visit : Visit) (n : ℕ) → CopyingLeaves (copying.Naming visit n)
+naming_leaves visit n heap phase looked words found fits few = omega (arith, fits.0.place_within)
+
+pub locating_leaves : (array : ArrayAt) → CopyingLeaves (copying.Locating array)
+locating_leaves array heap phase looked words found fits few = located_leaves heap phase looked words array (spot_in found) fits.there
+
+pub claiming_leaves : (array : ArrayAt) (from : Spot) → CopyingLeaves (copying.Claiming array from)
+claiming_leaves array from heap phase looked words found fits few =
+    rw (copy_leaves heap phase looked words (record { array = array; from = from; to = spot_in found; index = 0 })) (omega (arith, fits.0.there.place_within))
+
+pub loading_leaves : (copy : SpineCopy) → CopyingLeaves (copying.Loading copy)
+loading_leaves copy heap phase looked words found fits few = omega (arith, fits.0.array_fits.there.place_within, fits.1, few)
+
+pub storing_leaves : (copy : SpineCopy) (word : ℕ) → CopyingLeaves (copying.Storing copy word)
+storing_leaves copy word heap phase looked words found fits few =
+    rw (copy_leaves heap phase looked words (record copy { index = copy.index + 1 })) (omega (arith, fits.copies.array_fits.there.place_within, fits.more, few))
+
+pub swinging_leaves : (copy : SpineCopy) → CopyingLeaves (copying.Swinging copy)
+swinging_leaves copy heap phase looked words found fits few = omega (arith, visit_on_leaves heap phase looked words copy.array.visit fits.0.array_fits.there, fits.1, few)
+
+-- so the turn leaves fewer
+pub copy_turn_leaves : (stage : Copying) → CopyingLeaves stage → IsFewCopied stage → StageLeavesFewer (stages.Copying stage)
+copy_turn_leaves stage leaves few heap state book rule copies stepped =
     let fits : IsCopying heap.seats state.collector.phase state.collector.looked × FitsCopying heap stage = rw copies at rule.machine.collector_fit.at_stage in
     let found : ℕ = found_by heap state (copying_step stage) in
     let now : List ℕ = put heap state.words (address_of (copying_step stage)) (word_after (copying_step stage) found) in
     fewer_at heap state (stages.Copying stage) now state.collector.looked (after_copying heap state.collector.phase stage found) copies
-    (copying_leaves heap state.collector.phase state.collector.looked now stage found fits.1 few)
+    (leaves heap state.collector.phase state.collector.looked now found fits.1 few)

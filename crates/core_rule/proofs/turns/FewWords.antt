@@ -5,7 +5,7 @@ use Rattle.core_machine.specs.collector.Marking.{scan_step, scan_at, after_first
 use Rattle.core_machine.specs.declared.collector.stage.Scan.{Scan}
 use Rattle.core_machine.specs.declared.collector.stage.SpineScan.{SpineScan}
 use Rattle.core_machine.proofs.collector_lemmas.SpineTurns.{spine_cases}
-use Rattle.core_rule.specs.Marking.{IsFewWords}
+use Rattle.core_rule.proofs.Terms.{IsFewWords}
 use Rattle.core_rule.proofs.marking.Scans.{scan_cases}
 
 -- a scan of four words makes eight steps at most

@@ -1,13 +1,8 @@
 -- How the number of turns left goes on: within a phase, and into the next one.
 use Rattle.std.proofs.Common.{◌≡◌, ℕ, ◌+◌, ◌-◌, ◌*◌, ◌%◌, ◌<◌, List, arith}
+use Rattle.core_rule.proofs.Terms.{cycle_phases, Heap, turn_at, Stage, State, found_by, state_after_turn, Book, Rule}
 use Rattle.heap_model.specs.declared.calls.collector_calls.Turn.TheVariants.{Stepped}
-use Rattle.heap_model.specs.declared.heap.Heap.{Heap}
-use Rattle.core_machine.specs.collector.Collector.{turn_at}
-use Rattle.core_machine.specs.declared.collector.stage.Stage.{Stage}
-use Rattle.core_machine.specs.machine.Machine.{State, found_by, state_after_turn}
-use Rattle.core_rule.specs.Book.{Book}
-use Rattle.core_rule.specs.Rule.{Rule}
-use Rattle.core_rule.specs.TurnsLeft.{stage_left, phase_most, turns_left_at, turns_left}
+use Rattle.core_rule.specs.turns.TurnsLeft.{stage_left, phase_most, turns_left_at, turns_left}
 
 -- where the turn that is due at this stage is a step, it leaves fewer turns
 abbrev pub StageLeavesFewer : Stage → Type 0
@@ -23,4 +18,4 @@ pub fewer_at : (heap : Heap) (state : State) (stage : Stage) (now : List ℕ) (l
     → stage_left heap now state.collector.phase looked next < stage_left heap state.words state.collector.phase state.collector.looked stage
     → turns_left_at heap now state.collector.phase looked next < turns_left heap state
 fewer_at heap state stage now looked next here less =
-    rw here (beside ((6 - state.collector.phase % 7) * phase_most heap) (stage_left heap now state.collector.phase looked next) (stage_left heap state.words state.collector.phase state.collector.looked stage) less)
+    rw here (beside ((6 - state.collector.phase % cycle_phases) * phase_most heap) (stage_left heap now state.collector.phase looked next) (stage_left heap state.words state.collector.phase state.collector.looked stage) less)

@@ -3,16 +3,12 @@ use Rattle.std.specs.Prelude.{if◌then◌else◌}
 use Rattle.std.proofs.Common.{suc, ◌≡◌, ℕ, ◌+◌, ◌-◌, ◌*◌, ◌%◌, ◌<◌, ◌≤◌, Bool, true, false, List, inl, inr, sym, subst, arith}
 use Rattle.std.proofs.Math.Nat.{mul-le-mul_right}
 use Rattle.std.proofs.lemmas.Bool.Decides.{leb_tells}
+use Rattle.core_rule.proofs.Terms.{cycle_phases, Heap, Collector, has_answered_of, first_work, after_counted_look, HasLooked, State, at}
 use Rattle.heap_model.specs.declared.calls.collector_calls.Turn.TheVariants.{Stepped, Waits}
-use Rattle.heap_model.specs.declared.heap.Heap.{Heap}
-use Rattle.core_machine.specs.collector.Collector.{Collector, has_answered_of, first_work, after_counted_look}
-use Rattle.core_machine.specs.collector.FitsTurns.{HasLooked}
 use Rattle.core_machine.specs.declared.collector.stage.Stage.TheVariants as stages
 use Rattle.core_machine.specs.declared.table.address.Address.TheVariants.{Answer}
-use Rattle.core_machine.specs.machine.Machine.{State}
-use Rattle.core_machine.specs.table.Layout.{at}
 use Rattle.core_machine.proofs.table_lemmas.Addresses.{put-at}
-use Rattle.core_rule.specs.TurnsLeft.{scanned_count, fragment_most, sweep_most, work_most, stage_left, turns_left_at, turns_left}
+use Rattle.core_rule.specs.turns.TurnsLeft.{scanned_count, fragment_most, sweep_most, work_most, stage_left, turns_left_at, turns_left}
 use Rattle.core_rule.proofs.turns.Lefts.{StageLeavesFewer, fewer_at}
 use Rattle.core_rule.proofs.turns.WorkCases.{work_either}
 
@@ -21,7 +17,7 @@ work_starts : (heap : Heap) (words : List ℕ) (phase looked : ℕ) → stage_le
 work_starts heap words phase looked =
     work_either (λ stage most. stage_left heap words phase looked stage ≤ most) heap.groups phase
     (λ marks. by ((16 * heap.groups - scanned_count heap words) * (heap.groups + 2060)) (16 * heap.groups * (heap.groups + 2060)) (mul-le-mul_right (heap.groups + 2060) (omega arith)))
-    (λ copies. omega arith) (λ sweeps. omega arith) (λ clears. omega arith) (omega arith)
+    (λ copies. omega arith) (λ sweeps. omega arith) (λ clears. omega arith) (λ nothing. omega arith)
   where
     by : (m n : ℕ) → m ≤ n → m + 0 + (heap.groups - 0) + 0 + 1 ≤ n + heap.groups + 1
     by m n less = omega (arith, less)
@@ -29,7 +25,7 @@ work_starts heap words phase looked =
 -- of which no phase has more than these
 work_few : (groups phase : ℕ) → 1 ≤ groups → work_most groups phase ≤ 16 * groups * fragment_most groups + sweep_most * groups
 work_few groups phase some = work_either (λ stage most. most ≤ 16 * groups * fragment_most groups + sweep_most * groups) groups phase
-    (λ marks. by (16 * groups * fragment_most groups)) (λ copies. omega arith) (λ sweeps. omega arith) (λ clears. omega arith) (omega arith)
+    (λ marks. by (16 * groups * fragment_most groups)) (λ copies. omega arith) (λ sweeps. omega arith) (λ clears. omega arith) (λ nothing. omega (arith, some))
   where
     by : (m : ℕ) → m + groups + 1 ≤ m + 19 * groups
     by m = omega (arith, some)
@@ -70,8 +66,8 @@ pub advance_leaves : StageLeavesFewer stages.Advancing
 advance_leaves heap state book rule advancing stepped =
     let fits : HasLooked heap.seats state.collector.phase state.collector.looked = rw advancing at rule.machine.collector_fit.at_stage in
     let p : ℕ = state.collector.phase in
-    let one : 6 - p % 7 ≡ suc (6 - (p + 1) % 7) = omega (arith, fits.goes_on) in
-    rw (advancing, one) (by (6 - (p + 1) % 7) (16 * heap.groups * fragment_most heap.groups) (work_most heap.groups (p + 1)) (work_few heap.groups (p + 1) rule.machine.limits.some_group))
+    let one : 6 - p % cycle_phases ≡ suc (6 - (p + 1) % cycle_phases) = omega (arith, fits.goes_on) in
+    rw (advancing, one) (by (6 - (p + 1) % cycle_phases) (16 * heap.groups * fragment_most heap.groups) (work_most heap.groups (p + 1)) (work_few heap.groups (p + 1) rule.machine.limits.some_group))
   where
     by : (k m work : ℕ) → work ≤ m + 19 * heap.groups → k * (heap.seats + m + 19 * heap.groups + 1) + (heap.seats - 0 + work) < suc k * (heap.seats + m + 19 * heap.groups + 1) + 0
     by k m work few =

@@ -1,26 +1,17 @@
 -- Each turn of marking leaves fewer turns.
 use Rattle.std.proofs.Common.{suc, ◌≡◌, ℕ, ◌+◌, ◌-◌, ◌*◌, ◌/◌, ◌<◌, Bool, true, false, List, Option, Some, None, inl, inr, refl, sym, ap, ◌∙◌, subst, bit_or, arith}
 use Rattle.std.proofs.lemmas.Bool.Decides.{leb_tells}
-use Rattle.heap_words.specs.Control.{shade_bit_of, blacken_bit_of}
-use Rattle.heap_words.specs.Spot.{spot_word}
-use Rattle.heap_model.specs.declared.heap.Heap.{Heap}
+use Rattle.core_rule.proofs.Terms.{blacken_bit_of, spot_word, Heap, IsPassing, IsScanning, IsShading, IsBlackening, Stage, Control, Word, State, pointer_in, at, put, Book, Grey}
+use Rattle.core_rule.proofs.Terms.{Marks, IsSeenWhole, IsFewWords, Rule}
+use Rattle.heap_words.specs.Control.{shade_bit_of}
 use Rattle.core_machine.specs.collector.Marking.{lowest_grey_of, after_last_group, after_group, after_pass, part_after, scan_step, scan_at, after_scan_load, array_at, after_first_load}
 use Rattle.core_machine.specs.collector.Copying.{next_half}
-use Rattle.core_machine.specs.collector.FitsTurns.{IsPassing, IsScanning, IsShading, IsBlackening}
 use Rattle.core_machine.specs.declared.collector.stage.Scan.{Scan}
-use Rattle.core_machine.specs.declared.collector.stage.Stage.{Stage}
 use Rattle.core_machine.specs.declared.collector.stage.Stage.TheVariants as stages
-use Rattle.core_machine.specs.declared.table.address.Address.TheVariants.{Spot, Control, Word}
-use Rattle.core_machine.specs.machine.Machine.{State}
-use Rattle.heap_words.specs.Loaded.{pointer_in}
-use Rattle.core_machine.specs.table.Layout.{at, put}
+use Rattle.core_machine.specs.declared.table.address.Address.TheVariants.{Spot}
 use Rattle.core_machine.proofs.table_lemmas.Addresses.{put-at}
 use Rattle.core_machine.proofs.table_lemmas.Grey.{grey_within}
-use Rattle.core_rule.specs.Book.{Book, Grey}
-use Rattle.core_rule.specs.Colours.{Marks}
-use Rattle.core_rule.specs.Marking.{IsSeenWhole, IsFewWords}
-use Rattle.core_rule.specs.Rule.{Rule}
-use Rattle.core_rule.specs.TurnsLeft.{scanned_count, next_pass, marking_left, scanning_left, stage_left}
+use Rattle.core_rule.specs.turns.TurnsLeft.{scanned_count, next_pass, marking_left, scanning_left, stage_left}
 use Rattle.core_rule.proofs.colours.BlackenColours.{with_scan, marks_blacken}
 use Rattle.core_rule.proofs.colours.ShadeColours.{with_mark, marks_shade}
 use Rattle.core_rule.proofs.marking.GreyPlaces.{lowest_is_grey}

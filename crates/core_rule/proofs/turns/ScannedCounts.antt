@@ -1,12 +1,9 @@
 -- How many fragments are scanned, by the colours.
 use Rattle.std.proofs.Common.{◌≡◌, ℕ, ◌+◌, ◌*◌, ◌<◌, ◌≤◌, List, inl, inr, refl, ap, arith}
 use Rattle.std.proofs.lemmas.Bool.Decides.{eqb_tells}
-use Rattle.heap_model.specs.declared.heap.Heap.{Heap}
-use Rattle.core_machine.specs.machine.Sums.{sum_upto}
+use Rattle.core_rule.proofs.Terms.{Heap, sum_upto, Colour, White, Grey, Black, Marks, scanned_bit}
 use Rattle.core_machine.proofs.table_lemmas.Free.{sum_same, sum_but_one}
-use Rattle.core_rule.specs.Book.{Colour, White, Grey, Black}
-use Rattle.core_rule.specs.Colours.{Marks, scanned_bit}
-use Rattle.core_rule.specs.TurnsLeft.{scanned_count}
+use Rattle.core_rule.specs.turns.TurnsLeft.{scanned_count}
 use Rattle.core_rule.proofs.colours.BlackenColours.{with_scan, scan_here, scan_away}
 use Rattle.core_rule.proofs.colours.ShadeColours.{with_mark, marked, mark_here, mark_away}
 use Rattle.core_rule.proofs.lists.SumLemmas.{sum_le, sum_ones}

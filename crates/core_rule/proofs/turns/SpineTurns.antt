@@ -1,19 +1,14 @@
 -- Each turn of the scan of an array's first fragment leaves fewer turns, where its spine has few words.
 use Rattle.std.proofs.Common.{◌≡◌, ℕ, ◌+◌, ◌-◌, ◌/◌, ◌<◌, List, refl, subst, bit_or, arith}
 use Rattle.heap_words.specs.Control.{shade_bit_of}
-use Rattle.heap_model.specs.declared.heap.Heap.{Heap}
-use Rattle.core_machine.specs.collector.FitsTurns.{IsLocating, IsIndexing, IsSpreading}
+use Rattle.core_rule.proofs.Terms.{Heap, IsLocating, IsIndexing, IsSpreading, Control, Word, Spine, payload_in, at, put, IsFewWords}
 use Rattle.core_machine.specs.collector.Marking.{scan_step, spine_step, spine_scan_at, after_address, after_spread}
 use Rattle.core_machine.specs.declared.collector.stage.Scan.{Scan}
 use Rattle.core_machine.specs.declared.collector.stage.SpineScan.{SpineScan}
 use Rattle.core_machine.specs.declared.collector.stage.Stage.TheVariants as stages
-use Rattle.core_machine.specs.declared.table.address.Address.TheVariants.{Control, Word, Spine}
-use Rattle.heap_words.specs.Loaded.{payload_in}
-use Rattle.core_machine.specs.table.Layout.{at, put}
 use Rattle.core_machine.proofs.collector_lemmas.SpineTurns.{spine_cases}
 use Rattle.core_machine.proofs.table_lemmas.Addresses.{put-at}
-use Rattle.core_rule.specs.Marking.{IsFewWords}
-use Rattle.core_rule.specs.TurnsLeft.{marking_left, scanning_left, stage_left}
+use Rattle.core_rule.specs.turns.TurnsLeft.{marking_left, scanning_left, stage_left}
 use Rattle.core_rule.proofs.turns.Lefts.{StageLeavesFewer, fewer_at}
 use Rattle.core_rule.proofs.turns.MarkingTurns.{scan_goes_on, shaded_count}
 
@@ -38,7 +33,7 @@ index_leaves s few heap state book rule indexing stepped =
     let word : ℕ = at heap state.words (Spine s.spine.half (s.spine.offset + s.index)) in
     rw (put-at heap state.words (Spine s.spine.half (s.spine.offset + s.index)))
     (fewer_at heap state (stages.Indexing s) state.words state.collector.looked (stages.Spreading (spine_step s) (payload_in word)) indexing
-    (scan_goes_on heap state.collector.phase state.collector.looked state.words s.scan (omega (arith, fits.steps_made, fits.index_within, few))))
+    (scan_goes_on heap state.collector.phase state.collector.looked state.words s.scan (omega (arith, fits.steps_made, fits.on.index_within, few))))
 
 pub spread_leaves : (s : SpineScan) (target : ℕ) → IsFewWords (stages.Spreading s target) → StageLeavesFewer (stages.Spreading s target)
 spread_leaves s target few heap state book rule spreading stepped =
@@ -47,4 +42,4 @@ spread_leaves s target few heap state book rule spreading stepped =
     fewer_at heap state (stages.Spreading s target) now state.collector.looked (after_spread s) spreading
     (subst (λ n. stage_left heap now state.collector.phase state.collector.looked (after_spread s) < marking_left heap.groups (n + 1) (2051 - s.scan.steps) (s.scan.fragment / 16) (heap.groups + 1) + 1)
     (shaded_count heap state book rule target fits.target_within)
-    (spine_at_leaves heap state.collector.phase state.collector.looked now s.scan _ refl (omega (arith, fits.steps_made, fits.index_within, few))))
+    (spine_at_leaves heap state.collector.phase state.collector.looked now s.scan _ refl (omega (arith, fits.steps_made, fits.on.index_within, few))))

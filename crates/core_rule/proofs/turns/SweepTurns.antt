@@ -3,17 +3,12 @@ use Rattle.std.specs.Prelude.{IfSome}
 use Rattle.std.proofs.Common.{◌≡◌, ℕ, ◌+◌, ◌-◌, ◌*◌, ◌<◌, ◌≤◌, List, Option, Some, None, inl, inr, bit_and, arith}
 use Rattle.std.proofs.lemmas.Bool.Decides.{eqb_tells}
 use Rattle.heap_words.specs.Control.{free_mask_of, marks_cleared}
-use Rattle.heap_model.specs.declared.heap.Heap.{Heap}
-use Rattle.core_machine.specs.collector.FitsTurns.{IsSweeping, IsExamining, IsFreeing, IsReturning, IsClearing}
+use Rattle.core_rule.proofs.Terms.{Heap, IsSweeping, IsExamining, IsFreeing, IsReturning, IsClearing, Budget, Control, Word, spine_words_in, at, put, word_after}
 use Rattle.core_machine.specs.collector.Sweeping.{dead_bits_of, next_place_of, taken_count_of, after_swept, after_examined, after_freed, after_cleared}
 use Rattle.core_machine.specs.declared.collector.stage.Stage.TheVariants as stages
 use Rattle.core_machine.specs.declared.step.CopyingStep.TheVariants.{BudgetReturn}
 use Rattle.core_machine.specs.declared.step.Step.TheVariants.{Copying}
-use Rattle.core_machine.specs.declared.table.address.Address.TheVariants.{Budget, Control, Word}
-use Rattle.core_machine.specs.table.Decode.{spine_words_in}
-use Rattle.core_machine.specs.table.Layout.{at, put}
-use Rattle.core_machine.specs.table.Operation.{word_after}
-use Rattle.core_rule.specs.TurnsLeft.{stage_left}
+use Rattle.core_rule.specs.turns.TurnsLeft.{stage_left}
 use Rattle.core_rule.proofs.marking.SweepMarks.{after_swept_either, after_cleared_either}
 use Rattle.core_rule.proofs.turns.Lefts.{StageLeavesFewer, fewer_at}
 use Rattle.core_rule.proofs.turns.NextPlaces.{place_after, place_within}

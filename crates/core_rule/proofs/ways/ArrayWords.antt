@@ -9,17 +9,10 @@ use Rattle.heap_words.specs.declared.kind.Kind.TheVariants as kinds
 use Rattle.heap_words.specs.declared.name.Name.{Name}
 use Rattle.heap_words.specs.declared.spot.Spot.{Spot}
 use Rattle.heap_words.specs.Cell.{cell_of, cell_word, fixed_cell}
-use Rattle.heap_words.specs.Spot.{spot_in, spot_word}
-use Rattle.heap_model.specs.Needs.{array_words}
-use Rattle.heap_model.specs.declared.id.Id.{Id}
-use Rattle.heap_model.specs.declared.id.Value.{Value}
+use Rattle.core_rule.proofs.Terms.{spot_in, spot_word, array_words, Id, Value, pointer_in, head_of, first_pointer, reference_of, is_fixed, is_meta, array_length_in}
+use Rattle.core_rule.proofs.Terms.{array_length_of, length_of, payload_in, spine_words_in, FitsSpot, array_meta, sentinel_word_of, spine_word, value_word}
 use Rattle.heap_model.specs.declared.id.Value.TheVariants as values
-use Rattle.heap_words.specs.Loaded.{pointer_in, head_of, first_pointer, reference_of, is_fixed, is_meta, array_length_in, array_length_of, length_of, payload_in}
-use Rattle.core_machine.specs.table.Decode.{spine_words_in}
-use Rattle.core_machine.specs.table.Layout.{FitsSpot}
-use Rattle.heap_words.specs.Newborn.{array_meta, sentinel_word_of, spine_word}
 use Rattle.core_machine.proofs.table_lemmas.CellWords.{cell_of-cell_word}
-use Rattle.core_rule.specs.Objects.{value_word}
 use Rattle.core_rule.proofs.ways.Told.{HasRoom}
 
 -- the cell of an array's meta

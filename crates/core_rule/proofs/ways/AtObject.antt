@@ -1,27 +1,11 @@
 -- A call that works on an object: what its seat knows of the graph.
 use Rattle.std.proofs.Common.{◌≡◌, ℕ, ◌<◌, List, slice_index_or, ◌∙◌, subst, false}
-use Rattle.heap_model.specs.declared.heap.Heap.{Heap}
-use Rattle.heap_model.specs.declared.id.Id.{Id}
-use Rattle.heap_model.specs.declared.id.Value.{Value}
+use Rattle.core_rule.proofs.Terms.{Heap, Id, Value, graph_of, IsPresent, register_value, phase, Register, target_of, object_of, IsAtRest, State, seat_at, Seat, Book, id_at, Owner}
+use Rattle.core_rule.proofs.Terms.{IsNear, HoldsValue, IsAwaited, Rule, OnWay}
 use Rattle.heap_model.specs.declared.id.Value.TheVariants as values
-use Rattle.heap_model.specs.account.Cycles.{graph_of}
-use Rattle.heap_model.specs.graph.Legal.{IsPresent}
-use Rattle.heap_model.specs.graph.Objects.{register_value}
-use Rattle.heap_model.specs.account.PhaseCounts.{phase}
 use Rattle.core_machine.specs.declared.place.Place.TheVariants as places
 use Rattle.core_machine.specs.declared.place.Access.{Access}
-use Rattle.core_machine.specs.declared.seat.register.Register.{Register}
 use Rattle.core_machine.specs.declared.seat.register.Register.TheVariants as registers
-use Rattle.core_machine.specs.seat.Commands.{target_of, object_of}
-use Rattle.core_machine.specs.seat.Fits.{IsAtRest}
-use Rattle.core_machine.specs.machine.Machine.{State, seat_at}
-use Rattle.core_machine.specs.seat.Seat.{Seat}
-use Rattle.core_rule.specs.Book.{Book, id_at}
-use Rattle.core_rule.specs.Owners.{Owner}
-use Rattle.core_rule.specs.Phases.{IsNear}
-use Rattle.core_rule.specs.Registers.{HoldsValue, IsAwaited}
-use Rattle.core_rule.specs.Rule.{Rule}
-use Rattle.core_rule.specs.Ways.{OnWay}
 use Rattle.core_rule.proofs.entries.AtRest.{seat_fits, in_flight}
 
 -- the register holds the object of the graph's register

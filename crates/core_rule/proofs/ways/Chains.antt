@@ -2,20 +2,9 @@
 use Rattle.std.specs.Prelude.{unwrap_or}
 use Rattle.std.proofs.Common.{◌≡◌, ◌≢◌, ℕ, zero, suc, ◌+◌, ◌*◌, ◌<◌, true, false, List, length, Option, Some, None, ap, sym, ◌∙◌, subst, arith}
 use Rattle.heap_words.specs.declared.spot.Spot.{Spot}
-use Rattle.heap_model.specs.declared.heap.Heap.{Heap}
-use Rattle.heap_model.specs.declared.id.Id.{Id}
+use Rattle.core_rule.proofs.Terms.{Heap, Id, Graph, spine_words_of, Word, at, spine_place, FitsSpot, pointer_in, payload_in, spine_words_in, fragment_at, WordPointsTo, Bits}
+use Rattle.core_rule.proofs.Terms.{AreMade, Objects, IsKept, node_at, Owner, OwnersStand}
 use Rattle.heap_model.specs.Heap.{IsHeap}
-use Rattle.heap_model.specs.graph.Graph.{Graph}
-use Rattle.heap_model.specs.graph.Sizes.{spine_words_of}
-use Rattle.core_machine.specs.declared.table.address.Address.TheVariants.{Word}
-use Rattle.core_machine.specs.table.Layout.{at, spine_place, FitsSpot}
-use Rattle.heap_words.specs.Loaded.{pointer_in, payload_in}
-use Rattle.core_machine.specs.table.Decode.{spine_words_in}
-use Rattle.core_rule.specs.Book.{fragment_at}
-use Rattle.core_rule.specs.Colours.{WordPointsTo}
-use Rattle.core_rule.specs.ControlWords.{Bits}
-use Rattle.core_rule.specs.Objects.{AreMade, Objects, IsKept, node_at}
-use Rattle.core_rule.specs.Owners.{Owner, OwnersStand}
 use Rattle.core_rule.proofs.colours.SourceCases.{word_leads, spine_source, spine_to}
 use Rattle.core_rule.proofs.objects.BoardFragment.{chain_not_zero}
 use Rattle.core_rule.proofs.ways.KeptWords.{kept_within, by_kind, some_fragment, link_found, words_found, spine_found, payload_found, payload_below}

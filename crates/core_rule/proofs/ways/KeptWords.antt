@@ -5,27 +5,12 @@ use Rattle.std.proofs.lemmas.Bool.{cases_lt}
 use Rattle.std.proofs.lemmas.List.{get_or_past}
 use Rattle.std.proofs.lemmas.Option.{slice_get_within}
 use Rattle.heap_words.specs.declared.spot.Spot.{Spot}
-use Rattle.heap_words.specs.Spot.{spot_in}
+use Rattle.core_rule.proofs.Terms.{spot_in, Heap, Id, Value, Graph, Node, fragments_of, fragments_at, spine_words_of, Word, at, spine_place, FitsSpot, link_of, length_of}
+use Rattle.core_rule.proofs.Terms.{array_length_of, payload_in, id_of, spine_words_in, record_meta, array_meta, field_of, Seat, fragment_at, id_at, object_head, Bits, AreMade}
+use Rattle.core_rule.proofs.Terms.{Objects, KeptObject, NamesKept, IsKept, IsSized, node_at, cells_at, value_word, Owner, Kept, Finds, row_in, field_part}
 use Rattle.heap_model.specs.declared.graph.cell.Cell.{Cell}
-use Rattle.heap_model.specs.declared.heap.Heap.{Heap}
-use Rattle.heap_model.specs.declared.id.Id.{Id}
-use Rattle.heap_model.specs.declared.id.Value.{Value}
 use Rattle.heap_model.specs.declared.id.Value.TheVariants as values
 use Rattle.heap_model.specs.Heap.{IsHeap}
-use Rattle.heap_model.specs.graph.Graph.{Graph, Node}
-use Rattle.heap_model.specs.graph.Sizes.{fragments_of, fragments_at, spine_words_of}
-use Rattle.core_machine.specs.declared.table.address.Address.TheVariants.{Word}
-use Rattle.core_machine.specs.table.Layout.{at, spine_place, FitsSpot}
-use Rattle.heap_words.specs.Loaded.{link_of, length_of, array_length_of, payload_in}
-use Rattle.core_machine.specs.table.Decode.{id_of, spine_words_in}
-use Rattle.heap_words.specs.Newborn.{record_meta, array_meta}
-use Rattle.core_machine.specs.seat.Commands.{field_of}
-use Rattle.core_machine.specs.seat.Seat.{Seat}
-use Rattle.core_rule.specs.Book.{fragment_at, id_at, object_head}
-use Rattle.core_rule.specs.ControlWords.{Bits}
-use Rattle.core_rule.specs.Objects.{AreMade, Objects, KeptObject, NamesKept, IsKept, IsSized, node_at, cells_at, value_word}
-use Rattle.core_rule.specs.Owners.{Owner, Kept}
-use Rattle.core_rule.specs.Ways.{Finds, row_in, field_part}
 use Rattle.core_rule.proofs.graph.SameNodes.{made_size, node_cases}
 use Rattle.core_rule.proofs.objects.ObjectWords.{record_meta_at, record_link_at, array_meta_at, spine_place_at, name_at, word_of_cell}
 use Rattle.core_rule.proofs.ways.ArrayWords.{array_length_in-meta, length_in-array_meta, words_in-meta, spot_in-word, payload_in-word}

@@ -4,26 +4,12 @@ use Rattle.std.proofs.Common.{◌≡◌, ℕ, zero, suc, ◌<◌, false, List, [
 use Rattle.std.proofs.lemmas.Option.{slice_get-get_or}
 use Rattle.heap_words.specs.declared.spot.Spot.{Spot}
 use Rattle.heap_model.specs.declared.graph.cell.Cell.{Cell}
-use Rattle.heap_model.specs.declared.heap.Heap.{Heap}
-use Rattle.heap_model.specs.declared.id.Id.{Id}
-use Rattle.heap_model.specs.declared.id.Value.{Value}
+use Rattle.core_rule.proofs.Terms.{Heap, Id, Value, Graph, unset, Word, Register, field_of, at, head_of, is_meta, heads_of, Seat, fragment_at, object_number, object_head, Bits}
+use Rattle.core_rule.proofs.Terms.{AreMade, Objects, NamesKept, IsKept, node_at, cells_at, Owner, HoldsValue, Finds}
 use Rattle.heap_model.specs.declared.id.Value.TheVariants as values
 use Rattle.heap_model.specs.Heap.{IsHeap}
-use Rattle.heap_model.specs.graph.Graph.{Graph, unset}
-use Rattle.core_machine.specs.declared.table.address.Address.TheVariants.{Word}
-use Rattle.core_machine.specs.declared.seat.register.Register.{Register}
 use Rattle.core_machine.specs.declared.seat.register.Register.TheVariants as registers
-use Rattle.core_machine.specs.seat.Commands.{field_of}
-use Rattle.core_machine.specs.table.Layout.{at}
-use Rattle.heap_words.specs.Loaded.{head_of, is_meta}
-use Rattle.core_machine.specs.seat.Registers.{register_head as head_of_register, heads_of}
-use Rattle.core_machine.specs.seat.Seat.{Seat}
-use Rattle.core_rule.specs.Book.{fragment_at, object_number, object_head}
-use Rattle.core_rule.specs.ControlWords.{Bits}
-use Rattle.core_rule.specs.Objects.{AreMade, Objects, NamesKept, IsKept, node_at, cells_at}
-use Rattle.core_rule.specs.Owners.{Owner}
-use Rattle.core_rule.specs.Registers.{HoldsValue}
-use Rattle.core_rule.specs.Ways.{Finds}
+use Rattle.core_machine.specs.seat.Registers.{register_head as head_of_register}
 use Rattle.core_rule.proofs.ways.KeptWords.{has_room, cell_reached}
 use Rattle.core_rule.proofs.ways.ArrayWords.{value_plain}
 use Rattle.core_rule.proofs.ways.Told.{named_head, head_in-value}

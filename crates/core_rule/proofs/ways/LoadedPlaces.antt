@@ -1,18 +1,9 @@
 -- What a call has in hand once it has loaded the place of a spine, from there on until it is over.
 use Rattle.std.proofs.Common.{◌≡◌, ℕ, false, List, Some, sym, ap, ◌∙◌}
 use Rattle.heap_words.specs.declared.spot.Spot.{Spot}
-use Rattle.heap_model.specs.declared.heap.Heap.{Heap}
-use Rattle.heap_model.specs.declared.id.Id.{Id}
-use Rattle.heap_model.specs.graph.Graph.{Node}
-use Rattle.core_machine.specs.declared.place.Access.TheVariants.{Indexing, Getting, LoadingOld, ShadingOld, ShadingNew, Swapping}
-use Rattle.core_machine.specs.declared.place.Place.{Place}
+use Rattle.core_rule.proofs.Terms.{Heap, Id, Node, Indexing, Getting, LoadingOld, ShadingOld, ShadingNew, Swapping, Place, register_head, Seat, fragment_at, Owner, Kept}
+use Rattle.core_rule.proofs.Terms.{SpineOwner, CallsObject, HasLoaded, ReadsSpine, WhileLoaded, OnWay, WayStands}
 use Rattle.core_machine.specs.declared.place.Place.TheVariants as places
-use Rattle.core_machine.specs.seat.Registers.{register_head}
-use Rattle.core_machine.specs.seat.Seat.{Seat}
-use Rattle.core_rule.specs.Book.{fragment_at}
-use Rattle.core_rule.specs.Owners.{Owner, Kept, SpineOwner}
-use Rattle.core_rule.specs.Replicas.{CallsObject, HasLoaded, ReadsSpine, WhileLoaded}
-use Rattle.core_rule.specs.Ways.{OnWay, WayStands}
 
 -- what is so of a call stays so at each of these places
 pub loaded_goes : {P Q : Type 0} (place : Place) → (HasLoaded place → P → Q) → WhileLoaded P place → WhileLoaded Q place

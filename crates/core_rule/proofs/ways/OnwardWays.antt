@@ -3,29 +3,13 @@ use Rattle.std.proofs.Common.{◌≡◌, ℕ, ◌+◌, ◌-◌, ◌/◌, ◌<◌
 use Rattle.std.proofs.lemmas.Bool.{false≢true, cond_both, eqb-true, eqb-false}
 use Rattle.std.proofs.lemmas.Bool.Decides.{eqb_tells}
 use Rattle.heap_words.specs.declared.spot.Spot.{Spot}
-use Rattle.heap_model.specs.declared.entry.Entry.{Entry}
-use Rattle.heap_model.specs.declared.heap.Heap.{Heap}
-use Rattle.heap_model.specs.declared.id.Id.{Id}
+use Rattle.core_rule.proofs.Terms.{Entry, Heap, Id, Graph, Node, spine_words_of, Word, Walking, Getting, Indexing, Swapping, LoadingOld, at, spine_place, head_of, link_of}
+use Rattle.core_rule.proofs.Terms.{payload_in, spine_word, has_barrier_of, way_place_of, after_link, after_walk, at_access, field_of, Seat, fragment_at, Bits, AreMade, Objects}
+use Rattle.core_rule.proofs.Terms.{node_at, Owner, SpineOwner, AddressStands, Finds, Locates, LoadedKept, OldKept, AccessStands}
 use Rattle.heap_model.specs.Heap.{IsHeap}
-use Rattle.heap_model.specs.graph.Graph.{Graph, Node}
-use Rattle.heap_model.specs.graph.Sizes.{spine_words_of}
-use Rattle.core_machine.specs.declared.table.address.Address.TheVariants.{Word}
 use Rattle.core_machine.specs.declared.place.Place.TheVariants as places
 use Rattle.core_machine.specs.declared.place.Access.{Access}
-use Rattle.core_machine.specs.declared.place.Access.TheVariants.{Walking, Getting, Indexing, Swapping, LoadingOld}
-use Rattle.core_machine.specs.table.Layout.{at, spine_place}
-use Rattle.heap_words.specs.Loaded.{head_of, link_of, payload_in}
-use Rattle.heap_words.specs.Newborn.{spine_word}
-use Rattle.core_machine.specs.seat.Access.{has_barrier_of, way_place_of, after_link, after_walk, at_access}
-use Rattle.core_machine.specs.seat.Commands.{field_of}
-use Rattle.core_machine.specs.seat.Seat.{Seat}
 use Rattle.core_machine.proofs.seat_lemmas.FieldPlaces.{field_cases}
-use Rattle.core_rule.specs.Book.{fragment_at}
-use Rattle.core_rule.specs.ControlWords.{Bits}
-use Rattle.core_rule.specs.Objects.{AreMade, Objects, node_at}
-use Rattle.core_rule.specs.Owners.{Owner, SpineOwner}
-use Rattle.core_rule.specs.Replicas.{AddressStands}
-use Rattle.core_rule.specs.Ways.{Finds, Locates, LoadedKept, OldKept, AccessStands}
 use Rattle.core_rule.proofs.ways.KeptWords.{link_ahead, payload_found}
 use Rattle.core_rule.proofs.ways.Rows.{array_word}
 use Rattle.core_rule.proofs.cycle.Unwatched.{IsUnwatched}

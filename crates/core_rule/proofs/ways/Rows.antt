@@ -2,12 +2,7 @@
 use Rattle.std.proofs.Common.{◌≡◌, ℕ, ◌+◌, ◌-◌, ◌*◌, ◌/◌, ◌%◌, ◌<◌, true, inl, inr, length, refl, arith}
 use Rattle.std.proofs.lemmas.Bool.{lt-ltb}
 use Rattle.std.proofs.lemmas.Bool.Decides.{eqb_tells}
-use Rattle.heap_model.specs.Needs.{record_fragments}
-use Rattle.heap_model.specs.graph.Graph.{Node}
-use Rattle.heap_model.specs.graph.Sizes.{fragments_of, spine_words_of}
-use Rattle.core_machine.specs.seat.Access.{row_of, part_of}
-use Rattle.core_rule.specs.Objects.{is_cell}
-use Rattle.core_rule.specs.Ways.{row_in, field_part}
+use Rattle.core_rule.proofs.Terms.{record_fragments, Node, fragments_of, spine_words_of, row_of, part_of, is_cell, row_in, field_part}
 use Rattle.core_rule.proofs.graph.SameNodes.{node_cases}
 
 -- the field of a row and a part

@@ -6,17 +6,11 @@ use Rattle.std.proofs.lemmas.Bool.Decides.{eqb_tells}
 use Rattle.heap_words.specs.declared.cell.Cell.{Cell}
 use Rattle.heap_words.specs.declared.kind.Kind.TheVariants as kinds
 use Rattle.heap_words.specs.Name.{name_word}
-use Rattle.heap_model.specs.declared.id.Id.{Id}
-use Rattle.heap_model.specs.declared.id.Id.TheVariants.{Board, Made}
-use Rattle.heap_model.specs.declared.id.Value.{Value}
+use Rattle.core_rule.proofs.Terms.{Id, Board, Made, Value, Register, head_of, link_of, length_of, array_length_in, array_length_of, stamp_of, first_pointer, reference_of, id_of}
+use Rattle.core_rule.proofs.Terms.{id_of_owner, plain_of, plain_register, record_meta, link_after, FitsName, name_of, value_word}
 use Rattle.heap_model.specs.declared.id.Value.TheVariants as values
-use Rattle.core_machine.specs.declared.seat.register.Register.{Register}
 use Rattle.core_machine.specs.declared.seat.register.Register.TheVariants as registers
-use Rattle.heap_words.specs.Loaded.{head_of, link_of, length_of, array_length_in, array_length_of, stamp_of, first_pointer, reference_of}
-use Rattle.core_machine.specs.table.Decode.{id_of, id_of_owner, plain_of, plain_register}
-use Rattle.heap_words.specs.Newborn.{record_meta, link_after}
 use Rattle.core_machine.proofs.table_lemmas.CellWords.{cell_of-cell_word}
-use Rattle.core_rule.specs.Objects.{FitsName, name_of, value_word}
 
 -- the length in a record's meta
 pub length_in-meta : (fields : ℕ) (fragments : List ℕ) → fields < 2 ^ 13 → get_or fragments 1 0 < 2 ^ 32 → length_of (record_meta fields fragments) ≡ fields

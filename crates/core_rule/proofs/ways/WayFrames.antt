@@ -1,19 +1,10 @@
 -- A way goes on as before where its object does.
 use Rattle.std.proofs.Common.{◌≡◌, ℕ, ◌+◌, ◌/◌, ◌%◌, ◌<◌, List, length, sym, ap, ◌∙◌}
 use Rattle.std.specs.Prelude.{if◌then◌else◌}
-use Rattle.heap_model.specs.declared.command.Command.{Command}
-use Rattle.heap_model.specs.declared.id.Id.{Id}
-use Rattle.heap_model.specs.graph.Graph.{Node}
-use Rattle.core_machine.specs.declared.place.Place.{Place}
+use Rattle.core_rule.proofs.Terms.{Command, Id, Node, Place, LoadingMeta, Walking, Indexing, Getting, LoadingOld, ShadingOld, ShadingNew, Swapping, row_of, part_of, field_of, Seat}
+use Rattle.core_rule.proofs.Terms.{id_at, IsKept, Owner, LoadedKept, OnWay, FieldAhead, Finds, Locates, WayStands}
 use Rattle.core_machine.specs.declared.place.Place.TheVariants as places
-use Rattle.core_machine.specs.declared.place.Access.TheVariants.{LoadingMeta, Walking, Locating, Indexing, Getting, LoadingOld, ShadingOld, ShadingNew, Swapping}
-use Rattle.core_machine.specs.seat.Access.{row_of, part_of}
-use Rattle.core_machine.specs.seat.Commands.{field_of}
-use Rattle.core_machine.specs.seat.Seat.{Seat}
-use Rattle.core_rule.specs.Book.{id_at}
-use Rattle.core_rule.specs.Objects.{IsKept}
-use Rattle.core_rule.specs.Owners.{Owner}
-use Rattle.core_rule.specs.Ways.{LoadedKept, OnWay, FieldAhead, Finds, Locates, WayStands}
+use Rattle.core_machine.specs.declared.place.Access.TheVariants.{Locating}
 use Rattle.core_rule.proofs.graph.SameNodes.{SameShape}
 
 -- the object of this number is kept as before: under its id, in its fragments, of its kind and with as many cells

@@ -1,10 +1,8 @@
 -- Words that are read after another one was written.
 use Rattle.std.proofs.Common.{◌≡◌, ◌≢◌, ℕ, ◌+◌, ◌*◌, ◌<◌, List, length, arith}
 use Rattle.std.proofs.lemmas.List.{get_or-set_other}
-use Rattle.heap_model.specs.declared.heap.Heap.{Heap}
+use Rattle.core_rule.proofs.Terms.{Heap, Control, Word, Spine, table_length, index_of, at, put}
 use Rattle.core_machine.specs.declared.table.address.Address.{Address}
-use Rattle.core_machine.specs.declared.table.address.Address.TheVariants.{Control, Word, Spine}
-use Rattle.core_machine.specs.table.Layout.{table_length, index_of, at, put}
 use Rattle.core_machine.proofs.table_lemmas.Addresses.{at-put_same, at-put_other}
 
 -- a word with another index is as before

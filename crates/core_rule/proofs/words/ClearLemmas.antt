@@ -5,11 +5,8 @@ use Rattle.std.proofs.Common.{◌≡◌, ◌≢◌, ℕ, ◌+◌, ◌-◌, ◌*�
 use Rattle.std.proofs.lemmas.Bool.{cases_Bool}
 use Rattle.std.proofs.lemmas.Bool.Decides.{eqb_tells, leb_tells}
 use Rattle.std.proofs.lemmas.Nat.Bits.{bit_at-lt}
-use Rattle.core_machine.specs.table.Fragments.{tally, is_clear, clear_in, clear_among}
-use Rattle.core_machine.specs.machine.Sums.{sum_upto}
+use Rattle.core_rule.proofs.Terms.{taken_at, tally, is_clear, clear_in, clear_among, sum_upto, free_in, Owner, taken_bit, free_bit}
 use Rattle.core_machine.proofs.table_lemmas.Free.{sum_same}
-use Rattle.core_rule.specs.Gathers.{free_in}
-use Rattle.core_rule.specs.Owners.{Owner, taken_bit, free_bit}
 use Rattle.core_rule.proofs.owners.OwnerLemmas.{free_by_bit}
 use Rattle.core_rule.proofs.lists.Parts.{tally-filter_yes, tally-filter_no, tally-range, tally-range_below, tally-range_above, group_length}
 
@@ -26,16 +23,16 @@ outside g f away = elim (leb_tells (16 * g) f) as (λ _. (f < 16 * g) ⊎ (16 * 
 ]
 
 module _ (g word f n : ℕ) where
-  among_clear : 16 * g ≤ f → f < 16 * g + n → bit_at word (f % 16) ≡ 0 → tally f (clear_among g word n) ≡ 1
+  among_clear : 16 * g ≤ f → f < 16 * g + n → bit_at word (taken_at f) ≡ 0 → tally f (clear_among g word n) ≡ 1
   unfolding clear_among
   among_clear low high clear =
-      let passes : is_clear word f ≡ true = elim (eqb_tells (bit_at word (f % 16)) 0) as (λ _. is_clear word f ≡ true) [ inl is ↦ is.0 | inr isnt ↦ absurd (isnt.1 clear) ] in
+      let passes : is_clear word f ≡ true = elim (eqb_tells (bit_at word (taken_at f)) 0) as (λ _. is_clear word f ≡ true) [ inl is ↦ is.0 | inr isnt ↦ absurd (isnt.1 clear) ] in
       omega (arith, tally-filter_yes (is_clear word) f (range_with_len (16 * g) n) passes, tally-range f (16 * g) n low high)
 
-  among_taken : bit_at word (f % 16) ≢ 0 → tally f (clear_among g word n) ≡ 0
+  among_taken : bit_at word (taken_at f) ≢ 0 → tally f (clear_among g word n) ≡ 0
   unfolding clear_among
   among_taken taken =
-      let fails : is_clear word f ≡ false = elim (eqb_tells (bit_at word (f % 16)) 0) as (λ _. is_clear word f ≡ false) [ inl is ↦ absurd (taken is.1) | inr isnt ↦ isnt.0 ] in
+      let fails : is_clear word f ≡ false = elim (eqb_tells (bit_at word (taken_at f)) 0) as (λ _. is_clear word f ≡ false) [ inl is ↦ absurd (taken is.1) | inr isnt ↦ isnt.0 ] in
       tally-filter_no (is_clear word) f (range_with_len (16 * g) n) fails
 
   among_away : (f < 16 * g) ⊎ (16 * g + n ≤ f) → tally f (clear_among g word n) ≡ 0
@@ -45,8 +42,8 @@ module _ (g word f n : ℕ) where
 
 module _ (g word f : ℕ) where
   -- a fragment of the group is among them where its taken bit isn't set
-  pub clear_here : f / 16 ≡ g → tally f (clear_in g word) ≡ 1 - bit_at word (f % 16)
-  clear_here here = elim (eqb_tells (bit_at word (f % 16)) 0) as (λ _. tally f (clear_in g word) ≡ 1 - bit_at word (f % 16)) [
+  pub clear_here : f / 16 ≡ g → tally f (clear_in g word) ≡ 1 - bit_at word (taken_at f)
+  clear_here here = elim (eqb_tells (bit_at word (taken_at f)) 0) as (λ _. tally f (clear_in g word) ≡ 1 - bit_at word (taken_at f)) [
     | inl clear ↦ omega (arith, among_clear g word f 16 (omega (arith, here)) (omega (arith, here)) clear.1, clear.1)
     | inr taken ↦ omega (arith, among_taken g word f 16 taken.1, taken.1, bit_at-lt word (f % 16))
   ]

@@ -2,11 +2,7 @@
 use Rattle.std.specs.Int.{bit_at}
 use Rattle.std.proofs.Common.{◌≡◌, ◌≢◌, ℕ, ◌+◌, ◌*◌, ◌/◌, ◌%◌, ◌<◌, ◌≤◌, inl, inr, List, length, sym, ◌∙◌, subst, arith}
 use Rattle.std.proofs.lemmas.Bool.Decides.{eqb_tells}
-use Rattle.heap_model.specs.declared.heap.Heap.{Heap}
-use Rattle.core_machine.specs.declared.table.address.Address.TheVariants.{Control}
-use Rattle.core_machine.specs.table.Layout.{at, put, table_length}
-use Rattle.core_rule.specs.ControlWords.{Bits}
-use Rattle.core_rule.specs.Owners.{Owner, Free, taken_bit, born_bit}
+use Rattle.core_rule.proofs.Terms.{born_at, taken_at, Heap, Control, at, put, table_length, Bits, Owner, Free, taken_bit, born_bit}
 use Rattle.core_rule.proofs.words.Addresses.{control_same, control_other}
 
 -- where the control words are the same, they have the same bits
@@ -26,16 +22,16 @@ module _ (heap : Heap) (words : List ℕ) (owner now : ℕ → Owner) (g word : 
   at_other f away = control_other heap words word g (f / 16) away
 
   -- a new word of a group, where it has the bits of the new owners, and the others' bits stay
-  pub bits_after : Bits heap words owner → ((f : ℕ) → f / 16 ≡ g → bit_at word (f % 16) ≡ taken_bit (now f))
-      → ((f : ℕ) → f / 16 ≡ g → bit_at word (16 + f % 16) ≡ born_bit (now f)) → ((f : ℕ) → f / 16 ≢ g → taken_bit (now f) ≡ taken_bit (owner f))
+  pub bits_after : Bits heap words owner → ((f : ℕ) → f / 16 ≡ g → bit_at word (taken_at f) ≡ taken_bit (now f))
+      → ((f : ℕ) → f / 16 ≡ g → bit_at word (born_at f) ≡ born_bit (now f)) → ((f : ℕ) → f / 16 ≢ g → taken_bit (now f) ≡ taken_bit (owner f))
       → ((f : ℕ) → f / 16 ≢ g → born_bit (now f) ≡ born_bit (owner f)) → ((f : ℕ) → 16 * heap.groups ≤ f → now f ≡ Free)
       → Bits heap (put heap words (Control g) word) now
   bits_after bits taken born taken_stays born_stays outside = record {
-    taken = λ f within. elim (eqb_tells (f / 16) g) as (λ _. bit_at (at heap (put heap words (Control g) word) (Control (f / 16))) (f % 16) ≡ taken_bit (now f)) [
+    taken = λ f within. elim (eqb_tells (f / 16) g) as (λ _. bit_at (at heap (put heap words (Control g) word) (Control (f / 16))) (taken_at f) ≡ taken_bit (now f)) [
       | inl same ↦ rw (at_group f same.1) (taken f same.1)
       | inr apart ↦ rw (at_other f apart.1) (bits.taken f within ∙ sym (taken_stays f apart.1))
     ];
-    born = λ f within. elim (eqb_tells (f / 16) g) as (λ _. bit_at (at heap (put heap words (Control g) word) (Control (f / 16))) (16 + f % 16) ≡ born_bit (now f)) [
+    born = λ f within. elim (eqb_tells (f / 16) g) as (λ _. bit_at (at heap (put heap words (Control g) word) (Control (f / 16))) (born_at f) ≡ born_bit (now f)) [
       | inl same ↦ rw (at_group f same.1) (born f same.1)
       | inr apart ↦ rw (at_other f apart.1) (bits.born f within ∙ sym (born_stays f apart.1))
     ];
@@ -44,8 +40,8 @@ module _ (heap : Heap) (words : List ℕ) (owner now : ℕ → Owner) (g word : 
 
 module _ (heap : Heap) (words : List ℕ) (owner : ℕ → Owner) (g : ℕ) (whole : length words ≡ table_length heap) (below : g < heap.groups) (bits : Bits heap words owner) where
   -- the word found has the bits of the group's fragments
-  pub found_taken : (f : ℕ) → f / 16 ≡ g → bit_at (at heap words (Control g)) (f % 16) ≡ taken_bit (owner f)
-  found_taken f here = subst (λ h. bit_at (at heap words (Control h)) (f % 16) ≡ taken_bit (owner f)) here (bits.taken f (omega (arith, here, below)))
+  pub found_taken : (f : ℕ) → f / 16 ≡ g → bit_at (at heap words (Control g)) (taken_at f) ≡ taken_bit (owner f)
+  found_taken f here = subst (λ h. bit_at (at heap words (Control h)) (taken_at f) ≡ taken_bit (owner f)) here (bits.taken f (omega (arith, here, below)))
 
-  pub found_born : (f : ℕ) → f / 16 ≡ g → bit_at (at heap words (Control g)) (16 + f % 16) ≡ born_bit (owner f)
-  found_born f here = subst (λ h. bit_at (at heap words (Control h)) (16 + f % 16) ≡ born_bit (owner f)) here (bits.born f (omega (arith, here, below)))
+  pub found_born : (f : ℕ) → f / 16 ≡ g → bit_at (at heap words (Control g)) (born_at f) ≡ born_bit (owner f)
+  found_born f here = subst (λ h. bit_at (at heap words (Control h)) (born_at f) ≡ born_bit (owner f)) here (bits.born f (omega (arith, here, below)))

@@ -2,14 +2,9 @@
 use Rattle.std.specs.Int.{bit_at}
 use Rattle.std.proofs.Common.{◌≡◌, ◌≢◌, ℕ, ◌+◌, ◌-◌, ◌*◌, ◌/◌, ◌%◌, ◌<◌, ◌≤◌, max, Bool, List, length, bit_or, refl, sym, ap, ◌∙◌, subst, arith}
 use Rattle.std.proofs.lemmas.Nat.Bits.{bit_at-lt}
-use Rattle.heap_model.specs.declared.heap.Heap.{Heap}
-use Rattle.core_machine.specs.declared.table.address.Address.TheVariants.{Control}
-use Rattle.core_machine.specs.table.Fragments.{part_in, mask_of, clear_in, tally}
-use Rattle.core_machine.specs.table.Layout.{at, put, table_length}
-use Rattle.core_machine.specs.table.Operation.{all_taken, word_without_taken, birth_bits_of}
+use Rattle.core_rule.proofs.Terms.{born_at, taken_at, Heap, Control, part_in, mask_of, clear_in, tally, at, put, table_length, all_taken, word_without_taken, birth_bits_of, Bits}
+use Rattle.core_rule.proofs.Terms.{Owner, Free, Taken, Borne, taken_bit, born_bit, owner_after}
 use Rattle.core_machine.proofs.table_lemmas.Masks.{mask-lt}
-use Rattle.core_rule.specs.ControlWords.{Bits}
-use Rattle.core_rule.specs.Owners.{Owner, Free, Taken, Borne, taken_bit, born_bit, owner_after}
 use Rattle.core_rule.proofs.words.ClearLemmas.{clear_here, clear_away, clear_once, clear_group}
 use Rattle.core_rule.proofs.words.ControlLemmas.{bits_after, found_taken, found_born}
 use Rattle.core_rule.proofs.owners.Handed.{handed_out, gains, loses, stays}
@@ -38,17 +33,17 @@ module _ (heap : Heap) (words : List ℕ) (owner : ℕ → Owner) (g : ℕ) (who
       is_free (owner f) (omega (arith, there, clear_here g found f here, found_taken heap words owner g whole below bits f here))
 
   module _ (number : ℕ) where
-    claimed_taken : (f : ℕ) → f / 16 ≡ g → bit_at (bit_or found all_taken) (f % 16) ≡ taken_bit (owner_after (Taken number) owner (clear_in g found) f)
+    claimed_taken : (f : ℕ) → f / 16 ≡ g → bit_at (bit_or found all_taken) (taken_at f) ≡ taken_bit (owner_after (Taken number) owner (clear_in g found) f)
     claimed_taken f here =
         let more : taken_bit (owner_after (Taken number) owner (clear_in g found) f) ≡ taken_bit (owner f) + tally f (clear_in g found)
         = gains taken_bit (Taken number) owner (clear_in g found) (λ x. clear_once g found x) refl (λ x there. ap taken_bit (clear_is_free x there)) f in
-        let one : bit_at (bit_or found all_taken) (f % 16) ≡ 1 = claim_taken found (f % 16) (omega arith) in
-        let clear : tally f (clear_in g found) ≡ 1 - bit_at found (f % 16) = clear_here g found f here in
-        let bit : bit_at found (f % 16) ≡ taken_bit (owner f) = found_taken heap words owner g whole below bits f here in
-        let small : bit_at found (f % 16) < 2 = bit_at-lt found (f % 16) in
-        all_set (bit_at (bit_or found all_taken) (f % 16)) (taken_bit (owner_after (Taken number) owner (clear_in g found) f)) (taken_bit (owner f)) (tally f (clear_in g found)) (bit_at found (f % 16)) more one clear bit small
+        let one : bit_at (bit_or found all_taken) (taken_at f) ≡ 1 = claim_taken found (f % 16) (omega arith) in
+        let clear : tally f (clear_in g found) ≡ 1 - bit_at found (taken_at f) = clear_here g found f here in
+        let bit : bit_at found (taken_at f) ≡ taken_bit (owner f) = found_taken heap words owner g whole below bits f here in
+        let small : bit_at found (taken_at f) < 2 = bit_at-lt found (f % 16) in
+        all_set (bit_at (bit_or found all_taken) (taken_at f)) (taken_bit (owner_after (Taken number) owner (clear_in g found) f)) (taken_bit (owner f)) (tally f (clear_in g found)) (bit_at found (taken_at f)) more one clear bit small
 
-    claimed_born : (f : ℕ) → f / 16 ≡ g → bit_at (bit_or found all_taken) (16 + f % 16) ≡ born_bit (owner_after (Taken number) owner (clear_in g found) f)
+    claimed_born : (f : ℕ) → f / 16 ≡ g → bit_at (bit_or found all_taken) (born_at f) ≡ born_bit (owner_after (Taken number) owner (clear_in g found) f)
     claimed_born f here =
         claim_born found (f % 16) (omega arith) ∙ found_born heap words owner g whole below bits f here
         ∙ sym (stays born_bit (Taken number) owner (clear_in g found) (λ x there. ap born_bit (clear_is_free x there)) f)
@@ -75,22 +70,22 @@ module _ (heap : Heap) (words : List ℕ) (owner : ℕ → Owner) (g : ℕ) (who
   held_in f there = held f (omega (arith, there, parts_tally g f fs))
 
   -- the mask has the bits of the part
-  masked : (f : ℕ) → f / 16 ≡ g → bit_at (mask_of (part_in g fs)) (f % 16) ≡ tally f (part_in g fs)
+  masked : (f : ℕ) → f / 16 ≡ g → bit_at (mask_of (part_in g fs)) (taken_at f) ≡ tally f (part_in g fs)
   masked f here =
       let place : 16 * g + f % 16 ≡ f = omega (arith, here) in
-      let bit : bit_at (mask_of (part_in g fs)) (f % 16) ≡ tally f fs
-      = subst (λ x. bit_at (mask_of (part_in g fs)) (f % 16) ≡ tally x fs) place (mask_bit g (f % 16) fs (omega arith) (subst (λ x. tally x fs ≤ 1) (sym place) (once f))) in
+      let bit : bit_at (mask_of (part_in g fs)) (taken_at f) ≡ tally f fs
+      = subst (λ x. bit_at (mask_of (part_in g fs)) (taken_at f) ≡ tally x fs) place (mask_bit g (f % 16) fs (omega arith) (subst (λ x. tally x fs ≤ 1) (sym place) (once f))) in
       bit ∙ sym (part_in-here g f fs here)
 
-  returned_taken : (f : ℕ) → f / 16 ≡ g → bit_at (word_without_taken (mask_of (part_in g fs)) word_found) (f % 16) ≡ taken_bit (owner_after Free owner (part_in g fs) f)
-  returned_taken f here = less_set (bit_at (word_without_taken (mask_of (part_in g fs)) word_found) (f % 16)) (bit_at word_found (f % 16)) (bit_at (mask_of (part_in g fs)) (f % 16))
+  returned_taken : (f : ℕ) → f / 16 ≡ g → bit_at (word_without_taken (mask_of (part_in g fs)) word_found) (taken_at f) ≡ taken_bit (owner_after Free owner (part_in g fs) f)
+  returned_taken f here = less_set (bit_at (word_without_taken (mask_of (part_in g fs)) word_found) (taken_at f)) (bit_at word_found (taken_at f)) (bit_at (mask_of (part_in g fs)) (taken_at f))
       (taken_bit (owner f)) (taken_bit (owner_after Free owner (part_in g fs) f)) (tally f (part_in g fs))
       (untaken_taken word_found (f % 16) (omega arith) (mask_of (part_in g fs)) (mask-lt (part_in g fs)))
       (masked f here)
       (found_taken heap words owner g whole below bits f here)
       (loses taken_bit Free owner (part_in g fs) once_in refl (λ x there. ap taken_bit (held_in x there)) f)
 
-  returned_born : (f : ℕ) → f / 16 ≡ g → bit_at (word_without_taken (mask_of (part_in g fs)) word_found) (16 + f % 16) ≡ born_bit (owner_after Free owner (part_in g fs) f)
+  returned_born : (f : ℕ) → f / 16 ≡ g → bit_at (word_without_taken (mask_of (part_in g fs)) word_found) (born_at f) ≡ born_bit (owner_after Free owner (part_in g fs) f)
   returned_born f here = untaken_born word_found (f % 16) (omega arith) (mask_of (part_in g fs)) (mask-lt (part_in g fs)) ∙ found_born heap words owner g whole below bits f here
       ∙ sym (stays born_bit Free owner (part_in g fs) (λ x there. ap born_bit (held_in x there)) f)
 
@@ -110,7 +105,7 @@ module _ (heap : Heap) (words : List ℕ) (owner : ℕ → Owner) (g : ℕ) (who
   birth_word_bits black now taken born outside =
       bits_after heap words owner now g (bit_or word_found (birth_bits_of black (mask_of (part_in g fs)))) whole below bits
       (λ f here. birth_taken word_found (f % 16) (omega arith) (mask_of (part_in g fs)) black ∙ found_taken heap words owner g whole below bits f here ∙ sym (taken f))
-      (λ f here. more_set (bit_at (bit_or word_found (birth_bits_of black (mask_of (part_in g fs)))) (16 + f % 16)) (bit_at word_found (16 + f % 16)) (bit_at (mask_of (part_in g fs)) (f % 16))
+      (λ f here. more_set (bit_at (bit_or word_found (birth_bits_of black (mask_of (part_in g fs)))) (born_at f)) (bit_at word_found (born_at f)) (bit_at (mask_of (part_in g fs)) (taken_at f))
       (born_bit (owner f)) (born_bit (now f)) (tally f (part_in g fs))
       (birth_born word_found (f % 16) (omega arith) (mask_of (part_in g fs)) black) (masked f here) (found_born heap words owner g whole below bits f here) (born f) (born_once (now f)))
       (λ f apart. taken f)

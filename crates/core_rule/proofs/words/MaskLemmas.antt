@@ -3,8 +3,7 @@ use Rattle.std.specs.Int.{bit_at}
 use Rattle.std.proofs.Common.{◌≡◌, ◌≢◌, ℕ, ◌+◌, ◌*◌, ◌/◌, ◌%◌, ◌^◌, ◌<◌, ◌≤◌, inl, inr, min, max, List, [], ◌∷◌, fold, bit_or, refl, arith}
 use Rattle.std.proofs.lemmas.Bool.Decides.{eqb_tells}
 use Rattle.std.proofs.lemmas.Nat.Bits.{bit_at_or, bit_at-pow_same, bit_at-pow_other, bit_at-zero, bit_at-lt}
-use Rattle.core_machine.specs.table.Fragments.{part_in, mask_of, tally}
-use Rattle.core_rule.specs.Owners.{one_at}
+use Rattle.core_rule.proofs.Terms.{part_in, mask_of, tally, one_at}
 use Rattle.core_rule.proofs.lists.Tallies.{one_at_same, one_at_other}
 
 -- the bits with one more

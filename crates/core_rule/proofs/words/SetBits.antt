@@ -2,7 +2,7 @@
 use Rattle.std.specs.Int.{bit_at, w16}
 use Rattle.std.proofs.Common.{◌≡◌, ◌≢◌, ℕ, ◌-◌, ◌/◌, ◌%◌, ◌^◌, ◌<◌, ◌≤◌, List, length, count_ones, ap, ◌∙◌, arith}
 use Rattle.std.proofs.lemmas.Nat.Bits.{bit_at-lt, bit_at_not}
-use Rattle.core_machine.specs.table.Fragments.{tally, clear_in}
+use Rattle.core_rule.proofs.Terms.{taken_at, tally, clear_in}
 use Rattle.core_machine.proofs.table_lemmas.Counting.{clear_zeros}
 use Rattle.core_rule.proofs.words.ClearLemmas.{clear_here, clear_away, clear_group, clear_once}
 
@@ -26,9 +26,9 @@ module _ (g bits : ℕ) where
 
   module _ (small : bits < 2 ^ 16) where
     -- a fragment of the group is among them where its bit is set
-    pub set_here : (f : ℕ) → f / 16 ≡ g → tally f (set_in g bits) ≡ bit_at bits (f % 16)
+    pub set_here : (f : ℕ) → f / 16 ≡ g → tally f (set_in g bits) ≡ bit_at bits (taken_at f)
     set_here f here =
-        let other : bit_at others (f % 16) ≡ 1 - bit_at bits (f % 16) = bit_at_not w16 bits (f % 16) small (omega arith) in
+        let other : bit_at others (taken_at f) ≡ 1 - bit_at bits (taken_at f) = bit_at_not w16 bits (f % 16) small (omega arith) in
         omega (arith, clear_here g others f here, other, bit_at-lt bits (f % 16))
 
     -- they are as many as the bits

@@ -1,15 +1,9 @@
 -- The control words once fragments of a group were freed, and once the marks of a group were cleared.
 use Rattle.std.proofs.Common.{◌≡◌, ◌≢◌, ℕ, ◌+◌, ◌/◌, ◌%◌, ◌^◌, ◌<◌, ◌==◌, if◌then◌else◌, List, length, bit_and, inl, inr, refl, sym, ap, ◌∙◌, arith}
 use Rattle.std.proofs.lemmas.Bool.Decides.{eqb_tells}
-use Rattle.heap_model.specs.declared.heap.Heap.{Heap}
-use Rattle.core_machine.specs.declared.table.address.Address.TheVariants.{Control}
-use Rattle.core_machine.specs.table.Layout.{at, put, table_length}
+use Rattle.core_rule.proofs.Terms.{born_at, marked_at, scanned_at, Heap, Control, at, put, table_length, Colour, White, Grey, Marks, marked_bit, scanned_bit, IsMarked, Bits}
+use Rattle.core_rule.proofs.Terms.{AreDead, AreCleared, Owner, Free, taken_bit, born_bit, owner_after}
 use Rattle.core_machine.specs.table.Operation.{free_mask_of, marks_cleared}
-use Rattle.core_rule.specs.Book.{Colour, White, Grey}
-use Rattle.core_rule.specs.Colours.{Marks, marked_bit, scanned_bit, IsMarked}
-use Rattle.core_rule.specs.ControlWords.{Bits}
-use Rattle.core_rule.specs.Sweep.{AreDead, AreCleared}
-use Rattle.core_rule.specs.Owners.{Owner, Free, taken_bit, born_bit, owner_after}
 use Rattle.core_rule.proofs.colours.MarkWords.{marks_after, found_marked, found_scanned}
 use Rattle.core_rule.proofs.owners.DeadOwners.{of_dead, set_dead}
 use Rattle.core_rule.proofs.owners.Handed.{handed_out, loses}
@@ -94,20 +88,20 @@ module _ (heap : Heap) (words : List ℕ) (g : ℕ) (whole : length words ≡ ta
     -- what is freed keeps its marks
     pub freed_marks : (dead : ℕ) → dead < 2 ^ 16 → Marks heap (put heap words (Control g) (bit_and found (free_mask_of dead))) colour
     freed_marks dead small = marks_after heap words colour colour g (bit_and found (free_mask_of dead)) whole below marks
-        (λ f here. freed_past found dead small (32 + f % 16) (omega arith) (omega arith) ∙ found_marked heap words colour colour g 0 whole below marks f here)
-        (λ f here. freed_past found dead small (48 + f % 16) (omega arith) (omega arith) ∙ found_scanned heap words colour colour g 0 whole below marks f here)
+        (λ f here. freed_past found dead small (marked_at f) (omega arith) (omega arith) ∙ found_marked heap words colour colour g 0 whole below marks f here)
+        (λ f here. freed_past found dead small (scanned_at f) (omega arith) (omega arith) ∙ found_scanned heap words colour colour g 0 whole below marks f here)
         (λ f apart. refl)
 
     -- the group's marks are cleared
     pub cleared_marks : Marks heap (put heap words (Control g) (bit_and found marks_cleared)) (cleared_in g colour)
     cleared_marks = marks_after heap words colour (cleared_in g colour) g (bit_and found marks_cleared) whole below marks
-        (λ f here. cleared_high found (32 + f % 16) (omega arith) ∙ sym (ap marked_bit (cleared_here g colour f here)))
-        (λ f here. cleared_high found (48 + f % 16) (omega arith) ∙ sym (ap scanned_bit (cleared_here g colour f here)))
+        (λ f here. cleared_high found (marked_at f) (omega arith) ∙ sym (ap marked_bit (cleared_here g colour f here)))
+        (λ f here. cleared_high found (scanned_at f) (omega arith) ∙ sym (ap scanned_bit (cleared_here g colour f here)))
         (λ f apart. cleared_other g colour f apart)
 
   -- and its taken and born bits stay
   pub cleared_bits : (owner : ℕ → Owner) → Bits heap words owner → Bits heap (put heap words (Control g) (bit_and found marks_cleared)) owner
   cleared_bits owner bits = bits_after heap words owner owner g (bit_and found marks_cleared) whole below bits
       (λ f here. cleared_low found (f % 16) (omega arith) ∙ found_taken heap words owner g whole below bits f here)
-      (λ f here. cleared_low found (16 + f % 16) (omega arith) ∙ found_born heap words owner g whole below bits f here)
+      (λ f here. cleared_low found (born_at f) (omega arith) ∙ found_born heap words owner g whole below bits f here)
       (λ f apart. refl) (λ f apart. refl) bits.outside

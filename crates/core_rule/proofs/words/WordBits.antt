@@ -2,7 +2,7 @@
 use Rattle.std.specs.Int.{bit_at, w64}
 use Rattle.std.proofs.Common.{◌≡◌, ℕ, ◌+◌, ◌-◌, ◌*◌, ◌^◌, ◌<◌, max, Bool, true, false, bit_or, refl, arith}
 use Rattle.std.proofs.lemmas.Nat.Bits.{bit_at_or, bit_at_and, bit_at_not, bit_at_ones, bit_at_ones_above, bit_at-zero, bit_at-lt, bit_at_above, bit_at_cat_low, bit_at_cat_high}
-use Rattle.core_machine.specs.table.Operation.{all_taken, word_without_taken, birth_bits_of}
+use Rattle.core_rule.proofs.Terms.{all_taken, word_without_taken, birth_bits_of}
 
 module _ (word j : ℕ) (below : j < 16) where
   -- a claim sets each taken bit, and no born one

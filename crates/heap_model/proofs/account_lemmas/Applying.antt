@@ -4,6 +4,7 @@ use Rattle.std.proofs.lemmas.List.Sums.{sum_by-cons}
 use Rattle.std.proofs.lemmas.Bool.{cases_lt, cases_Bool, cond-true, cond-false, eqb-true, eq-eqb}
 use Rattle.std.proofs.lemmas.List.Elements.{Contains-append_left, Contains-push, Contains-push_cases}
 use Rattle.std.specs.List.{range_with_len}
+use Rattle.heap_model.specs.PhasePlan.{cycle_phases, barriers as barriers_phase}
 use Rattle.heap_model.specs.declared.heap.Heap.{Heap}
 use Rattle.heap_model.specs.declared.id.Id.{Id}
 use Rattle.heap_model.specs.declared.entry.Entry.{Entry}
@@ -92,10 +93,10 @@ brings_is heap all seats number history told =
     )
 
 -- a cycle that begins is told
-begun-tells : (play : Bool) (old new : Books) (history : List Entry) (p : ℕ) → Counts play old new history (entries.Advance p) → p % 7 ≡ 1 → (cycle : Cycle) → IsBegun old (graph_of old.heap history) cycle
+begun-tells : (play : Bool) (old new : Books) (history : List Entry) (p : ℕ) → Counts play old new history (entries.Advance p) → p % cycle_phases ≡ barriers_phase → (cycle : Cycle) → IsBegun old (graph_of old.heap history) cycle
     → TellsCycle old.heap cycle (history ++ entries.Advance p ∷ [])
 begun-tells play old new history p c one cycle begun =
-    let here : up_to_cycle (history ++ entries.Advance p ∷ []) ≡ history ++ entries.Advance p ∷ [] = up_to_last-yes begins_cycle history (entries.Advance p) (eq-eqb (p % 7) 1 one) in
+    let here : up_to_cycle (history ++ entries.Advance p ∷ []) ≡ history ++ entries.Advance p ∷ [] = up_to_last-yes begins_cycle history (entries.Advance p) (eq-eqb (p % cycle_phases) barriers_phase one) in
     let graph : graph_of old.heap (up_to_cycle (history ++ entries.Advance p ∷ [])) ≡ graph_of old.heap history = ap (graph_of old.heap) here ∙ graph_after-more (opening old.heap) history (entries.Advance p) in
     record {
       reached = subst (λ g. AreReached g cycle.reached.items) (sym graph) begun.reached;
@@ -125,8 +126,8 @@ cycle-stays heap cycle history later same told = record {
 }
 
 -- an entry that begins a cycle is an advance
-advance_of : (entry : Entry) → begins_cycle entry ≡ true → (p : ℕ) × (entry ≡ entries.Advance p) × (p % 7 ≡ 1)
-advance_of (entries.Advance p) begins = (p, refl, eqb-true (p % 7) 1 begins)
+advance_of : (entry : Entry) → begins_cycle entry ≡ true → (p : ℕ) × (entry ≡ entries.Advance p) × (p % cycle_phases ≡ barriers_phase)
+advance_of (entries.Advance p) begins = (p, refl, eqb-true (p % cycle_phases) barriers_phase begins)
 advance_of entry begins = cc begins
 
 -- the account tells the history with the entry
@@ -141,7 +142,7 @@ applied play old mid new history entry t keeps prepared noted =
     made : new.made ≡ made_counts (graph_of old.heap (history ++ entry ∷ []))
     made = noted.made ∙ prepared.made ∙ ap (λ counts. counts_after counts entry) t.made ∙ sym (ap made_counts (graph_after-more (opening old.heap) history entry) ∙ made_counts-after (graph_of old.heap history) entry)
 
-    begun : (entry : Entry) → Counts play old new history entry → (p : ℕ) → entry ≡ entries.Advance p → p % 7 ≡ 1 → IsBegun old (graph_of old.heap history) mid.cycle → TellsCycle old.heap mid.cycle (history ++ entry ∷ [])
+    begun : (entry : Entry) → Counts play old new history entry → (p : ℕ) → entry ≡ entries.Advance p → p % cycle_phases ≡ barriers_phase → IsBegun old (graph_of old.heap history) mid.cycle → TellsCycle old.heap mid.cycle (history ++ entry ∷ [])
     begun entry c p is one b = subst (λ e. TellsCycle old.heap mid.cycle (history ++ e ∷ [])) (sym is) (begun-tells play old new history p (subst (λ e. Counts play old new history e) is c) one mid.cycle b)
 
     earlier : begins_cycle entry ≡ false → 1 ≤ new.all.phases → 1 ≤ old.all.phases

@@ -1,5 +1,5 @@
 -- What is kept of a cycle.
-use Rattle.std.proofs.Common.{◌≡◌, ℕ, zero, suc, ◌+◌, ◌-◌, ◌≤◌, List, [], ap, sym, ◌∙◌, arith, sum_by, add-zero, zero-add, add-one}
+use Rattle.std.proofs.Common.{◌≡◌, ℕ, zero, suc, ◌+◌, ◌-◌, ◌≤◌, List, [], ap, sym, ◌∙◌, arith, AllPairs, Contains, ◌≢◌, ◌↔◌, sum_by, add-zero, zero-add, add-one}
 use Rattle.std.proofs.lemmas.List.Sums.{sum_by-cons}
 use Rattle.std.specs.List.{range_with_len}
 use Rattle.std.specs.List.Sorted.{IsPermutation}
@@ -7,7 +7,7 @@ use Rattle.std.proofs.lemmas.List.Sorted.{IsPermutation-sym, Contains-permutatio
 use Rattle.heap_model.specs.declared.id.Id.{Id}
 use Rattle.heap_model.specs.declared.entry.Entry.{Entry}
 use Rattle.heap_model.specs.graph.Graph.{Graph}
-use Rattle.heap_model.specs.graph.Reach.{IsReach, AreReached, AreReachedAmong}
+use Rattle.heap_model.specs.graph.Reach.{IsBefore, Reaches, IsReach, AreReached, AreReachedAmong}
 use Rattle.heap_model.specs.graph.Sizes.{fragments_at, fragments_of_all, spine_words_at, spine_words_of_all}
 use Rattle.heap_model.specs.account.Space.{total, words_granted}
 use Rattle.heap_model.specs.account.Effects.{effect_of}
@@ -38,35 +38,28 @@ same_reach g xs ys x y = same_ids xs ys x.ordered y.ordered (λ id h. (y.reached
 same_both : (g h : Graph) (xs ys : List Id) → IsReachOfBoth g h xs → IsReachOfBoth g h ys → xs ≡ ys
 same_both g h xs ys x y = same_ids xs ys x.ordered y.ordered (λ id c. (y.reached id).1 ((x.reached id).0 c)) (λ id c. (x.reached id).1 ((y.reached id).0 c))
 
--- the reached ids can be put in their order
+-- ids that are each there once can be put in their order
+put_in_order : (ids : List Id) → AllPairs (λ id later. id ≢ later) ids
+    → (ordered : List Id) × IsPermutation ids ordered × AllPairs IsBefore ordered × ((id : Id) → Contains ordered id ↔ Contains ids id)
+put_in_order ids once =
+    let put = in_order ids once in
+    (put.0, put.1, put.2, λ id. (Contains-permutation put.0 ids id (IsPermutation-sym ids put.0 put.1), Contains-permutation ids put.0 id put.1))
+
+-- so can the reached ids
 reach_in_order : (g : Graph) (ids : List Id) → AreReached g ids → (ordered : List Id) × IsPermutation ids ordered × IsReach g ordered
 reach_in_order g ids are =
-    let put = in_order ids are.once in (
-      put.0,
-      put.1,
-      record {
-        ordered = put.2;
-        reached = λ id. (
-          λ held. (are.reached id).0 (Contains-permutation put.0 ids id (IsPermutation-sym ids put.0 put.1) held),
-          λ reaches. Contains-permutation ids put.0 id put.1 ((are.reached id).1 reaches),
-        );
-      },
-    )
+    let put = put_in_order ids are.once in
+    (put.0, put.1, record { ordered = put.2; reached = λ id. (λ held. (are.reached id).0 ((put.3 id).0 held), λ reaches. (put.3 id).1 ((are.reached id).1 reaches)) })
 
 -- and so can those that are reached in both graphs
 both_in_order : (g h : Graph) (reached both : List Id) → AreReached g reached → AreReachedAmong h reached both → (ordered : List Id) × IsPermutation both ordered × IsReachOfBoth g h ordered
 both_in_order g h reached both are among =
-    let put = in_order both (among.once are.once) in (
-      put.0,
-      put.1,
-      record {
-        ordered = put.2;
-        reached = λ id. (
-          λ held. let kept = (among.reached id).0 (Contains-permutation put.0 both id (IsPermutation-sym both put.0 put.1) held) in ((are.reached id).0 kept.0, kept.1),
-          λ reaches. Contains-permutation both put.0 id put.1 ((among.reached id).1 ((are.reached id).1 reaches.0, reaches.1)),
-        );
-      },
-    )
+    let put = put_in_order both (among.once are.once) in
+    let reached : (id : Id) → Contains put.0 id ↔ Reaches g id × Reaches h id = λ id. (
+      λ held. let kept = (among.reached id).0 ((put.3 id).0 held) in ((are.reached id).0 kept.0, kept.1),
+      λ reaches. (put.3 id).1 ((among.reached id).1 ((are.reached id).1 reaches.0, reaches.1)),
+    ) in
+    (put.0, put.1, record { ordered = put.2; reached = reached })
 
 -- sums over the reached ids are the same in whatever order
 sum_of_reach : (f : Id → ℕ) (g : Graph) (ids ordered : List Id) → AreReached g ids → IsReach g ordered → sum_by f ordered ≡ sum_by f ids

@@ -4,6 +4,7 @@ use Rattle.std.proofs.lemmas.Bool.{cases_lt, cases_Bool, cond-true, cond-false, 
 use Rattle.std.proofs.lemmas.List.{append-nil}
 use Rattle.std.proofs.lemmas.List.Elements.{Contains-append_left, Contains-push, Contains-push_cases}
 use Rattle.std.specs.Option.{unwrap_or}
+use Rattle.heap_model.specs.PhasePlan.{cycle_phases, rest as resting}
 use Rattle.heap_model.specs.declared.heap.Heap.{Heap}
 use Rattle.heap_model.specs.declared.entry.Entry.{Entry}
 use Rattle.heap_model.specs.declared.entry.Entry.TheVariants as entries
@@ -47,9 +48,9 @@ spends number history entry replies makes = absurd (cc replies)
 -- the phases that began since the seat's last reply
 pub began-more : (heap : Heap) (number : ℕ) (history : List Entry) (entry : Entry) → Advances heap history entry ⊎ (Finishes heap history entry ⊎ Stays entry) → (old_then new_then old new : ℕ)
     → old ≡ phase history → new ≡ old + (effect_of entry).phases → new_then ≡ cond (is_reply_to number entry) new old_then → old_then ≤ old
-    → ((p : ℕ) → (Contains (since_reply number history) (entries.Advance p) → (old_then < p) × (p ≤ old) × (p % 7 ≢ 0)) × ((old_then < p) × (p ≤ old) × (p % 7 ≢ 0) → Contains (since_reply number history) (entries.Advance p)))
-    → (p : ℕ) → (Contains (since_reply number (history ++ entry ∷ [])) (entries.Advance p) → (new_then < p) × (p ≤ new) × (p % 7 ≢ 0))
-    × ((new_then < p) × (p ≤ new) × (p % 7 ≢ 0) → Contains (since_reply number (history ++ entry ∷ [])) (entries.Advance p))
+    → ((p : ℕ) → (Contains (since_reply number history) (entries.Advance p) → (old_then < p) × (p ≤ old) × (p % cycle_phases ≢ resting)) × ((old_then < p) × (p ≤ old) × (p % cycle_phases ≢ resting) → Contains (since_reply number history) (entries.Advance p)))
+    → (p : ℕ) → (Contains (since_reply number (history ++ entry ∷ [])) (entries.Advance p) → (new_then < p) × (p ≤ new) × (p % cycle_phases ≢ resting))
+    × ((new_then < p) × (p ≤ new) × (p % cycle_phases ≢ resting) → Contains (since_reply number (history ++ entry ∷ [])) (entries.Advance p))
 began-more heap number history entry turns old_then new_then old new here grows then earlier told p =
     elim (cases_Bool (is_reply_to number entry)) [
       | inl fits ↦ (let none : since_reply number (history ++ entry ∷ []) ≡ [] = after_last-yes (is_reply_to number) history entry fits in
@@ -65,19 +66,19 @@ began-more heap number history entry turns old_then new_then old new here grows 
     nothing : (p : ℕ) → Contains [] (entries.Advance p) → ⊥
     nothing p h = omega (arith, h.1)
 
-    to : new_then ≡ old_then → Contains (since_reply number history) (entries.Advance p) ⊎ (entry ≡ entries.Advance p) → (new_then < p) × (p ≤ new) × (p % 7 ≢ 0)
+    to : new_then ≡ old_then → Contains (since_reply number history) (entries.Advance p) ⊎ (entry ≡ entries.Advance p) → (new_then < p) × (p ≤ new) × (p % cycle_phases ≢ resting)
     to same (inl past) = let t = (told p).0 past in (omega (arith, t.0, same), omega (arith, t.1, grows), t.2)
     to same (inr now) = elim turns [
       | inl a ↦ (let it : a.to ≡ p = cc (a.is, now) in
-          (omega (arith, it, a.next, here, same, earlier), omega (arith, it, a.next, here, a.one, grows), λ z. a.not_seven (ap (λ n. n % 7) it ∙ z)))
+          (omega (arith, it, a.next, here, same, earlier), omega (arith, it, a.next, here, a.one, grows), λ z. a.not_seven (ap (λ n. n % cycle_phases) it ∙ z)))
       | inr (inl f) ↦ absurd (cc (f.is, now))
       | inr (inr t) ↦ absurd (t.no_advance p now)
     ]
 
-    past : new_then ≡ old_then → p ≤ old → (new_then < p) × (p ≤ new) × (p % 7 ≢ 0) → Contains (since_reply number history ++ entry ∷ []) (entries.Advance p)
+    past : new_then ≡ old_then → p ≤ old → (new_then < p) × (p ≤ new) × (p % cycle_phases ≢ resting) → Contains (since_reply number history ++ entry ∷ []) (entries.Advance p)
     past same within h = Contains-append_left _ (entry ∷ []) (entries.Advance p) ((told p).1 (omega (arith, h.0, same), within, h.2))
 
-    from : new_then ≡ old_then → Advances heap history entry ⊎ (Finishes heap history entry ⊎ Stays entry) → (new_then < p) × (p ≤ new) × (p % 7 ≢ 0) → Contains (since_reply number history ++ entry ∷ []) (entries.Advance p)
+    from : new_then ≡ old_then → Advances heap history entry ⊎ (Finishes heap history entry ⊎ Stays entry) → (new_then < p) × (p ≤ new) × (p % cycle_phases ≢ resting) → Contains (since_reply number history ++ entry ∷ []) (entries.Advance p)
     from same (inl a) h = elim (cases_lt old p) [
       | inl above ↦ (let it : a.to ≡ p = omega (arith, above, h.1, a.next, here, a.one, grows) in
           subst (λ x. Contains (since_reply number history ++ entry ∷ []) x) (a.is ∙ ap entries.Advance it) (Contains-push (since_reply number history) entry))

@@ -1,6 +1,7 @@
 -- Each entry of a play keeps the rules with answers to commands of the collector before it or without them.
 use Rattle.std.proofs.Common.{◌≡◌, ℕ, ◌+◌, ◌*◌, ◌%◌, ◌≤◌, List, [], ◌∷◌, ◌++◌, refl, sym, ap, ◌∙◌, subst, arith, Bool, true, false, cond, Contains, append-nil}
 use Rattle.std.proofs.lemmas.List.Elements.{filter-append}
+use Rattle.heap_model.specs.PhasePlan.{cycle_phases}
 use Rattle.heap_model.specs.declared.heap.Heap.{Heap}
 use Rattle.heap_model.specs.declared.id.Id.{Id}
 use Rattle.heap_model.specs.declared.command.Command.{Command}
@@ -98,11 +99,11 @@ module _ (heap : Heap) (history : List Entry) where
 
   sweeps_still : (entry : Entry) → Sweeps heap (without_turned history) entry → Sweeps heap history entry
   sweeps_still (entries.Frees count) (when, some, enough) =
-      (ap (λ n. n % 7) (sym (here history)) ∙ when, some, omega (arith, enough, gained history, lost history))
+      (ap (λ n. n % cycle_phases) (sym (here history)) ∙ when, some, omega (arith, enough, gained history, lost history))
   sweeps_still (entries.Returns count) (when, some, enough) =
-      (ap (λ n. n % 7) (sym (here history)) ∙ when, some, omega (arith, enough, granted history, returned history))
+      (ap (λ n. n % cycle_phases) (sym (here history)) ∙ when, some, omega (arith, enough, granted history, returned history))
   sweeps_still (entries.Swings id) (when, array, first) =
-      (ap (λ n. n % 7) (sym (here history)) ∙ when, subst (λ g. IsArray g id) (graphs history heap) array, λ has. first (swung_still id has))
+      (ap (λ n. n % cycle_phases) (sym (here history)) ∙ when, subst (λ g. IsArray g id) (graphs history heap) array, λ has. first (swung_still id has))
   sweeps_still _ sweeps = tt
 
   shows_still : (entry : Entry) → is_of_heap entry ≡ true → ShowsRightly heap true (without_turned history) entry → ShowsRightly heap true history entry

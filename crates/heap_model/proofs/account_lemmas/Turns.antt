@@ -2,6 +2,7 @@
 use Rattle.std.proofs.Common.{◌≡◌, ◌≢◌, ℕ, ◌+◌, ◌*◌, ◌/◌, ◌%◌, ◌<◌, List, [], ◌∷◌, ◌++◌, ◌⊎◌, inl, inr, refl, sym, ap, ◌∙◌, subst, arith, Bool, Some, Contains}
 use Rattle.std.proofs.lemmas.Bool.{cases_lt}
 use Rattle.std.proofs.lemmas.List.Elements.{Contains-append_left, Contains-push, Contains-push_cases}
+use Rattle.heap_model.specs.PhasePlan.{cycle_phases, rest as resting}
 use Rattle.heap_model.specs.declared.heap.Heap.{Heap}
 use Rattle.heap_model.specs.declared.entry.Entry.{Entry}
 use Rattle.heap_model.specs.declared.entry.Entry.TheVariants as entries
@@ -16,7 +17,7 @@ pub record Advances (heap : Heap) (history : List Entry) (entry : Entry) : Type 
   pub to : ℕ
   pub is : entry ≡ entries.Advance to
   pub next : to ≡ phase history + 1
-  pub not_seven : to % 7 ≢ 0
+  pub not_seven : to % cycle_phases ≢ resting
   pub all : AllAnswered heap history
   pub one : (effect_of entry).phases ≡ 1
 

@@ -18,22 +18,26 @@ Any-get_or P xs i d within holds = let there = Contains-get_or xs i d within in 
 pub All-taken : {A : Type 0} (P : A → Type 0) (xs ys : List A) (i : ℕ) → xs ≡ ys → length xs ≤ i → All P (take i xs) → All P ys
 All-taken P xs ys i same past all = subst (All P) (take_all i xs past ∙ same) all
 
-pub GoesOn-register : (seat : GraphSeat) (values : List Value) (i : ℕ) (d : Value) {a b c : Search} → values ≡ seat.registers → i < length values → GoesOn (IsRegistered seat) a b → GoesOn (λ id. get_or values i d ≡ Object id) b c → GoesOn (IsRegistered seat) a c
-GoesOn-register seat values i d same within before on =
-    GoesOn-trans before (GoesOn-weaker (λ id is. subst (λ xs. Contains xs (Object id)) same (subst (Contains values) is (Contains-get_or values i d within))) on)
+-- the walk has gone on by what these objects lead to, and what the things up to the end hold is found
+pub record HasNoted {A : Type 0} (value : A → Value) (Leads : Id → Type 0) (old now : Search) (noted : List A) : Type 0 where
+  pub goes_on : GoesOn Leads old now
+  pub found : All (λ x. IsFound now.marks (value x)) noted
 
-pub found_register : {P : Id → Type 0} (values : List Value) (i : ℕ) (d : Value) {b c : Search} → i < length values → GoesOn P b c → All (IsFound b.marks) (take i values) → IsFound c.marks (get_or values i d) → All (IsFound c.marks) (take (i + 1) values)
-found_register values i d {b} {c} within on before here =
-    All-more (IsFound c.marks) values i d within (All-weaker (IsFound b.marks) (IsFound c.marks) (IsFound-stays on) (take i values) before) here
+-- and so it has once the next one's value is noted
+pub notes_next : {A : Type 0} (value : A → Value) (Leads : Id → Type 0) (xs : List A) (i : ℕ) (d : A) {old now new : Search} → i < length xs → ((id : Id) → value (get_or xs i d) ≡ Object id → Leads id)
+    → HasNoted value Leads old now (take i xs) → GoesOn (λ id. value (get_or xs i d) ≡ Object id) now new → IsFound new.marks (value (get_or xs i d)) → HasNoted value Leads old new (take (i + 1) xs)
+notes_next value Leads xs i d {old} {now} {new} within leads before on here = record {
+  goes_on = GoesOn-trans before.goes_on (GoesOn-weaker leads on);
+  found = All-more (λ x. IsFound new.marks (value x)) xs i d within
+      (All-weaker (λ x. IsFound now.marks (value x)) (λ x. IsFound new.marks (value x)) (λ x. IsFound-stays on (value x)) (take i xs) before.found) here;
+}
 
-pub GoesOn-cell : (object : Node) (cells : List Cell) (i : ℕ) (d : Cell) {a b c : Search} → cells ≡ object.cells → i < length cells → GoesOn (PointsTo object) a b → GoesOn (λ id. (get_or cells i d).value ≡ Object id) b c → GoesOn (PointsTo object) a c
-GoesOn-cell object cells i d same within before on =
-    GoesOn-trans before (GoesOn-weaker (λ id is. subst (Any (λ cell. cell.value ≡ Object id)) same (Any-get_or (λ cell. cell.value ≡ Object id) cells i d within is)) on)
+-- a register holds what it leads to, and so does a cell
+pub register_leads : (seat : GraphSeat) (values : List Value) (i : ℕ) (d : Value) → values ≡ seat.registers → i < length values → (id : Id) → get_or values i d ≡ Object id → IsRegistered seat id
+register_leads seat values i d same within id is = subst (λ xs. Contains xs (Object id)) same (subst (Contains values) is (Contains-get_or values i d within))
 
-pub found_cell : {P : Id → Type 0} (cells : List Cell) (i : ℕ) (d : Cell) {b c : Search} → i < length cells → GoesOn P b c → All (λ cell. IsFound b.marks cell.value) (take i cells) → IsFound c.marks (get_or cells i d).value → All (λ cell. IsFound c.marks cell.value) (take (i + 1) cells)
-found_cell cells i d {b} {c} within on before here =
-    All-more (λ cell. IsFound c.marks cell.value) cells i d within
-    (All-weaker (λ cell. IsFound b.marks cell.value) (λ cell. IsFound c.marks cell.value) (λ cell. IsFound-stays on cell.value) (take i cells) before) here
+pub cell_leads : (object : Node) (cells : List Cell) (i : ℕ) (d : Cell) → cells ≡ object.cells → i < length cells → (id : Id) → (get_or cells i d).value ≡ Object id → PointsTo object id
+cell_leads object cells i d same within id is = subst (Any (λ cell. cell.value ≡ Object id)) same (Any-get_or (λ cell. cell.value ≡ Object id) cells i d within is)
 
 pub GoesOn-seat : (g : Graph) (i : ℕ) (seat : GraphSeat) {a b c : Search} → i < length g.seats → seat ≡ get_or g.seats i seat → GoesOn (IsRoot g) a b → GoesOn (IsRegistered seat) b c → GoesOn (IsRoot g) a c
 GoesOn-seat g i seat within is before on =

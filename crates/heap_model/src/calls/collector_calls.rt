@@ -20,6 +20,9 @@ pub trait CollectorCalls {
     /// What more one of its turns does.
     ghost turned: { Self → Self → Turn → Type 0 };
 
+    /// What more it comes to that room was made.
+    ghost roomed: { Self → Self → Type 0 } = { λ _ _. Unit {0} };
+
     /// Makes one step, which is one operation on one word of the heap.
     fn turn(&mut self) -> Turn
         requires { 2 ≤ (state self.old).spare }
@@ -31,7 +34,8 @@ pub trait CollectorCalls {
         ensures same { state self.new ≡ record (state self.old) { spare = (state self.new).spare } }
         ensures more { (state self.old).spare ≤ (state self.new).spare }
         ensures room { OnOk result (n ≤ (state self.new).spare) }
-        ensures memory { OnErr result (state self.new ≡ state self.old) };
+        ensures memory { OnErr result (state self.new ≡ state self.old) }
+        ensures stays { roomed self.old self.new };
 
     /// For how many more entries there is room.
     fn spare(&self) -> usize

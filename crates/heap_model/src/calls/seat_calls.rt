@@ -18,6 +18,9 @@ pub trait SeatCalls {
     /// The seat's heap, its number, its entries, and the room for more.
     ghost state: { Self → SeatState };
 
+    /// What more it comes to that room was made.
+    ghost roomed: { Self → Self → Type 0 } = { λ _ _. Unit {0} };
+
     /// Answers the phase now, and tells it. While a new one waits for the seat, the collector can't go on.
     fn poll(&mut self) -> u64
         requires { IsReady (state self.old) Poll }
@@ -90,7 +93,8 @@ pub trait SeatCalls {
         ensures same { state self.new ≡ record (state self.old) { spare = (state self.new).spare } }
         ensures more { (state self.old).spare ≤ (state self.new).spare }
         ensures room { OnOk result (n ≤ (state self.new).spare) }
-        ensures memory { OnErr result (state self.new ≡ state self.old) };
+        ensures memory { OnErr result (state self.new ≡ state self.old) }
+        ensures stays { roomed self.old self.new };
 
     /// For how many more entries there is room.
     fn spare(&self) -> usize

@@ -26,14 +26,15 @@ impl Graph {
         ensures grown { OnOk result (self.new ≡ after_entry self.old entry.now) }
         ensures unchanged { OnErr result (self.new ≡ self.old) }
     {
-        match *entry {
-            Entry::Said {
-                seat,
-                command,
-                reply,
-            } => self.grow_by_reply(seat, command, reply),
-            _ => Ok(()),
-        }
+        let Entry::Said {
+            seat,
+            command,
+            reply,
+        } = *entry
+        else {
+            return Ok(());
+        };
+        self.grow_by_reply(seat, command, reply)
     }
 
     fn grow_by_reply(&mut self, seat: u8, command: Command, reply: Reply) -> Result<(), AllocError>

@@ -15,17 +15,17 @@ impl Graph {
     pub(super) fn accepts(&self, entry: &Entry) -> bool
         ensures { IsTrue result ↔ Accepts self.now entry.now }
     {
-        match *entry {
-            Entry::Said {
-                seat,
-                command,
-                reply,
-            } => self.is_present(seat) && command.is_in_range() && self.says(seat, command, reply),
-            Entry::Takes { seat, .. }
-            | Entry::GivesBack { seat, .. }
-            | Entry::Answers { seat, .. } => self.is_present(seat),
-            _ => true,
+        if let Entry::Said {
+            seat,
+            command,
+            reply,
+        } = *entry
+        {
+            return self.is_present(seat)
+                && command.is_in_range()
+                && self.says(seat, command, reply);
         }
+        entry.seat().is_none_or(|seat| self.is_present(seat))
     }
 
     /// Whether this is what the seat is told.

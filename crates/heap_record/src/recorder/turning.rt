@@ -7,12 +7,13 @@ use crate::note::note_since;
 use crate::recorder::Recorder;
 use core_rule::law_every_run;
 use heap_model::{CollectorCalls, Memory, Turn};
-use slack_pace::RoomCalls;
 
 impl CollectorCalls for Recorder {
     ghost state = { collector_of };
 
     ghost turned = { MakesTurn };
+
+    ghost roomed = { StandsStill };
 
     /// Makes a turn of the collector, for which there is room. A cycle has thousands of these, and all that one does is a step and some counts.
     #[inline(always)]
@@ -23,12 +24,12 @@ impl CollectorCalls for Recorder {
     {
         law_every_run();
         let collector = self.machine.heap().seats;
-        let before = self.machine.log(collector).len();
+        let before = self.machine.recent(collector).len();
         let turn = self.machine.play_turn();
         note_since(
             &mut self.entries,
             &mut self.spare,
-            &self.machine,
+            &mut self.machine,
             collector,
             before,
         );
@@ -66,13 +67,5 @@ impl CollectorCalls for Recorder {
 
     fn turns(&self) -> u64 {
         self.turns
-    }
-}
-
-impl RoomCalls for Recorder {
-    ghost roomed = { StandsStill };
-
-    fn make_room(&mut self, n: usize) -> Result<(), Memory> {
-        self.room(n)
     }
 }

@@ -1,5 +1,4 @@
 ghost use Rattle.std.specs.Prelude.{◌≡◌, IfOk};
-ghost use Rattle.core_machine.specs.seat.Looks.{noted_reply};
 ghost use Rattle.heap_runs.specs.PlayHeap.{AnswersCollect};
 ghost use Rattle.heap_runs.specs.MachineHeap.{run_state_of, IsBetweenCalls, CollectsMachine};
 ghost use Rattle.heap_record.specs.Recorded.{MakesInner};
@@ -7,27 +6,10 @@ ghost use Rattle.heap_runs.specs.Collecting.{MayGoOn, IsStillThere, EndsFor, End
 
 use crate::machine_heap::MachineHeap;
 use crate::play_heap::PlayHeap;
+use core_machine::noted;
 use core_rule::law_every_run;
 use heap_model::phase_plan::{CYCLE_PHASES, REST};
 use heap_model::{CollectReply, Inner, Memory, Reply, Turn};
-
-/// The reply that a collect notes.
-fn noted(came: CollectReply) -> Reply
-    ensures { result ≡ noted_reply came }
-{
-    match came {
-        CollectReply::Cycle(cycle) => Reply::Cycle(cycle),
-        CollectReply::Waits {
-            seat,
-            answered,
-            phase,
-        } => Reply::Waits {
-            seat,
-            answered,
-            phase,
-        },
-    }
-}
 
 /// The call by which a seat sees for itself what its turns came to.
 fn seen_by(came: CollectReply) -> Inner

@@ -12,7 +12,7 @@ use heap_table::{CollectorHolder, HeapTable, Holder};
 use mutator_seat::Seat;
 use slack_pace::{Pace, Steady};
 use std::alloc::Global;
-use std::marker::{Brand, PhantomData};
+use std::marker::Brand;
 use std::sync::{Mutex, Wait};
 use std::test::Fail;
 
@@ -30,13 +30,7 @@ fn collect_named<N: HeldName, R: Wait>(
     requires present { IsPresent seat.old }
     requires patience { 1 ≤ patience }
 {
-    let held = Mutex::new(Held::<N> {
-        collector,
-        pace,
-        owed: 0,
-        gone: 0,
-        name: PhantomData,
-    });
+    let held = Mutex::new(Held::<N>::new(collector, pace));
     collect_call(rt, seat, &held, patience)
 }
 

@@ -65,6 +65,16 @@ fn tells(rt: &impl Abort, alloc: Global, holder: &Holder, lines: &[&str]) -> Res
     Ok(())
 }
 
+/// The seat took five fragments, gave them back, and told this refusal.
+fn takes_in_vain(
+    rt: &impl Abort,
+    alloc: Global,
+    holder: &Holder,
+    refusal: &str,
+) -> Result<(), Fail> {
+    tells(rt, alloc, holder, &["0 takes 5", "0 gives back 5", refusal])
+}
+
 /// The seat's first object was made.
 fn is_the_first<E: PartialEq + Debug + Drop>(rt: &impl Abort, made: &Option<Result<Id, E>>) {
     let first = Id::Made { seat: 0, count: 0 };

@@ -19,7 +19,8 @@ use Rattle.heap_model.specs.graph.Legal.{Accepts, AcceptsAll, IsPresent}
 use Rattle.log_merge.proofs.merge_lemmas.Changes.{Own, own, change_of, changed, after_reply-changed, own-changed_other}
 use Rattle.log_merge.proofs.merge_lemmas.Places.{look, len, IsKnown, len-changed}
 use Rattle.log_merge.proofs.merge_lemmas.Commuting.{changed_comm}
-use Rattle.log_merge.proofs.merge_lemmas.Sound.{IsSound, sound_change}
+use Rattle.log_merge.proofs.merge_lemmas.Sound.{IsSound}
+use Rattle.log_merge.proofs.merge_lemmas.SoundChanges.{sound_change}
 use Rattle.log_merge.proofs.merge_lemmas.Finding.{present_within, IsSound-after, own-after_other, Touches, Writes, Finds, NoGets, touches_written, written_place, look-after_other, written, IsGone, IsGone-after, IsGone-written, finds_none_gone, finds_touched}
 
 -- the entries are of two seats, where both are of one

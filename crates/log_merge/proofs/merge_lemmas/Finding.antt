@@ -27,7 +27,8 @@ use Rattle.heap_model.specs.graph.Replies.{Says, Gets, Sets}
 use Rattle.heap_model.specs.graph.Legal.{Accepts, AcceptsAll, IsPresent}
 use Rattle.log_merge.proofs.merge_lemmas.Changes.{own, change_of, after_reply-changed, own-changed_other}
 use Rattle.log_merge.proofs.merge_lemmas.Places.{look, IsKnown, look_known, same_value, look-changed_other, look-changed_same}
-use Rattle.log_merge.proofs.merge_lemmas.Sound.{IsOld, IsSoundCell, IsSound, AllOfSeat, AllCells-look, Grows, Grows-changed, holds_or, IsKnown-grows, IsOld-grows, IsOld-none, set_found, get_found, sound_change, IsSound-changed}
+use Rattle.log_merge.proofs.merge_lemmas.Sound.{IsOld, IsSoundCell, IsSound, AllOfSeat, AllCells-look, Grows, Grows-changed, holds_or, IsKnown-grows, IsOld-grows, set_found, get_found}
+use Rattle.log_merge.proofs.merge_lemmas.SoundChanges.{IsOld-none, sound_change, IsSound-changed}
 
 -- a seat that is present is there
 pub present_within : (g : Graph) (number : ℕ) → IsPresent g number → number < length g.seats

@@ -25,8 +25,10 @@ use Rattle.log_merge.specs.Placing.{IsCompletion, IsMerging, IsStuck, AreStuck, 
 use Rattle.log_merge.proofs.merge_lemmas.Kinds.{tied_itself}
 use Rattle.log_merge.proofs.merge_lemmas.Counting.{one_if, none_if, counted_first, same_kind}
 use Rattle.log_merge.proofs.merge_lemmas.Parts.{length-logs_of, no_more}
-use Rattle.log_merge.proofs.merge_lemmas.Rests.{AcceptsAll-parts, ready_first, completion-more}
-use Rattle.log_merge.proofs.merge_lemmas.Merges.{not_ready, waits_for_none, next_in_log, part_of-placed, part_of-others, not_in, left_count-placed, count_left-placed, TakesFirstReady-more, none_left}
+use Rattle.log_merge.proofs.merge_lemmas.Rests.{AcceptsAll-parts}
+use Rattle.log_merge.proofs.merge_lemmas.Moving.{ready_first, completion-more}
+use Rattle.log_merge.proofs.merge_lemmas.Waiting.{not_ready, waits_for_none}
+use Rattle.log_merge.proofs.merge_lemmas.Merges.{next_in_log, part_of-placed, part_of-others, not_in, left_count-placed, count_left-placed, TakesFirstReady-more, none_left}
 
 -- an entry that is read at the count of what is placed is next
 pub IsNext-read : (heap : Heap) (logs : List (List Entry)) (placed : List Entry) (number : ℕ) (log : List Entry) (count : ℕ) (x : Entry) → get_or logs number [] ≡ log → count ≡ length (part_of heap number placed) → slice_get log count ≡ Some x → IsNext heap logs placed number x

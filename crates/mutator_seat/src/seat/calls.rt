@@ -1,6 +1,7 @@
 ghost use Rattle.heap_model.specs.calls.SeatCalls.{IsReady};
 ghost use Rattle.core_machine.specs.seat.Commands.{IsServed};
 ghost use Rattle.mutator_seat.specs.Calls.{MakesCall};
+ghost use Rattle.mutator_seat.specs.Replies.{IsReplyTo};
 ghost use Rattle.mutator_seat.specs.Resting.{seat_state};
 
 use crate::run::{last_reply, run};
@@ -21,5 +22,15 @@ impl<L: ShowsLast> Seat<L> {
             Some(reply) => reply,
             None => unreachable!(),
         }
+    }
+
+    /// Makes a whole call, and answers its reply, which is of a kind that the command can have.
+    pub(crate) fn reply_to(&mut self, command: &Command) -> Reply
+        requires ready { IsReady (seat_state self.old) command.now }
+        requires served { IsServed command.now }
+        ensures call { MakesCall self.old self.new command.now result }
+        ensures kind { IsReplyTo command.now result }
+    {
+        self.call(command)
     }
 }

@@ -21,12 +21,14 @@ impl<L: ShowsLast> SeatCalls for Seat<L> {
 
     ghost state = { seat_state };
 
+    ghost roomed = { MakesRoom };
+
     fn poll(&mut self) -> u64
         requires { IsReady (seat_state self.old) Poll }
         ensures added { Adds (seat_state self.old) (seat_state self.new) Poll (Phase result) }
         ensures call { MakesCall self.old self.new Poll (Phase result) }
     {
-        phase_of(self.call(&Command::Poll))
+        phase_of(self.reply_to(&Command::Poll))
     }
 
     fn new_record(&mut self, d: u8, fields: u16) -> Result<Id, Full>
@@ -37,7 +39,7 @@ impl<L: ShowsLast> SeatCalls for Seat<L> {
             (record_fragments fields) full.need full.found) }
         ensures call { MakesCall self.old self.new (New d fields) (record_reply result) }
     {
-        record_of(self.call(&Command::New { d, fields }))
+        record_of(self.reply_to(&Command::New { d, fields }))
     }
 
     fn new_array(&mut self, d: u8, cells: u16) -> Result<Id, SpaceRefusal>
@@ -47,7 +49,7 @@ impl<L: ShowsLast> SeatCalls for Seat<L> {
         ensures full { IfErr result (LacksSpace (seat_state self.old) (seat_state self.new) cells) }
         ensures call { MakesCall self.old self.new (Array d cells) (array_reply result) }
     {
-        array_of(self.call(&Command::Array { d, cells }))
+        array_of(self.reply_to(&Command::Array { d, cells }))
     }
 
     fn get(&mut self, d: u8, r: u8, i: u32) -> Result<(Value, u32), PlaceRefusal>
@@ -58,7 +60,7 @@ impl<L: ShowsLast> SeatCalls for Seat<L> {
             (result ≡ Err PlaceRefusal.NoField) ↔ (length object.cells ≤ i)) }
         ensures call { MakesCall self.old self.new (Get d r i) (get_reply result) }
     {
-        cell_of(self.call(&Command::Get { d, r, i }))
+        cell_of(self.reply_to(&Command::Get { d, r, i }))
     }
 
     fn set(&mut self, r: u8, i: u32, v: u8) -> Result<u32, PlaceRefusal>
@@ -69,7 +71,7 @@ impl<L: ShowsLast> SeatCalls for Seat<L> {
             (result ≡ Err PlaceRefusal.NoField) ↔ (length object.cells ≤ i)) }
         ensures call { MakesCall self.old self.new (Set r i v) (set_reply result) }
     {
-        stamp_of(self.call(&Command::Set { r, i, v }))
+        stamp_of(self.reply_to(&Command::Set { r, i, v }))
     }
 
     fn num(&mut self, d: u8, n: u32)
@@ -102,7 +104,7 @@ impl<L: ShowsLast> SeatCalls for Seat<L> {
         ensures same { IsTrue result ↔ (held_value (seat_state self.old) a ≡ held_value (seat_state self.old) b) }
         ensures call { MakesCall self.old self.new (Same a b) (same_reply result) }
     {
-        equal_of(self.call(&Command::Same { a, b }))
+        equal_of(self.reply_to(&Command::Same { a, b }))
     }
 
     fn len(&mut self, r: u8) -> Result<u16, NoObject>
@@ -113,7 +115,7 @@ impl<L: ShowsLast> SeatCalls for Seat<L> {
             result ≡ Ok (length object.cells)) }
         ensures call { MakesCall self.old self.new (Len r) (len_reply result) }
     {
-        length_of(self.call(&Command::Len { r }))
+        length_of(self.reply_to(&Command::Len { r }))
     }
 
     fn leave(&mut self)
@@ -125,13 +127,7 @@ impl<L: ShowsLast> SeatCalls for Seat<L> {
         self.call(&Command::Leave);
     }
 
-    fn room(&mut self, n: usize) -> Result<(), Memory>
-        ensures same { seat_state self.new ≡ record (seat_state self.old) { spare = (seat_state self.new).spare } }
-        ensures more { (seat_state self.old).spare ≤ (seat_state self.new).spare }
-        ensures room { OnOk result (n ≤ (seat_state self.new).spare) }
-        ensures memory { OnErr result (seat_state self.new ≡ seat_state self.old) }
-        ensures stays { MakesRoom self.old self.new }
-    {
+    fn room(&mut self, n: usize) -> Result<(), Memory> {
         self.holder.room(n)
     }
 

@@ -1,5 +1,5 @@
 -- The parts of a line that are read one after the other: each function answers what stands first, and the words after it.
-use Rattle.std.specs.Prelude.{ℕ, ◌+◌, ◌*◌, ◌==◌, List, [], ◌∷◌, Option, Some, None, option_map, bytes_eq, codes, if◌then◌else◌}
+use Rattle.std.specs.Prelude.{◌≡◌, ℕ, ◌+◌, ◌*◌, ◌==◌, List, [], ◌∷◌, Option, Some, None, Result, MatchResult, option_map, bytes_eq, codes, if◌then◌else◌}
 use Rattle.std.specs.List.{slice_split}
 use Rattle.heap_model.specs.Limits.{most_seats, name_limit, stamp_limit}
 use Rattle.heap_model.specs.declared.id.Id.{Id}
@@ -11,6 +11,10 @@ infixl 10 ◌>>=◌
 abbrev pub ◌>>=◌ : {A B : Type 0} → Option A → (A → Option B) → Option B
 None >>= f = None
 (Some x) >>= f = f x
+
+-- what a read gave is what stands first, with these words behind it; where it failed, nothing stands there
+abbrev pub ReadsAs : {A E : Type 0} → Result A E → Option (A × List (List ℕ)) → List (List ℕ) → Type 0
+ReadsAs result first rest = MatchResult result (λ x. first ≡ Some (x, rest)) (λ _. first ≡ None)
 
 -- what this reads the first word as, with the words after it
 abbrev pub first_by : {A : Type 0} → (List ℕ → Option A) → List (List ℕ) → Option (A × List (List ℕ))

@@ -1,5 +1,6 @@
-ghost use Rattle.std.specs.Prelude.{◌≡◌, ◌∷◌, ◌++◌, [], None, Some, codes, decimal, IfOk, MatchResult};
+ghost use Rattle.std.specs.Prelude.{◌≡◌, ◌∷◌, ◌++◌, codes, decimal, IfOk};
 ghost use Rattle.heap_model.specs.declared.reply.Reply.TheVariants as replies;
+ghost use Rattle.reply_text.specs.read.Tokens.{ReadsAs};
 ghost use Rattle.reply_text.specs.read.Parts.{value_at, lack_at, wait_at};
 ghost use Rattle.reply_text.specs.read.Answers.{making_at, arraying_at, nowhere_at, getting_at, setting_at, done_at, comparing_at, measuring_at, polling_at, collecting_at, answer_at};
 ghost use Rattle.reply_text.specs.write.Entries.{reply_words, value_words, waits_words};
@@ -15,9 +16,7 @@ use script_text::Parts;
 fn value(word: &[u8], words: &mut Parts<'_>) -> Result<Value, Misspelled>
     ensures found { IfOk result (λ value. word.now ∷ words.old ≡ value_words value ++ words.new) }
     ensures range { IfOk result IsValue }
-    ensures gives { MatchResult result
-        (λ value. value_at word.now words.old ≡ Some (value, words.new))
-        (λ _. value_at word.now words.old ≡ None) }
+    ensures gives { ReadsAs result (value_at word.now words.old) words.new }
 {
     if word == b"nil".as_slice() {
         return Ok(Value::Nil);
@@ -35,9 +34,7 @@ fn value(word: &[u8], words: &mut Parts<'_>) -> Result<Value, Misspelled>
 fn lack(words: &mut Parts<'_>, shown: &[u8]) -> Result<(u32, u32), Misspelled>
     ensures found { IfOk result
         (λ lack. words.old ≡ codes "need" ∷ decimal lack.0 ∷ shown.now ∷ decimal lack.1 ∷ words.new) }
-    ensures gives { MatchResult result
-        (λ lack. lack_at shown.now words.old ≡ Some (lack, words.new))
-        (λ _. lack_at shown.now words.old ≡ None) }
+    ensures gives { ReadsAs result (lack_at shown.now words.old) words.new }
 {
     literal(words, b"need")?;
     let need = count(words)?;
@@ -51,9 +48,7 @@ pub fn wait(words: &mut Parts<'_>) -> Result<(u8, u64, u64), Misspelled>
     ensures found { IfOk result
         (λ wait. codes "waits" ∷ words.old ≡ waits_words wait.0 wait.1 wait.2 ++ words.new) }
     ensures range { IfOk result (λ wait. IsWait wait.0 wait.1 wait.2) }
-    ensures gives { MatchResult result
-        (λ wait. wait_at words.old ≡ Some (wait, words.new))
-        (λ _. wait_at words.old ≡ None) }
+    ensures gives { ReadsAs result (wait_at words.old) words.new }
 {
     let seat = number(words, LAST_SEAT.into())? as u8;
     literal(words, b"answered")?;
@@ -67,9 +62,7 @@ pub fn wait(words: &mut Parts<'_>) -> Result<(u8, u64, u64), Misspelled>
 fn making(word: &[u8], words: &mut Parts<'_>) -> Result<Reply, Misspelled>
     ensures found { IfOk result (λ reply. word.now ∷ words.old ≡ reply_words reply ++ words.new) }
     ensures range { IfOk result IsMaking }
-    ensures gives { MatchResult result
-        (λ reply. making_at word.now words.old ≡ Some (reply, words.new))
-        (λ _. making_at word.now words.old ≡ None) }
+    ensures gives { ReadsAs result (making_at word.now words.old) words.new }
 {
     if word == b"full".as_slice() {
         let (need, found) = lack(words, b"found")?;
@@ -82,9 +75,7 @@ fn making(word: &[u8], words: &mut Parts<'_>) -> Result<Reply, Misspelled>
 fn arraying(word: &[u8], words: &mut Parts<'_>) -> Result<Reply, Misspelled>
     ensures found { IfOk result (λ reply. word.now ∷ words.old ≡ reply_words reply ++ words.new) }
     ensures range { IfOk result IsArraying }
-    ensures gives { MatchResult result
-        (λ reply. arraying_at word.now words.old ≡ Some (reply, words.new))
-        (λ _. arraying_at word.now words.old ≡ None) }
+    ensures gives { ReadsAs result (arraying_at word.now words.old) words.new }
 {
     if word == b"spine".as_slice() {
         let (need, used) = lack(words, b"used")?;
@@ -97,9 +88,7 @@ fn arraying(word: &[u8], words: &mut Parts<'_>) -> Result<Reply, Misspelled>
 fn nowhere(words: &mut Parts<'_>) -> Result<Reply, Misspelled>
     ensures found { IfOk result (λ reply. codes "no" ∷ words.old ≡ reply_words reply ++ words.new) }
     ensures range { IfOk result TellsNoPlace }
-    ensures gives { MatchResult result
-        (λ reply. nowhere_at words.old ≡ Some (reply, words.new))
-        (λ _. nowhere_at words.old ≡ None) }
+    ensures gives { ReadsAs result (nowhere_at words.old) words.new }
 {
     let word = next_word(words)?;
     if word == b"object".as_slice() {
@@ -115,9 +104,7 @@ fn nowhere(words: &mut Parts<'_>) -> Result<Reply, Misspelled>
 fn getting(word: &[u8], words: &mut Parts<'_>) -> Result<Reply, Misspelled>
     ensures found { IfOk result (λ reply. word.now ∷ words.old ≡ reply_words reply ++ words.new) }
     ensures range { IfOk result IsGetting }
-    ensures gives { MatchResult result
-        (λ reply. getting_at word.now words.old ≡ Some (reply, words.new))
-        (λ _. getting_at word.now words.old ≡ None) }
+    ensures gives { ReadsAs result (getting_at word.now words.old) words.new }
 {
     if word == b"no".as_slice() {
         return nowhere(words);
@@ -132,9 +119,7 @@ fn getting(word: &[u8], words: &mut Parts<'_>) -> Result<Reply, Misspelled>
 fn setting(word: &[u8], words: &mut Parts<'_>) -> Result<Reply, Misspelled>
     ensures found { IfOk result (λ reply. word.now ∷ words.old ≡ reply_words reply ++ words.new) }
     ensures range { IfOk result IsSetting }
-    ensures gives { MatchResult result
-        (λ reply. setting_at word.now words.old ≡ Some (reply, words.new))
-        (λ _. setting_at word.now words.old ≡ None) }
+    ensures gives { ReadsAs result (setting_at word.now words.old) words.new }
 {
     match word {
         b"no" => nowhere(words),
@@ -147,9 +132,7 @@ fn setting(word: &[u8], words: &mut Parts<'_>) -> Result<Reply, Misspelled>
 fn done(word: &[u8], words: &mut Parts<'_>) -> Result<Reply, Misspelled>
     ensures found { IfOk result (λ reply. word.now ∷ words.old ≡ reply_words reply ++ words.new) }
     ensures range { IfOk result (λ reply. reply ≡ replies.Done) }
-    ensures gives { MatchResult result
-        (λ reply. done_at word.now words.old ≡ Some (reply, words.new))
-        (λ _. done_at word.now words.old ≡ None) }
+    ensures gives { ReadsAs result (done_at word.now words.old) words.new }
 {
     match word {
         b"ok" => Ok(Reply::Done),
@@ -161,9 +144,7 @@ fn done(word: &[u8], words: &mut Parts<'_>) -> Result<Reply, Misspelled>
 fn comparing(word: &[u8], words: &mut Parts<'_>) -> Result<Reply, Misspelled>
     ensures found { IfOk result (λ reply. word.now ∷ words.old ≡ reply_words reply ++ words.new) }
     ensures range { IfOk result IsComparing }
-    ensures gives { MatchResult result
-        (λ reply. comparing_at word.now words.old ≡ Some (reply, words.new))
-        (λ _. comparing_at word.now words.old ≡ None) }
+    ensures gives { ReadsAs result (comparing_at word.now words.old) words.new }
 {
     match word {
         b"yes" => Ok(Reply::Yes),
@@ -176,9 +157,7 @@ fn comparing(word: &[u8], words: &mut Parts<'_>) -> Result<Reply, Misspelled>
 fn measuring(word: &[u8], words: &mut Parts<'_>) -> Result<Reply, Misspelled>
     ensures found { IfOk result (λ reply. word.now ∷ words.old ≡ reply_words reply ++ words.new) }
     ensures range { IfOk result IsMeasuring }
-    ensures gives { MatchResult result
-        (λ reply. measuring_at word.now words.old ≡ Some (reply, words.new))
-        (λ _. measuring_at word.now words.old ≡ None) }
+    ensures gives { ReadsAs result (measuring_at word.now words.old) words.new }
 {
     if word == b"no".as_slice() {
         literal(words, b"object")?;
@@ -191,9 +170,7 @@ fn measuring(word: &[u8], words: &mut Parts<'_>) -> Result<Reply, Misspelled>
 fn polling(word: &[u8], words: &mut Parts<'_>) -> Result<Reply, Misspelled>
     ensures found { IfOk result (λ reply. word.now ∷ words.old ≡ reply_words reply ++ words.new) }
     ensures range { IfOk result IsPolling }
-    ensures gives { MatchResult result
-        (λ reply. polling_at word.now words.old ≡ Some (reply, words.new))
-        (λ _. polling_at word.now words.old ≡ None) }
+    ensures gives { ReadsAs result (polling_at word.now words.old) words.new }
 {
     Ok(Reply::Phase(number_of_word(word, u64::MAX)?))
 }
@@ -202,9 +179,7 @@ fn polling(word: &[u8], words: &mut Parts<'_>) -> Result<Reply, Misspelled>
 fn collecting(word: &[u8], words: &mut Parts<'_>) -> Result<Reply, Misspelled>
     ensures found { IfOk result (λ reply. word.now ∷ words.old ≡ reply_words reply ++ words.new) }
     ensures range { IfOk result IsCollecting }
-    ensures gives { MatchResult result
-        (λ reply. collecting_at word.now words.old ≡ Some (reply, words.new))
-        (λ _. collecting_at word.now words.old ≡ None) }
+    ensures gives { ReadsAs result (collecting_at word.now words.old) words.new }
 {
     match word {
         b"cycle" => Ok(Reply::Cycle(number(words, u64::MAX)?)),
@@ -224,9 +199,7 @@ fn collecting(word: &[u8], words: &mut Parts<'_>) -> Result<Reply, Misspelled>
 pub fn read_reply(words: &mut Parts<'_>, command: &Command) -> Result<Reply, Misspelled>
     ensures found { IfOk result (λ reply. words.old ≡ reply_words reply ++ words.new) }
     ensures range { IfOk result (IsReply command.now) }
-    ensures gives { MatchResult result
-        (λ reply. answer_at command.now words.old ≡ Some (reply, words.new))
-        (λ _. answer_at command.now words.old ≡ None) }
+    ensures gives { ReadsAs result (answer_at command.now words.old) words.new }
 {
     let word = next_word(words)?;
     match *command {

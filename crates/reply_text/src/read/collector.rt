@@ -1,5 +1,6 @@
-ghost use Rattle.std.specs.Prelude.{◌≡◌, ℕ, [], ◌∷◌, ◌++◌, None, Some, codes, IfOk, MatchResult};
+ghost use Rattle.std.specs.Prelude.{◌≡◌, ℕ, ◌∷◌, ◌++◌, codes, IfOk};
 ghost use Rattle.script_text.specs.declared.script.Form.{Form};
+ghost use Rattle.reply_text.specs.read.Tokens.{ReadsAs};
 ghost use Rattle.reply_text.specs.write.Entries.{entry_words};
 ghost use Rattle.reply_text.specs.read.EntryWords.{collector_entry, ends_at};
 ghost use Rattle.reply_text.specs.Written.{IsWritten};
@@ -15,9 +16,7 @@ fn read_ends(words: &mut Parts<'_>) -> Result<Entry, Misspelled>
     ensures found { IfOk result
         (λ entry. codes "c" ∷ codes "ends" ∷ words.old ≡ entry_words entry ++ words.new) }
     ensures range { (form : Form) (seats : ℕ) → IfOk result (IsWritten form seats) }
-    ensures gives { MatchResult result
-        (λ entry. ends_at words.old ≡ Some (entry, words.new))
-        (λ _. ends_at words.old ≡ None) }
+    ensures gives { ReadsAs result (ends_at words.old) words.new }
 {
     let cycle = number(words, u64::MAX)?;
     literal(words, b"kept")?;
@@ -29,9 +28,7 @@ fn read_ends(words: &mut Parts<'_>) -> Result<Entry, Misspelled>
 pub fn read_collector(words: &mut Parts<'_>, form: Form) -> Result<Entry, Misspelled>
     ensures found { IfOk result (λ entry. codes "c" ∷ words.old ≡ entry_words entry ++ words.new) }
     ensures range { (seats : ℕ) → IfOk result (IsWritten form seats) }
-    ensures gives { MatchResult result
-        (λ entry. collector_entry form words.old ≡ Some (entry, words.new))
-        (λ _. collector_entry form words.old ≡ None) }
+    ensures gives { ReadsAs result (collector_entry form words.old) words.new }
 {
     let word = next_word(words)?;
     if word == b"phase".as_slice() {

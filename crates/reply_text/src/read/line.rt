@@ -1,6 +1,7 @@
-ghost use Rattle.std.specs.Prelude.{◌≡◌, ℕ, ◌≤◌, ◌<◌, [], ◌∷◌, ◌++◌, None, Some, codes, decimal, IfOk, MatchResult};
+ghost use Rattle.std.specs.Prelude.{◌≡◌, ℕ, ◌≤◌, ◌<◌, ◌∷◌, ◌++◌, None, Some, codes, decimal, IfOk, MatchResult};
 ghost use Rattle.script_text.specs.declared.script.Form.{Form};
 ghost use Rattle.script_text.specs.Numbers.{number_below};
+ghost use Rattle.reply_text.specs.read.Tokens.{ReadsAs};
 ghost use Rattle.reply_text.specs.write.Entries.{entry_words};
 ghost use Rattle.reply_text.specs.write.Lines.{history_words, history_line, IsHistoryLine};
 ghost use Rattle.reply_text.specs.read.EntryWords.{entry_at};
@@ -37,9 +38,7 @@ fn read_entry(
     requires { 1 ≤ seats }
     ensures found { IfOk result (λ entry. word.now ∷ words.old ≡ entry_words entry ++ words.new) }
     ensures range { IfOk result (IsWritten form seats) }
-    ensures gives { MatchResult result
-        (λ entry. entry_at form seats word.now words.old ≡ Some (entry, words.new))
-        (λ _. entry_at form seats word.now words.old ≡ None) }
+    ensures gives { ReadsAs result (entry_at form seats word.now words.old) words.new }
 {
     if word == b"c".as_slice() {
         return read_collector(words, form);
@@ -53,9 +52,7 @@ fn read_space(words: &mut Parts<'_>) -> Result<HistoryLine, Misspelled>
     ensures found { IfOk result
         (λ line. codes "space" ∷ words.old ≡ history_words line ++ words.new) }
     ensures range { (form : Form) (seats : ℕ) → IfOk result (IsHistoryLine form seats) }
-    ensures gives { MatchResult result
-        (λ line. space_at words.old ≡ Some (line, words.new))
-        (λ _. space_at words.old ≡ None) }
+    ensures gives { ReadsAs result (space_at words.old) words.new }
 {
     literal(words, b"used")?;
     let used = number(words, u64::MAX)?;
@@ -78,9 +75,7 @@ fn read_end(words: &mut Parts<'_>) -> Result<HistoryLine, Misspelled>
     ensures found { IfOk result
         (λ line. codes "end" ∷ words.old ≡ history_words line ++ words.new) }
     ensures range { (form : Form) (seats : ℕ) → IfOk result (IsHistoryLine form seats) }
-    ensures gives { MatchResult result
-        (λ line. end_at words.old ≡ Some (line, words.new))
-        (λ _. end_at words.old ≡ None) }
+    ensures gives { ReadsAs result (end_at words.old) words.new }
 {
     literal(words, b"used")?;
     Ok(HistoryLine::End(number(words, u64::MAX)?))
@@ -91,9 +86,7 @@ fn read_front(words: &mut Parts<'_>, form: Form, seats: u8) -> Result<HistoryLin
     requires { 1 ≤ seats }
     ensures found { IfOk result (λ line. words.old ≡ history_words line ++ words.new) }
     ensures range { IfOk result (IsHistoryLine form seats) }
-    ensures gives { MatchResult result
-        (λ line. line_at form seats words.old ≡ Some (line, words.new))
-        (λ _. line_at form seats words.old ≡ None) }
+    ensures gives { ReadsAs result (line_at form seats words.old) words.new }
 {
     let word = next_word(words)?;
     if word == b"space".as_slice() {

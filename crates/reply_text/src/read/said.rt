@@ -1,7 +1,8 @@
-ghost use Rattle.std.specs.Prelude.{◌≡◌, ℕ, [], ◌∷◌, ◌++◌, None, Some, codes, IfOk, MatchResult};
+ghost use Rattle.std.specs.Prelude.{◌≡◌, ℕ, ◌∷◌, ◌++◌, None, Some, codes, IfOk, MatchResult};
 ghost use Rattle.heap_model.specs.Command.{IsCommand};
 ghost use Rattle.heap_model.specs.declared.entry.Entry.TheVariants as entries;
 ghost use Rattle.script_text.specs.Words.{command_words};
+ghost use Rattle.reply_text.specs.read.Tokens.{ReadsAs};
 ghost use Rattle.reply_text.specs.read.Commands.{command_at};
 ghost use Rattle.reply_text.specs.write.Entries.{reply_words};
 ghost use Rattle.reply_text.specs.read.EntryWords.{said_at};
@@ -18,9 +19,7 @@ fn read_command(word: &[u8], words: &mut Parts<'_>) -> Result<Command, Misspelle
     ensures found { IfOk result
         (λ command. word.now ∷ words.old ≡ command_words command ++ words.new) }
     ensures range { IfOk result IsCommand }
-    ensures gives { MatchResult result
-        (λ command. command_at word.now words.old ≡ Some (command, words.new))
-        (λ _. command_at word.now words.old ≡ None) }
+    ensures gives { ReadsAs result (command_at word.now words.old) words.new }
 {
     if word == b"leave".as_slice() {
         return Ok(Command::Leave);

@@ -1,5 +1,6 @@
-ghost use Rattle.std.specs.Prelude.{◌≡◌, ◌<◌, ℕ, [], ◌∷◌, ◌++◌, None, Some, decimal, IfOk, MatchResult};
+ghost use Rattle.std.specs.Prelude.{◌≡◌, ◌<◌, ℕ, ◌∷◌, ◌++◌, decimal, IfOk};
 ghost use Rattle.script_text.specs.declared.script.Form.{Form};
+ghost use Rattle.reply_text.specs.read.Tokens.{ReadsAs};
 ghost use Rattle.reply_text.specs.write.Entries.{entry_words};
 ghost use Rattle.reply_text.specs.read.EntryWords.{seat_entry};
 ghost use Rattle.reply_text.specs.Written.{IsWritten};
@@ -15,9 +16,7 @@ pub fn read_seat_entry(seat: u8, words: &mut Parts<'_>) -> Result<Entry, Misspel
     ensures found { IfOk result
         (λ entry. decimal seat ∷ words.old ≡ entry_words entry ++ words.new) }
     ensures range { (form : Form) (seats : ℕ) → seat < seats → IfOk result (IsWritten form seats) }
-    ensures gives { MatchResult result
-        (λ entry. seat_entry seat words.old ≡ Some (entry, words.new))
-        (λ _. seat_entry seat words.old ≡ None) }
+    ensures gives { ReadsAs result (seat_entry seat words.old) words.new }
 {
     let word = next_word(words)?;
     if word == b"takes".as_slice() {

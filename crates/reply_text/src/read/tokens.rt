@@ -1,8 +1,8 @@
-ghost use Rattle.std.specs.Prelude.{◌≡◌, ◌+◌, ◌≤◌, ◌<◌, ◌^◌, [], ◌∷◌, ◌++◌, None, Some, decimal, IfOk, OnOk, IfSome, MatchResult, MatchOption};
+ghost use Rattle.std.specs.Prelude.{◌≡◌, ◌+◌, ◌≤◌, ◌<◌, ◌^◌, [], ◌∷◌, ◌++◌, None, Some, decimal, IfOk, OnOk, MatchResult};
 ghost use Rattle.heap_model.specs.Limits.{last_seat, stamp_limit};
 ghost use Rattle.script_text.specs.Numbers.{number_below};
 ghost use Rattle.reply_text.specs.write.Entries.{id_word, stamp_word};
-ghost use Rattle.reply_text.specs.read.Tokens.{after_word, first_by, word_id, number_at, word_parts, set_of, word_stamp};
+ghost use Rattle.reply_text.specs.read.Tokens.{ReadsAs, after_word, first_by, word_id, number_at, word_parts, set_of, word_stamp};
 ghost use Rattle.reply_text.specs.Values.{IsId, IsStamp};
 
 use crate::read::misspelled::Misspelled;
@@ -57,9 +57,7 @@ pub fn number_of_word(word: &[u8], most: u64) -> Result<u64, Misspelled>
 pub fn number(words: &mut Parts<'_>, most: u64) -> Result<u64, Misspelled>
     ensures range { IfOk result (λ n. n ≤ most) }
     ensures found { IfOk result (λ n. words.old ≡ decimal n ∷ words.new) }
-    ensures gives { MatchResult result
-        (λ n. number_at (most + 1) words.old ≡ Some (n, words.new))
-        (λ _. number_at (most + 1) words.old ≡ None) }
+    ensures gives { ReadsAs result (number_at (most + 1) words.old) words.new }
 {
     let word = next_word(words)?;
     number_of_word(word, most)
@@ -68,9 +66,7 @@ pub fn number(words: &mut Parts<'_>, most: u64) -> Result<u64, Misspelled>
 /// A count of 32 bits.
 pub fn count(words: &mut Parts<'_>) -> Result<u32, Misspelled>
     ensures found { IfOk result (λ n. words.old ≡ decimal n ∷ words.new) }
-    ensures gives { MatchResult result
-        (λ n. number_at (2 ^ 32) words.old ≡ Some (n, words.new))
-        (λ _. number_at (2 ^ 32) words.old ≡ None) }
+    ensures gives { ReadsAs result (number_at (2 ^ 32) words.old) words.new }
 {
     Ok(number(words, u32::MAX.into())? as u32)
 }
@@ -113,9 +109,7 @@ pub fn read_id(word: &[u8]) -> Result<Id, Misspelled>
 pub fn id(words: &mut Parts<'_>) -> Result<Id, Misspelled>
     ensures found { IfOk result (λ id. words.old ≡ id_word id ∷ words.new) }
     ensures range { IfOk result IsId }
-    ensures gives { MatchResult result
-        (λ id. first_by word_id words.old ≡ Some (id, words.new))
-        (λ _. first_by word_id words.old ≡ None) }
+    ensures gives { ReadsAs result (first_by word_id words.old) words.new }
 {
     let word = next_word(words)?;
     read_id(word)
@@ -157,9 +151,7 @@ fn read_stamp(word: &[u8]) -> Result<u32, Misspelled>
 pub fn stamp(words: &mut Parts<'_>) -> Result<u32, Misspelled>
     ensures found { IfOk result (λ stamp. words.old ≡ stamp_word stamp ∷ words.new) }
     ensures range { IfOk result IsStamp }
-    ensures gives { MatchResult result
-        (λ stamp. first_by word_stamp words.old ≡ Some (stamp, words.new))
-        (λ _. first_by word_stamp words.old ≡ None) }
+    ensures gives { ReadsAs result (first_by word_stamp words.old) words.new }
 {
     let word = next_word(words)?;
     read_stamp(word)

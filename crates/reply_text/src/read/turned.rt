@@ -1,6 +1,7 @@
-ghost use Rattle.std.specs.Prelude.{◌≡◌, ℕ, [], ◌∷◌, ◌++◌, None, Some, codes, IfOk, MatchResult};
+ghost use Rattle.std.specs.Prelude.{◌≡◌, ℕ, ◌∷◌, ◌++◌, codes, IfOk};
 ghost use Rattle.heap_model.specs.declared.command.TurnCommand.TheVariants as commands;
 ghost use Rattle.script_text.specs.declared.script.Form.TheVariants.{Play};
+ghost use Rattle.reply_text.specs.read.Tokens.{ReadsAs};
 ghost use Rattle.reply_text.specs.read.TurnAnswers.{waiting_at, turning_at, cycling_at};
 ghost use Rattle.reply_text.specs.write.Entries.{entry_words, turn_reply_words};
 ghost use Rattle.reply_text.specs.read.EntryWords.{cycle_at, turned_at, turns_at};
@@ -20,9 +21,7 @@ fn waiting(words: &mut Parts<'_>) -> Result<TurnReply, Misspelled>
         (λ reply. codes "waits" ∷ words.old ≡ turn_reply_words reply ++ words.new) }
     ensures turns { (n : ℕ) → IfOk result (IsTurnReply (commands.Turns n)) }
     ensures cycle { IfOk result (IsTurnReply commands.Cycle) }
-    ensures gives { MatchResult result
-        (λ reply. waiting_at words.old ≡ Some (reply, words.new))
-        (λ _. waiting_at words.old ≡ None) }
+    ensures gives { ReadsAs result (waiting_at words.old) words.new }
 {
     let (seat, answered, phase) = wait(words)?;
     Ok(TurnReply::Waits {
@@ -36,9 +35,7 @@ fn waiting(words: &mut Parts<'_>) -> Result<TurnReply, Misspelled>
 fn turning(words: &mut Parts<'_>) -> Result<TurnReply, Misspelled>
     ensures found { IfOk result (λ reply. words.old ≡ turn_reply_words reply ++ words.new) }
     ensures range { (n : ℕ) → IfOk result (IsTurnReply (commands.Turns n)) }
-    ensures gives { MatchResult result
-        (λ reply. turning_at words.old ≡ Some (reply, words.new))
-        (λ _. turning_at words.old ≡ None) }
+    ensures gives { ReadsAs result (turning_at words.old) words.new }
 {
     match next_word(words)? {
         b"done" => Ok(TurnReply::Done),
@@ -51,9 +48,7 @@ fn turning(words: &mut Parts<'_>) -> Result<TurnReply, Misspelled>
 fn cycling(words: &mut Parts<'_>) -> Result<TurnReply, Misspelled>
     ensures found { IfOk result (λ reply. words.old ≡ turn_reply_words reply ++ words.new) }
     ensures range { IfOk result (IsTurnReply commands.Cycle) }
-    ensures gives { MatchResult result
-        (λ reply. cycling_at words.old ≡ Some (reply, words.new))
-        (λ _. cycling_at words.old ≡ None) }
+    ensures gives { ReadsAs result (cycling_at words.old) words.new }
 {
     match next_word(words)? {
         b"cycle" => Ok(TurnReply::Cycle(number(words, u64::MAX)?)),
@@ -67,9 +62,7 @@ fn read_turns(words: &mut Parts<'_>) -> Result<Entry, Misspelled>
     ensures found { IfOk result
         (λ entry. codes "c" ∷ codes "turns" ∷ words.old ≡ entry_words entry ++ words.new) }
     ensures range { (seats : ℕ) → IfOk result (IsWritten Play seats) }
-    ensures gives { MatchResult result
-        (λ entry. turns_at words.old ≡ Some (entry, words.new))
-        (λ _. turns_at words.old ≡ None) }
+    ensures gives { ReadsAs result (turns_at words.old) words.new }
 {
     let n = number(words, MOST_TURNS.into())? as u32;
     literal(words, b"=")?;
@@ -83,9 +76,7 @@ fn read_cycle(words: &mut Parts<'_>) -> Result<Entry, Misspelled>
     ensures found { IfOk result
         (λ entry. codes "c" ∷ codes "cycle" ∷ words.old ≡ entry_words entry ++ words.new) }
     ensures range { (seats : ℕ) → IfOk result (IsWritten Play seats) }
-    ensures gives { MatchResult result
-        (λ entry. cycle_at words.old ≡ Some (entry, words.new))
-        (λ _. cycle_at words.old ≡ None) }
+    ensures gives { ReadsAs result (cycle_at words.old) words.new }
 {
     literal(words, b"=")?;
     let reply = cycling(words)?;
@@ -98,9 +89,7 @@ pub fn read_turned(word: &[u8], words: &mut Parts<'_>, form: Form) -> Result<Ent
     ensures found { IfOk result
         (λ entry. codes "c" ∷ word.now ∷ words.old ≡ entry_words entry ++ words.new) }
     ensures range { (seats : ℕ) → IfOk result (IsWritten form seats) }
-    ensures gives { MatchResult result
-        (λ entry. turned_at form word.now words.old ≡ Some (entry, words.new))
-        (λ _. turned_at form word.now words.old ≡ None) }
+    ensures gives { ReadsAs result (turned_at form word.now words.old) words.new }
 {
     let Form::Play = form else {
         return Err(Misspelled);

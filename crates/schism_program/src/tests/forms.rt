@@ -3,7 +3,6 @@
 use super::comparing::tells;
 use super::{FIRST, ended, told, written};
 use crate::status::Status;
-use heap_model::OpenGate;
 use std::alloc::{AllocError, Global};
 use std::process::Abort;
 use std::sync::Wait;
@@ -31,7 +30,7 @@ fn writes(
     text: &[u8],
     wanted: &[u8],
 ) -> Result<(), AllocError> {
-    let told = told(rt, alloc, line, text, &OpenGate)?;
+    let told = told(rt, alloc, line, text)?;
     tells(rt, &told, Status::Done, wanted, &line);
     Ok(())
 }
@@ -69,7 +68,7 @@ fn makes_a_script_and_plays_it(rt: HostRuntime) -> Result<(), Fail> {
 #[test]
 fn plays_a_made_script_at_a_steady_pace(rt: HostRuntime) -> Result<(), Fail> {
     let alloc = rt.alloc();
-    let script = written(&rt, alloc, "make 7 4 2000", b"", &OpenGate)?;
+    let script = written(&rt, alloc, "make 7 4 2000", b"")?;
     let wanted =
         "brief 1\nheap 64 256 4\ncommands 2000 refused 232\nmade 409 cycles 14 freed 1737 swung 195\nspace used 252 of 1024 spine 108 of 256\nend used 0\n";
     for line in ["play --pace steady --brief", "play --brief --pace steady"] {

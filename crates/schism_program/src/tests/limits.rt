@@ -4,7 +4,6 @@ use super::comparing::{holds, tells};
 use super::several_seats::plays;
 use super::{ended, refused, status_of, told};
 use crate::status::Status;
-use heap_model::OpenGate;
 use io_edge::{MemSink, MemSource};
 use script_text::Cause;
 use std::test::Fail;
@@ -33,7 +32,7 @@ fn reads_no_more_of_a_history_than_the_limit(rt: HostRuntime) -> Result<(), Fail
         let text = vec![in alloc; b' '; count]?;
         let mut source = MemSource::new(text, 4096, Vec::new(alloc));
         let mut sink = MemSink::new(Vec::new(alloc), 8, Vec::new(alloc));
-        let end = status_of(&rt, alloc, &["check"], &mut source, &mut sink, &OpenGate)?;
+        let end = status_of(&rt, alloc, &["check"], &mut source, &mut sink)?;
         holds(&rt, end == status, &count);
     }
     Ok(())
@@ -47,7 +46,7 @@ fn reads_no_more_lines_of_a_script_than_the_limit(rt: HostRuntime) -> Result<(),
         text.extend_from_slice(b"0 poll\n")?;
     }
     for line in ["play", "run"] {
-        let told = told(&rt, rt.alloc(), line, &text, &OpenGate)?;
+        let told = told(&rt, rt.alloc(), line, &text)?;
         tells(&rt, &told, refused(65_537, Cause::TooManyLines), b"", &line);
     }
     Ok(())

@@ -8,7 +8,7 @@ mod past_pace;
 
 use super::comparing::{holds, tells};
 use super::several_seats::text_of;
-use super::{refused, told, written, written_at};
+use super::{refused, steady, told, told_at, when_done, written};
 use gates::{OneAfterTheOther, TwoAtOnce};
 use heap_model::{Gate, OpenGate};
 use judging::{begins_line, has_line, judge};
@@ -33,8 +33,9 @@ fn ran<G: Gate>(
     gate: &G,
 ) -> Result<Vec<u8>, Fail> {
     let script = text_of(alloc, script)?;
-    let history = written(rt, alloc, line, script.as_bytes(), gate)?;
-    written(rt, alloc, "check", &history, &OpenGate)?;
+    let told = told_at(rt, alloc, line, script.as_bytes(), gate, steady(alloc)?)?;
+    let history = when_done(rt, told, line);
+    written(rt, alloc, "check", &history)?;
     judge_locked(alloc, line, &history)?;
     holds(rt, has_line(&history, b"end used 0"), &script);
     Ok(history)
@@ -92,7 +93,8 @@ fn asks_the_pace_for_what_was_claimed(rt: HostRuntime) -> Result<(), Fail> {
         let text = text_of(alloc, script)?;
         for line in ["run --patience 1000000", "run --locked --patience 1000000"] {
             let (gate, paces) = Paced::new(alloc, claims, 1000)?;
-            let history = written_at(&rt, alloc, line, text.as_bytes(), &gate, paces)?;
+            let told = told_at(&rt, alloc, line, text.as_bytes(), &gate, paces)?;
+            let history = when_done(&rt, told, line);
             judge_locked(alloc, line, &history)?;
             holds(&rt, gate.was_right(others), &script);
             holds(&rt, begins_line(&history, reply.as_bytes()), &script);
@@ -136,7 +138,7 @@ fn waits_for_a_seat_that_never_polls(rt: HostRuntime) -> Result<(), Fail> {
 fn refuses_lines_of_the_collector(rt: HostRuntime) -> Result<(), Fail> {
     let script = b"schism 1\nheap 1 0 1\nc turns 2\nc turns 5\n";
     for line in RUNS {
-        let told = told(&rt, rt.alloc(), line, script, &OpenGate)?;
+        let told = told(&rt, rt.alloc(), line, script)?;
         tells(&rt, &told, refused(3, Cause::NoSeat), b"", &line);
     }
     Ok(())
@@ -146,11 +148,11 @@ fn refuses_lines_of_the_collector(rt: HostRuntime) -> Result<(), Fail> {
 fn runs_made_scripts(rt: HostRuntime) -> Result<(), Fail> {
     let alloc = rt.alloc();
     for made in ["make 7 2 200", "make 7 4 200", "make 7 16 320"] {
-        let script = written(&rt, alloc, made, b"", &OpenGate)?;
+        let script = written(&rt, alloc, made, b"")?;
         for line in RUNS {
             for _ in 0..10 {
-                let history = written(&rt, alloc, line, &script, &OpenGate)?;
-                written(&rt, alloc, "check", &history, &OpenGate)?;
+                let history = written(&rt, alloc, line, &script)?;
+                written(&rt, alloc, "check", &history)?;
                 judge_locked(alloc, line, &history)?;
             }
         }
@@ -166,7 +168,8 @@ fn goes_past_the_pace(rt: HostRuntime) -> Result<(), Fail> {
         "schism 1; heap 1 0 2; 0 num 1 5; 0 set 0 3 1; 0 get 2 0 3; 1 num 1 6; 1 set 0 3 1; 1 get 2 0 3";
     let text = text_of(alloc, script)?;
     let (gate, paces) = PastThePace::new(alloc)?;
-    written_at(&rt, alloc, "run", text.as_bytes(), &gate, paces)?;
+    let told = told_at(&rt, alloc, "run", text.as_bytes(), &gate, paces)?;
+    when_done(&rt, told, "run");
     holds(&rt, gate.met(), &"run");
     Ok(())
 }

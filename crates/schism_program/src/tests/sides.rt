@@ -6,7 +6,6 @@ use super::scripts::CHAIN;
 use super::several_seats::text_of;
 use super::{FIRST, FIRST_PLAYED, refused, status_of};
 use crate::status::Status;
-use heap_model::OpenGate;
 use io_edge::{MemSink, MemSource, NeverSink, NeverSource};
 use script_text::Cause;
 use std::alloc::{AllocError, Global};
@@ -28,7 +27,7 @@ fn ended_by_bytes(
     let mut source = MemSource::new(text, 1, vec![in alloc; read as u64; 1]?);
     let room = Vec::with_capacity(alloc, 512)?;
     let mut sink = MemSink::new(room, 1, vec![in alloc; write as u64; 1]?);
-    let status = status_of(rt, alloc, &[word], &mut source, &mut sink, &OpenGate)?;
+    let status = status_of(rt, alloc, &[word], &mut source, &mut sink)?;
     Ok((status, Vec::from_slice(alloc, sink.bytes())?))
 }
 
@@ -80,7 +79,7 @@ fn ends_as_it_should_where_no_side_fails(rt: HostRuntime) -> Result<(), Fail> {
     ] {
         let mut source = NeverSource::new(Vec::from_slice(alloc, text.as_bytes())?);
         let mut sink = NeverSink::new(Vec::with_capacity(alloc, room)?);
-        let end = status_of(&rt, alloc, &[word], &mut source, &mut sink, &OpenGate)?;
+        let end = status_of(&rt, alloc, &[word], &mut source, &mut sink)?;
         let at = format!(in alloc; "{word} with room for {room}")?;
         holds(&rt, end == status, &at);
         holds(&rt, sink.bytes() == told.map(|text| text.as_bytes()), &at);

@@ -33,19 +33,10 @@ fn leaves(
     closed: &mut Option<Closed>,
 ) -> Result<bool, Fail> {
     let words: Vec<&str> = line.split(' ').collect(alloc)?;
-    let mut source = NeverSource::new(Vec::from_slice(alloc, text.as_bytes())?);
-    let mut sink = NeverSink::new(Vec::with_capacity(alloc, 4096)?);
+    let source = &mut NeverSource::new(Vec::from_slice(alloc, text.as_bytes())?);
+    let sink = &mut NeverSink::new(Vec::with_capacity(alloc, 4096)?);
     let paces = steady(alloc)?;
-    ended_with(
-        rt,
-        alloc,
-        &words,
-        &mut source,
-        &mut sink,
-        &OpenGate,
-        paces,
-        closed,
-    );
+    ended_with(rt, alloc, &words, source, sink, &OpenGate, paces, closed);
     Ok(closed.is_some())
 }
 

@@ -1,24 +1,10 @@
 -- The begin of a call that makes no object keeps the rule.
 use Rattle.std.proofs.Common.{ℕ, ◌<◌, [], length, drop, refl, sym, ◌∙◌, append-nil}
-use Rattle.heap_model.specs.declared.command.Command.{Command}
-use Rattle.heap_model.specs.declared.heap.Heap.{Heap}
-use Rattle.heap_model.specs.account.Cycles.{graph_of}
-use Rattle.heap_model.specs.graph.Objects.{register_value}
-use Rattle.heap_model.specs.account.PhaseCounts.{phase, last_answer, has_left}
-use Rattle.heap_model.specs.graph.Graph.{Graph}
+use Rattle.core_rule.proofs.Terms.{Command, Heap, graph_of, register_value, phase, last_answer, has_left, Graph, IsRecordCall, target_of, IsAtRest, State, seat_at, call_start}
+use Rattle.core_rule.proofs.Terms.{MayBegin, Begins, state_after, register_in, Seat, IsMachine, Book, node_at, HoldsValue, Rule}
 use Rattle.core_machine.specs.declared.place.Place.TheVariants as places
-use Rattle.core_machine.specs.seat.Commands.{IsRecordCall, target_of}
-use Rattle.core_machine.specs.seat.Fits.{IsAtRest}
-use Rattle.core_machine.specs.machine.Machine.{State, seat_at, call_start, MayBegin, Begins, state_after}
-use Rattle.core_machine.specs.seat.Registers.{register_in}
-use Rattle.core_machine.specs.seat.Seat.{Seat}
-use Rattle.core_machine.specs.machine.Value.{IsMachine}
-use Rattle.core_rule.specs.Book.{Book}
-use Rattle.core_rule.specs.Objects.{node_at}
-use Rattle.core_rule.specs.Registers.{HoldsValue}
-use Rattle.core_rule.specs.Rule.{Rule}
 use Rattle.core_rule.proofs.spines.NoPlaces.{away_range}
-use Rattle.core_rule.proofs.marking.CallRoots.{IsReachedNow, begin_roots}
+use Rattle.core_rule.proofs.roots.CallRoots.{IsReachedNow, begin_roots}
 use Rattle.core_rule.proofs.steps.Assemble.{Keeps, seat_begins}
 use Rattle.core_rule.proofs.entries.AtRest.{seat_fits, none_awaited}
 use Rattle.core_rule.proofs.entries.Begins.{begins, began_now}
@@ -26,7 +12,7 @@ use Rattle.core_rule.proofs.hand.EmptyHand.{nothing_together, none_stored, gathe
 use Rattle.core_rule.proofs.cycle.FreshCycle.{cycle_fresh}
 use Rattle.core_rule.proofs.entries.OwnEntries.{counts_same}
 use Rattle.core_rule.proofs.entries.SeatLists.{all_told}
-use Rattle.core_rule.proofs.spines.NoneMade.{MakesNone, none_has_place, none_granted, none_placed, none_refused}
+use Rattle.core_rule.proofs.budgets.NoneMade.{MakesNone, none_has_place, none_granted, none_placed, none_refused}
 use Rattle.core_rule.proofs.spines.SpineFrames.{spine_away}
 use Rattle.core_rule.proofs.entries.Starting.{bare_spineless, Starts, starts_other}
 

@@ -3,51 +3,27 @@ use Rattle.std.proofs.Common.{◌≡◌, ℕ, ◌<◌, false, List, [], ◌∷�
 use Rattle.std.proofs.lemmas.Bool.{eq-eqb}
 use Rattle.std.proofs.lemmas.Option.{slice_get-get_or}
 use Rattle.heap_model.specs.declared.graph.cell.Cell.{Cell}
-use Rattle.heap_model.specs.declared.entry.Entry.{Entry}
-use Rattle.heap_model.specs.declared.entry.Entry.TheVariants.{Said}
-use Rattle.heap_model.specs.declared.heap.Heap.{Heap}
-use Rattle.heap_model.specs.declared.id.Id.{Id}
-use Rattle.heap_model.specs.declared.id.Value.{Value}
+use Rattle.core_rule.proofs.Terms.{Entry, Said, Heap, Id, Value, Reply, with_register, graph_of, Accepts, register_value, graph_seat, Graph, unset, Word, Getting, Register}
+use Rattle.core_rule.proofs.Terms.{target_of, field_of, at, head_of, is_meta, stamp_of, id_of, plain_of, State, seat_at, after_get, value_of, register_head, Seat, no_spot}
+use Rattle.core_rule.proofs.Terms.{with_entries, IsMachine, Book, id_at, object_number, object_head, IsAnswered, NamesKept, node_at, cells_at, value_word, HoldsValue, IsAwaited}
+use Rattle.core_rule.proofs.Terms.{Rule, Finds}
 use Rattle.heap_model.specs.declared.id.Value.TheVariants as values
-use Rattle.heap_model.specs.declared.reply.Reply.{Reply}
 use Rattle.heap_model.specs.declared.reply.Reply.TheVariants.{Got}
-use Rattle.heap_model.specs.graph.Changes.{with_register}
 use Rattle.heap_model.specs.Command.{IsCommand}
-use Rattle.heap_model.specs.account.Cycles.{graph_of}
-use Rattle.heap_model.specs.graph.Legal.{Accepts}
-use Rattle.heap_model.specs.graph.Objects.{register_value, graph_seat}
-use Rattle.heap_model.specs.graph.Graph.{Graph, unset}
 use Rattle.core_machine.specs.seat.Looks.{forgotten}
-use Rattle.core_machine.specs.declared.table.address.Address.TheVariants.{Word}
 use Rattle.core_machine.specs.declared.place.Place.TheVariants as places
-use Rattle.core_machine.specs.declared.place.Access.TheVariants.{Getting, Naming}
-use Rattle.core_machine.specs.declared.seat.register.Register.{Register}
+use Rattle.core_machine.specs.declared.place.Access.TheVariants.{Naming}
 use Rattle.core_machine.specs.declared.seat.register.Register.TheVariants as registers
-use Rattle.core_machine.specs.seat.Commands.{target_of, field_of}
 use Rattle.core_machine.specs.seat.FitsAccess.{SeatIsAtGet, IsGet}
-use Rattle.core_machine.specs.table.Layout.{at}
-use Rattle.heap_words.specs.Loaded.{head_of, is_meta, stamp_of}
-use Rattle.core_machine.specs.table.Decode.{id_of, plain_of}
-use Rattle.core_machine.specs.machine.Machine.{State, seat_at}
-use Rattle.core_machine.specs.seat.Access.{after_get}
 use Rattle.core_machine.specs.seat.AccessMoves.{get_move, got_adds, got_shows, reply_entries}
-use Rattle.core_machine.specs.seat.Registers.{value_of, register_head}
-use Rattle.core_machine.specs.seat.Seat.{Seat, no_spot, with_entries}
-use Rattle.core_machine.specs.machine.Value.{IsMachine}
 use Rattle.core_rule.proofs.entries.AtRest.{seat_fits, spent_own, few_own}
-use Rattle.core_rule.specs.Book.{Book, id_at, object_number, object_head}
-use Rattle.core_rule.specs.Gathers.{IsAnswered}
-use Rattle.core_rule.specs.Roots.{IsInMarking}
-use Rattle.core_rule.specs.Objects.{NamesKept, node_at, cells_at, value_word}
-use Rattle.core_rule.specs.Registers.{HoldsValue, IsAwaited}
-use Rattle.core_rule.specs.Rule.{Rule}
-use Rattle.core_rule.specs.Ways.{Finds}
+use Rattle.core_rule.specs.roots.Roots.{IsInMarking}
 use Rattle.core_rule.proofs.steps.Assemble.{Keeps, StepKeeps}
 use Rattle.core_rule.proofs.ways.AtObject.{is_present, way_object, at_rest}
 use Rattle.core_rule.proofs.graph.GraphRegisters.{registers_length}
 use Rattle.core_rule.proofs.lists.Options.{some_holds, none_holds}
-use Rattle.core_rule.proofs.marking.CallRoots.{IsReachedNow, at_call, roots_on_way, roots_over, field_comes}
-use Rattle.core_rule.proofs.marking.RegisterRoots.{heads_put}
+use Rattle.core_rule.proofs.roots.CallRoots.{IsReachedNow, at_call, roots_on_way, roots_over, field_comes}
+use Rattle.core_rule.proofs.roots.RegisterRoots.{heads_put}
 use Rattle.core_rule.proofs.ways.KeptWords.{has_room, name_found, cell_reached}
 use Rattle.core_rule.proofs.steps.Loads.{went_cycle, went, loaded_state, load_tells, over_went}
 use Rattle.core_rule.proofs.graph.Numbering.{id_at-number_of}
@@ -58,6 +34,7 @@ use Rattle.core_rule.proofs.graph.PutRegister.{put_only, put_target, put_rest, r
 use Rattle.core_rule.proofs.entries.SeatLists.{list_more}
 use Rattle.core_rule.proofs.ways.LoadedObjects.{field_plain}
 use Rattle.core_rule.proofs.ways.Told.{HasRoom, named_head, register_plain, stamp_in-value, head_in-value, plain_in-value}
+use Rattle.core_rule.proofs.steps.StepKinds.{StepKind, only_loads, shows_get, get_follows, get_goes, from_usual, get_usual, plain_words}
 
 module _ (heap : Heap) (state : State) (book : Book) (number : ℕ) (rule : Rule heap state book) (here : number < heap.seats)
     (place : (seat_at state number).place ≡ places.Access Getting)
@@ -185,3 +162,19 @@ get_keeps heap state book number rule here place machine =
           (subst (λ v. Accepts g (Said number seat.command (Got v (stamp_of found)))) e accepted) machine)
     ] in
     subst goal (sym loads) (by_value cell.value refl) machine
+
+-- all that is asked of it
+pub get_kind : StepKind (places.Access Getting)
+get_kind = record {
+  keeps = λ heap state book number rule here looks. get_keeps heap state book number rule here;
+  shows = λ heap state number.
+      shows_get number (seat_at state number) (places.Access Getting) heap state.words (at heap state.words (Word (seat_at state number).reached (seat_at state number).part)) (head_of (at heap state.words (Word (seat_at state number).reached (seat_at state number).part)));
+  looks = record {
+    follows = λ heap state number seat compares placed. get_follows heap state number seat _ tt (at heap state.words (Word seat.reached seat.part)) (head_of (at heap state.words (Word seat.reached seat.part)));
+    goes = λ heap state book rule number placed. get_goes heap state book rule number (at heap state.words (Word (seat_at state number).reached (seat_at state number).part)) (head_of (at heap state.words (Word (seat_at state number).reached (seat_at state number).part))) _;
+    comes = λ heap number seat found placed. from_usual _ (after_get seat found (head_of found)).place (get_usual seat found (head_of found));
+  };
+  words = plain_words (places.Access Getting) get_move (λ heap number seat. refl) (λ heap number seat is. is) (λ heap number seat low. low)
+      (λ heap state book rule number here. only_loads (λ word. refl));
+  found = λ heap state book number stands here placed. tt;
+}

@@ -1,31 +1,22 @@
 -- Loading the spine word that names a cell's fragment keeps the rule.
-use Rattle.std.proofs.Common.{ℕ, ◌/◌, [], ◌++◌, refl, sym, subst}
-use Rattle.heap_model.specs.account.Cycles.{graph_of}
-use Rattle.heap_model.specs.graph.Graph.{Graph}
+use Rattle.std.proofs.Common.{ℕ, ◌/◌, [], ◌++◌, refl, sym, subst, ◌+◌}
+use Rattle.core_rule.proofs.Terms.{graph_of, Graph, Indexing, has_barrier_of, field_place_of, after_index, at_payload, field_of, Seat, seat_at, payload_in, at, spine_place}
+use Rattle.core_rule.proofs.Terms.{ReadsSpine, Awaits, node_at, Finds, Locates, AccessStands}
 use Rattle.core_machine.specs.declared.place.Access.{Access}
-use Rattle.core_machine.specs.declared.place.Access.TheVariants.{Indexing}
 use Rattle.core_machine.specs.declared.place.Place.TheVariants as places
-use Rattle.core_machine.specs.seat.Access.{has_barrier_of, field_place_of}
 use Rattle.core_machine.specs.seat.AccessMoves.{index_move}
-use Rattle.core_machine.specs.seat.Commands.{field_of}
 use Rattle.core_machine.specs.seat.FitsAccess.{SeatIsAtSentinel}
-use Rattle.core_machine.specs.seat.Seat.{Seat}
-use Rattle.core_machine.specs.machine.Machine.{seat_at}
-use Rattle.heap_words.specs.Loaded.{payload_in}
-use Rattle.core_machine.specs.table.Layout.{at, spine_place}
 use Rattle.core_machine.proofs.seat_lemmas.FieldPlaces.{field_cases}
-use Rattle.core_rule.specs.Replicas.{ReadsSpine}
-use Rattle.core_rule.specs.Counts.{Awaits}
-use Rattle.core_rule.specs.Objects.{node_at}
-use Rattle.core_rule.specs.Roots.{AtCall}
-use Rattle.core_rule.specs.Ways.{Finds, Locates, AccessStands}
+use Rattle.core_rule.specs.roots.Roots.{AtCall}
 use Rattle.core_rule.proofs.frames.SeatFrames.{AddressAt}
 use Rattle.core_rule.proofs.cycle.Unwatched.{IsUnwatched}
 use Rattle.core_rule.proofs.entries.AtRest.{seat_fits}
-use Rattle.core_rule.proofs.marking.CallRoots.{IsReachedNow, at_call, payload_comes}
+use Rattle.core_rule.proofs.roots.CallRoots.{IsReachedNow, at_call, payload_comes}
 use Rattle.core_rule.proofs.steps.Assemble.{StepKeeps}
 use Rattle.core_rule.proofs.steps.access.WaySteps.{on_way, way_goes}
 use Rattle.core_rule.proofs.ways.OnwardWays.{finds_payload, names_cell, payload_reached, none_old, word_ahead}
+use Rattle.core_rule.proofs.steps.StepKinds.{StepKind, only_loads, from_usual, field_usual, way_kind, bears_none}
+use Rattle.core_rule.proofs.held.SpineThere.{held_there, indexed_held}
 
 pub index_keeps : StepKeeps (places.Access Indexing) (λ heap number. index_move)
 index_keeps heap state book number rule here place machine =
@@ -58,3 +49,18 @@ index_keeps heap state book number rule here place machine =
     (payload_comes heap state book number rule here marks (at_call (IsReachedNow heap state book) seat Indexing place roots) index k way.below way.kept way.here locates.an_array within) in
     field_cases (λ to. AtCall (IsReachedNow heap state book) new to) seat seat.command comes (λ on. comes) (λ off. comes))
     machine
+
+-- all that is asked of it
+pub index_kind : StepKind (places.Access Indexing)
+index_kind = way_kind (places.Access Indexing) (λ heap number. index_move) (λ heap number seat. refl) (λ e. cc e) (λ heap number seat. tt) (λ heap number seat words found. refl) record {
+  keeps = index_keeps;
+  stays = λ heap number seat found placed. record { looks = refl; elsewhere = tt };
+  comes = λ heap number seat found. from_usual _ (after_index seat found).place (field_usual (at_payload seat found) seat.command);
+  words = record {
+    bears = λ heap state book rule number here f within unborn. bears_none (places.Access Indexing) (λ heap number. index_move) (λ heap number seat. refl) heap state book rule number f within unborn (only_loads (λ word. refl));
+    stores = λ heap number seat is. absurd is;
+    there = λ heap state book rule number here placed low.
+        held_there heap state book rule (seat_at state number).address.half ((seat_at state number).address.offset + field_of (seat_at state number).command / 4) low (indexed_held heap state book rule number here placed);
+  };
+  found = λ heap state book number stands here placed. tt;
+}

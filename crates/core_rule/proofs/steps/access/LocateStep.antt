@@ -1,27 +1,18 @@
 -- Loading the place of an array's spine keeps the rule.
 use Rattle.std.proofs.Common.{◌≡◌, ℕ, inl, refl, sym, ap, ◌∙◌}
-use Rattle.heap_words.specs.Spot.{spot_in}
+use Rattle.core_rule.proofs.Terms.{spot_in, graph_of, Graph, Word, Indexing, at, seat_at, Seat, fragment_at, node_at, Kept, Locates}
 use Rattle.heap_words.specs.declared.spot.Spot.{Spot}
-use Rattle.heap_model.specs.account.Cycles.{graph_of}
-use Rattle.heap_model.specs.graph.Graph.{Graph}
-use Rattle.core_machine.specs.declared.table.address.Address.TheVariants.{Word}
 use Rattle.core_machine.specs.declared.place.Place.TheVariants as places
-use Rattle.core_machine.specs.declared.place.Access.TheVariants.{Locating, Indexing}
-use Rattle.core_machine.specs.table.Layout.{at}
-use Rattle.core_machine.specs.machine.Machine.{seat_at}
+use Rattle.core_machine.specs.declared.place.Access.TheVariants.{Locating}
 use Rattle.core_machine.specs.seat.AccessMoves.{locate_move}
-use Rattle.core_machine.specs.seat.Seat.{Seat}
-use Rattle.core_rule.specs.Book.{fragment_at}
-use Rattle.core_rule.specs.Objects.{node_at}
-use Rattle.core_rule.specs.Owners.{Kept}
-use Rattle.core_rule.specs.Ways.{Locates}
-use Rattle.core_rule.proofs.marking.CallRoots.{IsReachedNow, at_call}
+use Rattle.core_rule.proofs.roots.CallRoots.{IsReachedNow, at_call}
 use Rattle.core_rule.proofs.objects.SpinePlaces.{spine_placed}
 use Rattle.core_rule.proofs.steps.Assemble.{StepKeeps}
 use Rattle.core_rule.proofs.steps.access.WaySteps.{way_goes}
 use Rattle.core_rule.proofs.ways.KeptWords.{spine_found}
 use Rattle.core_rule.proofs.ways.OnwardWays.{locates_at}
 use Rattle.core_rule.proofs.ways.LoadedPlaces.{called_head}
+use Rattle.core_rule.proofs.steps.StepKinds.{StepKind, only_loads, way_kind, plain_words}
 
 pub locate_keeps : StepKeeps (places.Access Locating) (λ heap number. locate_move)
 locate_keeps heap state book number rule here place machine =
@@ -43,3 +34,14 @@ locate_keeps heap state book number rule here place machine =
     let both : Kept index 0 ≡ Kept i 0 = sym way.kept ∙ ap book.owner (sym head) ∙ is in
     let same : index ≡ i = cc in inl (spine ∙ ap book.spines same))
     tt (λ marks roots. at_call (IsReachedNow heap state book) seat Locating place roots) machine
+
+-- all that is asked of it
+pub locate_kind : StepKind (places.Access Locating)
+locate_kind = way_kind (places.Access Locating) (λ heap number. locate_move) (λ heap number seat. refl) (λ e. cc e) (λ heap number seat. tt) (λ heap number seat words found. refl) record {
+  keeps = locate_keeps;
+  stays = λ heap number seat found placed. record { looks = refl; elsewhere = tt };
+  comes = λ heap number seat found. tt;
+  words = plain_words (places.Access Locating) (λ heap number. locate_move) (λ heap number seat. refl) (λ heap number seat is. is) (λ heap number seat low. low)
+      (λ heap state book rule number here. only_loads (λ word. refl));
+  found = λ heap state book number stands here placed. tt;
+}

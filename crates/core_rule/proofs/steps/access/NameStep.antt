@@ -2,38 +2,26 @@
 use Rattle.std.specs.Prelude.{unwrap_or}
 use Rattle.std.proofs.Common.{◌≡◌, ℕ, ◌<◌, List, [], ◌++◌, length, slice_set, Option, IsSome, refl, sym, ap, ◌∙◌, subst, arith}
 use Rattle.std.proofs.lemmas.List.{append-nil}
-use Rattle.heap_model.specs.declared.entry.Entry.{Entry}
-use Rattle.heap_model.specs.declared.id.Id.{Id}
+use Rattle.core_rule.proofs.Terms.{Entry, Id, graph_of, register_value, Graph, Word, target_of, at, head_of, stamp_of, id_of, seat_at, Seat, no_spot, object_number, object_head}
+use Rattle.core_rule.proofs.Terms.{IsAwaitingName, Registers, HoldsValue}
 use Rattle.heap_model.specs.declared.id.Value.TheVariants as values
 use Rattle.heap_model.specs.declared.reply.Reply.TheVariants.{Got}
-use Rattle.heap_model.specs.account.Cycles.{graph_of}
-use Rattle.heap_model.specs.graph.Objects.{register_value}
-use Rattle.heap_model.specs.graph.Graph.{Graph}
 use Rattle.core_machine.specs.seat.Looks.{forgotten}
-use Rattle.core_machine.specs.declared.table.address.Address.TheVariants.{Word}
 use Rattle.core_machine.specs.declared.place.Place.TheVariants as places
 use Rattle.core_machine.specs.declared.place.Access.TheVariants.{Naming}
 use Rattle.core_machine.specs.declared.seat.register.Register.TheVariants as registers
-use Rattle.core_machine.specs.seat.Commands.{target_of}
 use Rattle.core_machine.specs.seat.FitsAccess.{SeatIsAtGet}
-use Rattle.core_machine.specs.table.Layout.{at}
-use Rattle.heap_words.specs.Loaded.{head_of, stamp_of}
-use Rattle.core_machine.specs.table.Decode.{id_of}
-use Rattle.core_machine.specs.machine.Machine.{seat_at}
 use Rattle.core_machine.specs.seat.AccessMoves.{name_move, loaded_head_of, reply_entries}
-use Rattle.core_machine.specs.seat.Seat.{Seat, no_spot}
-use Rattle.core_rule.specs.Book.{object_number, object_head}
-use Rattle.core_rule.specs.Counts.{IsAwaitingName}
-use Rattle.core_rule.specs.Registers.{Registers, HoldsValue}
 use Rattle.core_rule.proofs.steps.Assemble.{StepKeeps, seat_fits}
 use Rattle.core_rule.proofs.lists.Options.{of_some}
-use Rattle.core_rule.proofs.marking.CallRoots.{IsReachedNow, at_call, roots_over}
-use Rattle.core_rule.proofs.marking.RegisterRoots.{heads_put}
+use Rattle.core_rule.proofs.roots.CallRoots.{IsReachedNow, at_call, roots_over}
+use Rattle.core_rule.proofs.roots.RegisterRoots.{heads_put}
 use Rattle.core_rule.proofs.ways.KeptWords.{name_found}
 use Rattle.core_rule.proofs.steps.Loads.{went, went_cycle, load_goes, over_went}
 use Rattle.core_rule.proofs.graph.Numbering.{id_at-number_of}
 use Rattle.core_rule.proofs.graph.ObjectReplies.{target_within}
 use Rattle.core_rule.proofs.graph.PutRegister.{registers_with}
+use Rattle.core_rule.proofs.steps.StepKinds.{StepKind, only_loads, shows_none, blind_follows, ends, plain_words}
 
 -- loading the name keeps the rule
 pub name_keeps : StepKeeps (places.Access Naming) (λ heap. name_move)
@@ -75,3 +63,18 @@ name_keeps heap state book number rule here place machine =
     (heads_put (IsReachedNow heap state book) seat.registers d (registers.Object at_name (id_of found)) within
     (subst (IsReachedNow heap state book) (sym head) (of_some (IsReachedNow heap state book) (head_of seat.loaded) (object_head book.made book.fragments id) awaits.loads (at_call (IsReachedNow heap state book) seat Naming place roots)))
     roots.registers))) machine
+
+-- all that is asked of it
+pub name_kind : StepKind (places.Access Naming)
+name_kind = record {
+  keeps = λ heap state book number rule here looks. name_keeps heap state book number rule here;
+  shows = λ heap state number. shows_none;
+  looks = record {
+    follows = λ heap state number seat compares placed. blind_follows heap state _ _ _ tt refl refl;
+    goes = λ heap state book rule number placed. ends heap number book.history (seat_at state number) _ [] refl refl (λ r apart. refl);
+    comes = λ heap number seat found placed. tt;
+  };
+  words = plain_words (places.Access Naming) (λ heap. name_move) (λ heap number seat. refl) (λ heap number seat is. is) (λ heap number seat low. low)
+      (λ heap state book rule number here. only_loads (λ word. refl));
+  found = λ heap state book number stands here placed. tt;
+}

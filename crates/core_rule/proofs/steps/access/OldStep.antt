@@ -1,25 +1,12 @@
 -- The load of the old value of a set keeps the rule.
 use Rattle.std.proofs.Common.{◌≡◌, ℕ, true, false, [], ◌++◌, Option, Some, None, inl, refl, sym, ap, ◌∙◌}
-use Rattle.heap_model.specs.account.Cycles.{graph_of}
-use Rattle.heap_model.specs.graph.Graph.{Graph}
-use Rattle.core_machine.specs.declared.table.address.Address.TheVariants.{Word}
+use Rattle.core_rule.proofs.Terms.{graph_of, Graph, Word, LoadingOld, ShadingOld, ShadingNew, Swapping, at, head_of, is_meta, seat_at, has_barrier_of, after_old_load}
+use Rattle.core_rule.proofs.Terms.{register_head, Seat, with_entries, IsMachine, ReadsSpine, IsMarked, WordPointsTo, node_at, Finds}
 use Rattle.core_machine.specs.declared.place.Place.TheVariants as places
 use Rattle.core_machine.specs.declared.place.Access.{Access}
-use Rattle.core_machine.specs.declared.place.Access.TheVariants.{LoadingOld, ShadingOld, ShadingNew, Swapping}
 use Rattle.core_machine.specs.seat.FitsAccess.{SeatIsAtSet}
-use Rattle.core_machine.specs.table.Layout.{at}
-use Rattle.heap_words.specs.Loaded.{head_of, is_meta}
-use Rattle.core_machine.specs.machine.Machine.{seat_at}
-use Rattle.core_machine.specs.seat.Access.{has_barrier_of, after_old_load}
 use Rattle.core_machine.specs.seat.AccessMoves.{old_move, new_register_of}
-use Rattle.core_machine.specs.seat.Registers.{register_head}
-use Rattle.core_machine.specs.seat.Seat.{Seat, with_entries}
-use Rattle.core_machine.specs.machine.Value.{IsMachine}
-use Rattle.core_rule.specs.Replicas.{ReadsSpine}
-use Rattle.core_rule.specs.Colours.{IsMarked, WordPointsTo}
-use Rattle.core_rule.specs.Roots.{IsInMarking, OfRoots}
-use Rattle.core_rule.specs.Objects.{node_at}
-use Rattle.core_rule.specs.Ways.{Finds}
+use Rattle.core_rule.specs.roots.Roots.{IsInMarking, OfRoots}
 use Rattle.core_rule.proofs.steps.Assemble.{Keeps, StepKeeps, seat_fits}
 use Rattle.core_rule.proofs.colours.SourceCases.{lead_of_word}
 use Rattle.core_rule.proofs.steps.BarrierSteps.{new_cases, loads_on}
@@ -28,7 +15,8 @@ use Rattle.core_rule.proofs.ways.ArrayWords.{plain_lead}
 use Rattle.core_rule.proofs.steps.Loads.{went, loaded_state}
 use Rattle.core_rule.proofs.ways.OnwardWays.{finds_at, none_old}
 use Rattle.core_rule.proofs.lists.Options.{none_holds, some_holds}
-use Rattle.core_rule.proofs.marking.CallRoots.{IsReachedNow, at_call, field_comes}
+use Rattle.core_rule.proofs.roots.CallRoots.{IsReachedNow, at_call, field_comes}
+use Rattle.core_rule.proofs.steps.StepKinds.{StepKind, only_loads, shows_none, old_follows, old_goes, from_load, plain_words}
 
 -- loading the old value keeps the rule
 pub old_keeps : StepKeeps (places.Access LoadingOld) (λ heap number. old_move)
@@ -62,3 +50,18 @@ old_keeps heap state book number rule here place machine =
           (λ marks roots. (reached marks roots, some_holds (IsReachedNow heap state book) (head_of found) f some (field_comes heap state book number rule here marks (reached marks roots) fits.0.2.part_within plain f head some)))
     ] in
     by_head (head_of found) refl machine
+
+-- all that is asked of it
+pub old_kind : StepKind (places.Access LoadingOld)
+old_kind = record {
+  keeps = λ heap state book number rule here looks. old_keeps heap state book number rule here;
+  shows = λ heap state number. shows_none;
+  looks = record {
+    follows = λ heap state number seat compares placed. old_follows heap state number seat _ tt (at heap state.words (Word seat.reached seat.part)) (head_of (at heap state.words (Word seat.reached seat.part)));
+    goes = λ heap state book rule number placed. old_goes heap state book rule number _ _ _ (λ named. cc (placed, named));
+    comes = λ heap number seat found placed. from_load (record seat { loaded = found }) (head_of found);
+  };
+  words = plain_words (places.Access LoadingOld) (λ heap number. old_move) (λ heap number seat. refl) (λ heap number seat is. is) (λ heap number seat low. low)
+      (λ heap state book rule number here. only_loads (λ word. refl));
+  found = λ heap state book number stands here placed. tt;
+}

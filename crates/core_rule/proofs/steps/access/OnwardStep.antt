@@ -1,37 +1,21 @@
 -- Going on by a fragment's first word keeps the rule.
 use Rattle.std.proofs.Common.{◌≡◌, ℕ, ◌-◌, ◌<◌, Bool, true, false, [], refl, subst, arith}
-use Rattle.heap_model.specs.declared.heap.Heap.{Heap}
-use Rattle.heap_model.specs.account.Cycles.{graph_of}
-use Rattle.heap_model.specs.graph.Graph.{Graph}
-use Rattle.core_machine.specs.declared.table.address.Address.TheVariants.{Word}
+use Rattle.core_rule.proofs.Terms.{Heap, graph_of, Graph, Word, Walking, at, link_of, State, seat_at, has_barrier_of, way_place_of, after_link, after_walk, Seat, with_entries}
+use Rattle.core_rule.proofs.Terms.{IsMachine, Book, Awaits, IsAnswered, node_at, IsAwaited, ReadsSpine, Rule, Finds}
 use Rattle.core_machine.specs.declared.place.Place.TheVariants as places
 use Rattle.core_machine.specs.declared.place.Access.{Access}
-use Rattle.core_machine.specs.declared.place.Access.TheVariants.{Walking}
 use Rattle.core_machine.specs.seat.FitsAccess.{SeatIsOnWay}
-use Rattle.core_machine.specs.table.Layout.{at}
-use Rattle.heap_words.specs.Loaded.{link_of}
-use Rattle.core_machine.specs.machine.Machine.{State, seat_at}
-use Rattle.core_machine.specs.seat.Access.{has_barrier_of, way_place_of, after_link, after_walk}
 use Rattle.core_machine.specs.seat.AccessMoves.{walk_move}
-use Rattle.core_machine.specs.seat.Seat.{Seat, with_entries}
-use Rattle.core_machine.specs.machine.Value.{IsMachine}
-use Rattle.core_rule.specs.Book.{Book}
-use Rattle.core_rule.specs.Counts.{Awaits}
-use Rattle.core_rule.specs.Gathers.{IsAnswered}
-use Rattle.core_rule.specs.Roots.{IsInMarking, AtCall, OfRoots}
-use Rattle.core_rule.specs.Objects.{node_at}
-use Rattle.core_rule.specs.Registers.{IsAwaited}
-use Rattle.core_rule.specs.Replicas.{ReadsSpine}
-use Rattle.core_rule.specs.Rule.{Rule}
-use Rattle.core_rule.specs.Ways.{Finds}
+use Rattle.core_rule.specs.roots.Roots.{IsInMarking, AtCall, OfRoots}
 use Rattle.core_rule.proofs.frames.SeatFrames.{AddressAt}
 use Rattle.core_rule.proofs.steps.Assemble.{Keeps, StepKeeps, seat_fits}
-use Rattle.core_rule.proofs.marking.CallRoots.{IsReachedNow, at_call, link_comes}
+use Rattle.core_rule.proofs.roots.CallRoots.{IsReachedNow, at_call, link_comes}
 use Rattle.core_rule.proofs.steps.Loads.{loaded_state}
 use Rattle.core_rule.proofs.steps.access.WaySteps.{on_way, way_goes}
 use Rattle.core_rule.proofs.ways.LoadedPlaces.{record_reads}
 use Rattle.core_rule.proofs.ways.OnwardWays.{way_unwatched, way_cases, onward_cases, way_stands, finds_at, finds_on}
 use Rattle.core_rule.proofs.cycle.Unwatched.{IsUnwatched}
+use Rattle.core_rule.proofs.steps.StepKinds.{StepKind, only_loads, from_usual, walk_usual, stays_walk, meta_finds, way_kind, plain_words}
 
 module _ (heap : Heap) (state : State) (book : Book) (number : ℕ) (rule : Rule heap state book) (here : number < heap.seats)
     (from : Access) (place : (seat_at state number).place ≡ places.Access from)
@@ -104,3 +88,14 @@ walk_keeps heap state book number rule here place machine =
         by : (b : Bool) → (node_at (graph_of heap book.history) book.made finds.index).array ≡ b → (node_at (graph_of heap book.history) book.made finds.index).array ≡ false
         by false is = is
         by true is = absurd (omega (arith, more, finds.field.linked is))
+
+-- all that is asked of it
+pub walk_kind : StepKind (places.Access Walking)
+walk_kind = way_kind (places.Access Walking) (λ heap number. walk_move) (λ heap number seat. refl) (λ e. cc e) (λ heap number seat. tt) (λ heap number seat words found. refl) record {
+  keeps = walk_keeps;
+  stays = λ heap number seat found placed. stays_walk seat found;
+  comes = λ heap number seat found. from_usual _ (after_walk seat found).place (walk_usual seat found);
+  words = plain_words (places.Access Walking) (λ heap number. walk_move) (λ heap number seat. refl) (λ heap number seat is. is) (λ heap number seat low. low)
+      (λ heap state book rule number here. only_loads (λ word. refl));
+  found = λ heap state book number stands here placed. meta_finds heap state book number stands here (λ idle. cc (placed, idle)) Walking placed (λ e. e) (λ d r e. e);
+}

@@ -2,44 +2,20 @@
 use Rattle.std.proofs.Common.{◌≡◌, ℕ, ◌+◌, ◌%◌, ◌<◌, ◌≤◌, ltb, false, [], ◌∷◌, length, Option, Some, None, refl, sym, ap, ◌∙◌, subst, arith}
 use Rattle.std.specs.Prelude.{if◌then◌else◌}
 use Rattle.std.proofs.lemmas.Bool.{cond_both, ltb-true, ltb-false, eq-eqb}
-use Rattle.heap_model.specs.declared.command.Command.{Command}
+use Rattle.core_rule.proofs.Terms.{Command, Entry, Said, Heap, Id, Reply, KeepsSpace, graph_of, effect_of, no_effect, after_reply, Accepts, is_leave_of, Graph, Node, Word}
+use Rattle.core_rule.proofs.Terms.{LoadingMeta, target_of, field_of, at, length_of, array_length_of, State, seat_at, row_of, part_of, meta_reply_of, after_meta, after_length, Seat}
+use Rattle.core_rule.proofs.Terms.{no_spot, with_entries, IsMachine, Book, id_at, IsAnswered, node_at, cells_at, IsAwaited, Rule, SetsOut}
 use Rattle.heap_model.specs.declared.command.Command.TheVariants as commands
-use Rattle.heap_model.specs.declared.entry.Entry.{Entry}
-use Rattle.heap_model.specs.declared.entry.Entry.TheVariants.{Said}
-use Rattle.heap_model.specs.declared.heap.Heap.{Heap}
-use Rattle.heap_model.specs.declared.id.Id.{Id}
-use Rattle.heap_model.specs.declared.reply.Reply.{Reply}
 use Rattle.heap_model.specs.declared.reply.Reply.TheVariants as replies
-use Rattle.heap_model.specs.account.Account.{KeepsSpace}
-use Rattle.heap_model.specs.account.Cycles.{graph_of}
-use Rattle.heap_model.specs.account.Effects.{effect_of, no_effect}
-use Rattle.heap_model.specs.graph.Growth.{after_reply}
-use Rattle.heap_model.specs.graph.Legal.{Accepts}
-use Rattle.heap_model.specs.account.PhaseCounts.{is_leave_of}
-use Rattle.heap_model.specs.graph.Graph.{Graph, Node}
 use Rattle.core_machine.specs.seat.Looks.{forgotten}
-use Rattle.core_machine.specs.declared.table.address.Address.TheVariants.{Word}
 use Rattle.core_machine.specs.declared.place.Place.TheVariants as places
-use Rattle.core_machine.specs.declared.place.Access.TheVariants.{LoadingMeta, Locating}
-use Rattle.core_machine.specs.seat.Commands.{target_of, field_of}
+use Rattle.core_machine.specs.declared.place.Access.TheVariants.{Locating}
 use Rattle.core_machine.specs.seat.FitsAccess.{NamesObject, NamesField, SeatIsAtHead}
-use Rattle.core_machine.specs.table.Layout.{at}
-use Rattle.heap_words.specs.Loaded.{length_of, array_length_of}
-use Rattle.core_machine.specs.machine.Machine.{State, seat_at}
-use Rattle.core_machine.specs.seat.Access.{row_of, part_of, meta_reply_of, after_meta, after_length}
 use Rattle.core_machine.specs.seat.AccessMoves.{open_move, reply_entries, reply_entries_if}
-use Rattle.core_machine.specs.seat.Seat.{Seat, no_spot, with_entries}
-use Rattle.core_machine.specs.machine.Value.{IsMachine}
 use Rattle.core_rule.proofs.entries.AtRest.{seat_fits, spent_own, few_own}
-use Rattle.core_rule.specs.Book.{Book, id_at}
-use Rattle.core_rule.specs.Gathers.{IsAnswered}
-use Rattle.core_rule.specs.Objects.{node_at, cells_at}
-use Rattle.core_rule.specs.Registers.{IsAwaited}
-use Rattle.core_rule.specs.Rule.{Rule}
-use Rattle.core_rule.specs.Ways.{SetsOut}
 use Rattle.core_rule.proofs.steps.Assemble.{Keeps, StepKeeps}
 use Rattle.core_rule.proofs.ways.AtObject.{is_present, way_object, at_rest}
-use Rattle.core_rule.proofs.marking.CallRoots.{IsReachedNow, at_call}
+use Rattle.core_rule.proofs.roots.CallRoots.{IsReachedNow, at_call}
 use Rattle.core_rule.proofs.marking.Marks.{roots_off_way}
 use Rattle.core_rule.proofs.ways.KeptWords.{by_kind, length_found, array_length_found}
 use Rattle.core_rule.proofs.steps.Loads.{went_cycle, went, loaded_state, load_tells, over_went}
@@ -50,6 +26,7 @@ use Rattle.core_rule.proofs.entries.OwnEntries.{own_entries}
 use Rattle.core_rule.proofs.entries.PhaseEntries.{no_leave_told}
 use Rattle.core_rule.proofs.graph.PutRegister.{only_none}
 use Rattle.core_rule.proofs.entries.SeatLists.{list_more}
+use Rattle.core_rule.proofs.steps.StepKinds.{StepKind, only_loads, shows_some, meta_plain, meta_follows, meta_goes, from_usual, meta_usual, meta_finds, plain_words}
 
 -- a meta answers a question for the length; a field goes on, or is none of the object's
 meta_cases : (P : Option Reply → Type 0) (command : Command) (found : ℕ) → NamesObject command → (IsLen command → P (Some (replies.Length (length_of found))))
@@ -167,3 +144,21 @@ open_keeps heap state book number rule here place machine =
     (accepts_no_field g number id seat.command opens.works.in_range present made held field (omega (arith, past, size)))
     (keeps_no_field heap false book.history number enough little seat.command field) (leaves_none replies.NoField)))
     machine
+
+-- all that is asked of it
+pub open_kind : StepKind (places.Access LoadingMeta)
+open_kind = record {
+  keeps = λ heap state book number rule here looks. open_keeps heap state book number rule here;
+  shows = λ heap state number.
+      shows_some number (seat_at state number) (places.Access LoadingMeta) (meta_reply_of (seat_at state number).command (at heap state.words (Word (seat_at state number).reached 0))) (meta_plain (seat_at state number).command (at heap state.words (Word (seat_at state number).reached 0)));
+  looks = record {
+    follows = λ heap state number seat compares placed.
+        meta_follows heap state number seat _ tt (at heap state.words (Word seat.reached 0)) (meta_reply_of seat.command (at heap state.words (Word seat.reached 0)));
+    goes = λ heap state book rule number placed. meta_goes heap state book rule number (at heap state.words (Word (seat_at state number).reached 0)) (meta_reply_of (seat_at state number).command (at heap state.words (Word (seat_at state number).reached 0))) placed _;
+    comes = λ heap number seat found placed.
+        from_usual _ (after_meta seat found (meta_reply_of seat.command found)).place (meta_usual seat found (meta_reply_of seat.command found));
+  };
+  words = plain_words (places.Access LoadingMeta) (λ heap. open_move) (λ heap number seat. refl) (λ heap number seat is. is) (λ heap number seat low. low)
+      (λ heap state book rule number here. only_loads (λ word. refl));
+  found = λ heap state book number stands here placed. meta_finds heap state book number stands here (λ idle. cc (placed, idle)) LoadingMeta placed (λ e. e) (λ d r e. e);
+}

@@ -1,36 +1,23 @@
 -- Shading the new value of a set keeps the rule.
 use Rattle.std.specs.Prelude.{unwrap_or}
 use Rattle.std.proofs.Common.{◌≡◌, ℕ, true, [], ◌++◌, Option, Some, None, IfSome, inl, refl, subst, IsSome}
-use Rattle.heap_model.specs.account.Cycles.{graph_of}
-use Rattle.heap_model.specs.account.PhaseCounts.{phase}
-use Rattle.heap_model.specs.graph.Objects.{register_value}
-use Rattle.heap_model.specs.graph.Graph.{Graph}
+use Rattle.core_rule.proofs.Terms.{graph_of, phase, register_value, Graph, ShadingNew, Swapping, source_of, head_of, seat_at, has_barrier_of, register_head, Seat, ReadsSpine}
+use Rattle.core_rule.proofs.Terms.{Colour, IsMarked, IsBetween, DeletionBarrier, FieldStands, ShadedStands, WhileAccess, node_at, Finds, OldKept}
 use Rattle.core_machine.specs.declared.place.Place.TheVariants as places
-use Rattle.core_machine.specs.declared.place.Access.TheVariants.{ShadingNew, Swapping}
-use Rattle.core_machine.specs.seat.Commands.{source_of}
 use Rattle.core_machine.specs.seat.FitsAccess.{SeatIsAtSet}
-use Rattle.heap_words.specs.Loaded.{head_of}
-use Rattle.core_machine.specs.machine.Machine.{seat_at}
-use Rattle.core_machine.specs.seat.Access.{has_barrier_of}
 use Rattle.core_machine.specs.seat.AccessMoves.{shade_new_move, new_register_of}
-use Rattle.core_machine.specs.seat.Registers.{register_head}
-use Rattle.core_machine.specs.seat.Seat.{Seat}
-use Rattle.core_rule.specs.Replicas.{ReadsSpine}
-use Rattle.core_rule.specs.Book.{Colour}
-use Rattle.core_rule.specs.Colours.{IsMarked, IsBetween}
-use Rattle.core_rule.specs.Flight.{DeletionBarrier, FieldStands, ShadedStands, WhileAccess}
-use Rattle.core_rule.specs.Objects.{node_at}
-use Rattle.core_rule.specs.Ways.{Finds, OldKept}
 use Rattle.core_rule.proofs.steps.Assemble.{StepKeeps, seat_fits}
 use Rattle.core_rule.proofs.steps.BarrierSteps.{shades_on, leads_back, holds_all}
 use Rattle.core_rule.proofs.cycle.CycleFrames.{watches_stay}
-use Rattle.core_rule.proofs.footprint.BookGoing.{by_register}
+use Rattle.core_rule.proofs.book.BookGoing.{by_register}
 use Rattle.core_rule.proofs.ways.LoadedObjects.{refers_kept, held_refers}
 use Rattle.core_rule.proofs.ways.OnwardWays.{finds_at, loaded_at}
 use Rattle.core_rule.proofs.lists.Options.{if_some, some_holds, of_some}
-use Rattle.core_rule.proofs.marking.CallRoots.{IsReachedNow, at_call}
+use Rattle.core_rule.proofs.roots.CallRoots.{IsReachedNow, at_call}
 use Rattle.core_rule.proofs.colours.ShadeColours.{with_mark, mark_marks, mark_keeps}
 use Rattle.core_rule.proofs.steps.ShadeStep.{words_shaded}
+use Rattle.core_rule.proofs.steps.StepKinds.{StepKind, spares, way_kind, plain_words}
+use Rattle.core_rule.proofs.colours.OneBit.{bit_above}
 
 -- shading the new value keeps the rule
 pub shade_new_keeps : StepKeeps (places.Access ShadingNew) (λ heap number. shade_new_move)
@@ -71,3 +58,14 @@ shade_new_keeps heap state book number rule here place machine =
     whole : (o : Option ℕ) → IsSome o → o ≡ Some (unwrap_or o 0)
     whole None some = absurd (cc)
     whole (Some x) some = refl
+
+-- all that is asked of it
+pub shade_new_kind : StepKind (places.Access ShadingNew)
+shade_new_kind = way_kind (places.Access ShadingNew) (λ heap number. shade_new_move) (λ heap number seat. refl) (λ e. cc e) (λ heap number seat. tt) (λ heap number seat words found. refl) record {
+  keeps = shade_new_keeps;
+  stays = λ heap number seat found placed. record { looks = refl; elsewhere = tt };
+  comes = λ heap number seat found. tt;
+  words = plain_words (places.Access ShadingNew) (λ heap number. shade_new_move) (λ heap number seat. refl) (λ heap number seat is. is) (λ heap number seat low. low)
+      (λ heap state book rule number here. spares _ refl (λ word i above below. bit_above word 32 _ i below));
+  found = λ heap state book number stands here placed. tt;
+}

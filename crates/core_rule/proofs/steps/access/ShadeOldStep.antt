@@ -1,35 +1,24 @@
 -- Shading the old value of a set keeps the rule.
 use Rattle.std.proofs.Common.{◌≡◌, ℕ, true, [], ◌++◌, Some, None, IfSome, inl, inr, refl, sym, ap, ◌∙◌, subst, ◌⊎◌, IsSome, slice_set}
-use Rattle.heap_model.specs.account.Cycles.{graph_of}
-use Rattle.heap_model.specs.account.PhaseCounts.{phase}
-use Rattle.heap_model.specs.graph.Graph.{Graph}
+use Rattle.core_rule.proofs.Terms.{graph_of, phase, Graph, ShadingOld, ShadingNew, Swapping, head_of, seat_at, has_barrier_of, after_old, register_head, register_in, Seat}
+use Rattle.core_rule.proofs.Terms.{IsMachine, ReadsSpine, Colour, fragment_at, IsMarked, WordPointsTo, IsBetween, DeletionBarrier, FieldStands, WhileAccess, node_at, Finds}
+use Rattle.core_rule.proofs.Terms.{LoadedKept, source_of}
 use Rattle.core_machine.specs.declared.place.Place.TheVariants as places
 use Rattle.core_machine.specs.declared.place.Access.{Access}
-use Rattle.core_machine.specs.declared.place.Access.TheVariants.{ShadingOld, ShadingNew, Swapping}
 use Rattle.core_machine.specs.seat.FitsAccess.{SeatIsAtSet}
-use Rattle.heap_words.specs.Loaded.{head_of}
-use Rattle.core_machine.specs.machine.Machine.{seat_at}
-use Rattle.core_machine.specs.seat.Access.{has_barrier_of}
 use Rattle.core_machine.specs.seat.AccessMoves.{shade_old_move, loaded_head_of, new_register_of}
-use Rattle.core_machine.specs.seat.Registers.{register_head}
-use Rattle.core_machine.specs.seat.Seat.{Seat}
-use Rattle.core_machine.specs.machine.Value.{IsMachine}
-use Rattle.core_rule.specs.Replicas.{ReadsSpine}
-use Rattle.core_rule.specs.Book.{Colour, fragment_at}
-use Rattle.core_rule.specs.Colours.{IsMarked, WordPointsTo, IsBetween}
-use Rattle.core_rule.specs.Flight.{DeletionBarrier, FieldStands, WhileAccess}
-use Rattle.core_rule.specs.Roots.{IsInMarking, OfRoots}
-use Rattle.core_rule.specs.Objects.{node_at}
-use Rattle.core_rule.specs.Ways.{Finds, LoadedKept}
+use Rattle.core_rule.specs.roots.Roots.{IsInMarking, OfRoots}
 use Rattle.core_rule.proofs.steps.Assemble.{Keeps, StepKeeps, seat_fits}
 use Rattle.core_rule.proofs.steps.BarrierSteps.{new_cases, shades_on, leads_back}
-use Rattle.core_rule.proofs.footprint.BookGoing.{IsNamed, by_set}
+use Rattle.core_rule.proofs.book.BookGoing.{IsNamed, by_set}
 use Rattle.core_rule.proofs.ways.LoadedObjects.{KeptHead}
 use Rattle.core_rule.proofs.ways.OnwardWays.{finds_at, loaded_at}
 use Rattle.core_rule.proofs.lists.Options.{some_holds, none_holds, from_some, of_some}
-use Rattle.core_rule.proofs.marking.CallRoots.{IsReachedNow, at_call}
+use Rattle.core_rule.proofs.roots.CallRoots.{IsReachedNow, at_call}
 use Rattle.core_rule.proofs.colours.ShadeColours.{with_mark, mark_marks, mark_keeps}
 use Rattle.core_rule.proofs.steps.ShadeStep.{shading, words_shaded}
+use Rattle.core_rule.proofs.steps.StepKinds.{StepKind, spares, from_usual, new_usual, way_kind, plain_words}
+use Rattle.core_rule.proofs.colours.OneBit.{bit_above}
 
 -- shading the old value keeps the rule
 pub shade_old_keeps : StepKeeps (places.Access ShadingOld) (λ heap number. shade_old_move)
@@ -70,3 +59,15 @@ shade_old_keeps heap state book number rule here place machine =
     (λ making is_on. (marked, none_holds (IsMarked coloured) (register_head (new_register_of seat)) no_new)) comes reached named)
     (λ x some. on ShadingNew (λ s. refl) reads (at_next ShadingNew, kept_at ShadingNew) field (λ making. marked) comes reached named)
     machine
+
+-- all that is asked of it
+pub shade_old_kind : StepKind (places.Access ShadingOld)
+shade_old_kind = way_kind (places.Access ShadingOld) (λ heap number. shade_old_move) (λ heap number seat. refl) (λ e. cc e) (λ heap number seat. tt) (λ heap number seat words found. refl) record {
+  keeps = shade_old_keeps;
+  stays = λ heap number seat found placed. record { looks = refl; elsewhere = tt };
+  comes = λ heap number seat found.
+      from_usual _ (after_old seat).place (new_usual (register_head (register_in seat.registers (source_of seat.command))));
+  words = plain_words (places.Access ShadingOld) (λ heap number. shade_old_move) (λ heap number seat. refl) (λ heap number seat is. is) (λ heap number seat low. low)
+      (λ heap state book rule number here. spares _ refl (λ word i above below. bit_above word 32 _ i below));
+  found = λ heap state book number stands here placed. tt;
+}

@@ -2,45 +2,22 @@
 use Rattle.std.proofs.Common.{◌≡◌, ℕ, ◌+◌, ◌^◌, ◌<◌, false, List, get_or, slice_get, Option, Some, Result, Ok, refl, sym, ap, ◌∙◌, subst, arith}
 use Rattle.std.proofs.lemmas.Option.{slice_get-get_or}
 use Rattle.heap_model.specs.declared.graph.cell.Cell.{Cell}
-use Rattle.heap_model.specs.declared.command.Command.{Command}
+use Rattle.core_rule.proofs.Terms.{Command, Entry, Heap, Id, Value, Reply, most_kept, count_set, set_cell, set_stamp, write, graph_of, after_reply, graph_seat, register_value}
+use Rattle.core_rule.proofs.Terms.{node, target_node, cell_or_refusal, cell_at, or_no_field, phase, last_answer, has_left, Graph, Node, unset, Word, Swapping, object_of, source_of}
+use Rattle.core_rule.proofs.Terms.{field_of, target_of, IsAtRest, IsSilent, at, put, InTable, stamp_of, seat_at, has_barrier_of, register_in, Seat, HasNumberLeft, fragment_at}
+use Rattle.core_rule.proofs.Terms.{id_at, object_head, AreMade, NamesKept, Objects, node_at, value_word, HoldsValue, Finds, OldKept, row_in, field_part}
 use Rattle.heap_model.specs.declared.command.Command.TheVariants as commands
-use Rattle.heap_model.specs.declared.entry.Entry.{Entry}
 use Rattle.heap_model.specs.declared.entry.Entry.TheVariants as entries
-use Rattle.heap_model.specs.declared.heap.Heap.{Heap}
-use Rattle.heap_model.specs.declared.id.Id.{Id}
-use Rattle.heap_model.specs.declared.id.Value.{Value}
 use Rattle.heap_model.specs.declared.id.Value.TheVariants as values
-use Rattle.heap_model.specs.declared.reply.Reply.{Reply}
 use Rattle.heap_model.specs.declared.reply.Reply.TheVariants as replies
-use Rattle.heap_model.specs.account.Account.{most_kept}
-use Rattle.heap_model.specs.graph.Changes.{count_set, set_cell, set_stamp, write}
-use Rattle.heap_model.specs.account.Cycles.{graph_of}
-use Rattle.heap_model.specs.graph.Growth.{after_reply}
-use Rattle.heap_model.specs.graph.Objects.{graph_seat, register_value, node, target_node, cell_or_refusal, cell_at, or_no_field}
-use Rattle.heap_model.specs.account.PhaseCounts.{phase, last_answer, has_left}
 use Rattle.heap_model.specs.account.Phases.{ShowsPhases}
 use Rattle.heap_model.specs.graph.Replies.{Says}
 use Rattle.heap_model.specs.graph.Replies as says
-use Rattle.heap_model.specs.graph.Graph.{Graph, Node, unset}
 use Rattle.core_machine.specs.declared.table.address.Address.{Address}
-use Rattle.core_machine.specs.declared.table.address.Address.TheVariants.{Word}
 use Rattle.core_machine.specs.declared.place.Place.TheVariants as places
-use Rattle.core_machine.specs.declared.place.Access.TheVariants.{Swapping}
-use Rattle.core_machine.specs.seat.Commands.{object_of, source_of, field_of, target_of}
-use Rattle.core_machine.specs.seat.Fits.{IsAtRest, IsSilent}
 use Rattle.core_machine.specs.seat.FitsAccess.{IsSet, SeatIsAtSet as FitsSets}
-use Rattle.core_machine.specs.table.Layout.{at, put, InTable}
-use Rattle.heap_words.specs.Loaded.{stamp_of}
-use Rattle.core_machine.specs.machine.Machine.{seat_at}
 use Rattle.core_machine.specs.Move.{seat_after}
-use Rattle.core_machine.specs.seat.Access.{has_barrier_of}
 use Rattle.core_machine.specs.seat.AccessMoves.{swap_move, new_word_of}
-use Rattle.core_machine.specs.seat.Registers.{register_in}
-use Rattle.core_machine.specs.seat.Seat.{Seat, HasNumberLeft}
-use Rattle.core_rule.specs.Book.{fragment_at, id_at, object_head}
-use Rattle.core_rule.specs.Objects.{AreMade, NamesKept, Objects, node_at, value_word}
-use Rattle.core_rule.specs.Registers.{HoldsValue}
-use Rattle.core_rule.specs.Ways.{Finds, OldKept, row_in, field_part}
 use Rattle.core_rule.proofs.steps.Assemble.{StepKeeps}
 use Rattle.core_rule.proofs.entries.AtRest.{seat_fits, in_flight, spent_own, few_own, none_awaited}
 use Rattle.core_rule.proofs.graph.CellSet.{Sets, sets_cell}
@@ -59,6 +36,7 @@ use Rattle.core_rule.proofs.marking.Marks.{marks_off_way}
 use Rattle.core_rule.proofs.marking.SwapMarks.{leaves_swap}
 use Rattle.core_rule.proofs.cycle.SwapCycle.{heap_swapped, answer_swapped, leaves_swapped}
 use Rattle.core_rule.proofs.cycle.Unwatched.{cycle_apart}
+use Rattle.core_rule.proofs.steps.StepKinds.{StepKind, beside, shows_plain, reply_ends, plain_words}
 
 -- a command that sets a field is a `set`
 set_only : (P : Command → Type 0) → ((r i v : ℕ) → P (commands.Set r i v)) → (command : Command) → IsSet command → P command
@@ -177,3 +155,15 @@ swap_keeps heap state book number rule here place machine =
     (leaves_swapped heap state book number rule here place cell.value cell.stamp (holds (source_of seat.command)) names.0 small word is_word)
     (marks_off_way heap state book rule number here (put heap state.words (Word seat.reached seat.part) word) (with_entry book (entries.Said number seat.command (replies.Was stamp)))
     (seat_after (swap_move number seat) found) (leaves_swap heap state book number rule here place cell.value cell.stamp (holds (source_of seat.command)) names.0 small word is_word) refl refl tt)
+
+-- all that is asked of it
+pub swap_kind : StepKind (places.Access Swapping)
+swap_kind = record {
+  keeps = λ heap state book number rule here looks. swap_keeps heap state book number rule here;
+  shows = λ heap state number. shows_plain number (seat_at state number) (places.Access Swapping) _ tt;
+  looks = reply_ends (places.Access Swapping) (λ heap. swap_move) (λ seat found. replies.Was (stamp_of found)) (λ heap number seat. refl) (λ heap number seat. tt)
+      (λ heap number seat found. refl) (λ heap number seat found. refl) (λ heap number seat words found. refl);
+  words = plain_words (places.Access Swapping) (λ heap. swap_move) (λ heap number seat. refl) (λ heap number seat is. is) (λ heap number seat low. low)
+      (λ heap state book rule number here. beside (λ g below e. omega (arith, e, below)));
+  found = λ heap state book number stands here placed. tt;
+}

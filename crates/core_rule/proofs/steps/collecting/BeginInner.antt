@@ -2,25 +2,10 @@
 use Rattle.std.proofs.Common.{ℕ, ◌<◌, [], length, drop, refl, ◌∙◌, append-nil}
 use Rattle.heap_model.specs.declared.calls.collect.Inner.{Inner}
 use Rattle.heap_model.specs.declared.calls.collect.Inner.TheVariants.{Look, Answer, Behind, Note}
-use Rattle.heap_model.specs.declared.heap.Heap.{Heap}
-use Rattle.heap_model.specs.account.Cycles.{graph_of}
-use Rattle.heap_model.specs.account.PhaseCounts.{phase, last_answer, has_left}
-use Rattle.heap_model.specs.graph.Graph.{Graph}
-use Rattle.heap_model.specs.graph.Objects.{register_value}
+use Rattle.core_rule.proofs.Terms.{Heap, graph_of, phase, last_answer, has_left, Graph, register_value, State, seat_at, after_inner_begin, MayBeginInner, BeginsInner, state_after}
+use Rattle.core_rule.proofs.Terms.{IsMachine, target_of, IsAtRest, register_in, Seat, Book, Awaits, node_at, HoldsValue, Rule, WayStands}
 use Rattle.core_machine.specs.declared.place.Place.TheVariants as places
-use Rattle.core_machine.specs.machine.Machine.{State, seat_at, after_inner_begin, MayBeginInner, BeginsInner, state_after}
-use Rattle.core_machine.specs.machine.Value.{IsMachine}
 use Rattle.core_machine.specs.seat.Collecting.{inner_place}
-use Rattle.core_machine.specs.seat.Commands.{target_of}
-use Rattle.core_machine.specs.seat.Fits.{IsAtRest}
-use Rattle.core_machine.specs.seat.Registers.{register_in}
-use Rattle.core_machine.specs.seat.Seat.{Seat}
-use Rattle.core_rule.specs.Book.{Book}
-use Rattle.core_rule.specs.Counts.{Awaits}
-use Rattle.core_rule.specs.Objects.{node_at}
-use Rattle.core_rule.specs.Registers.{HoldsValue}
-use Rattle.core_rule.specs.Rule.{Rule}
-use Rattle.core_rule.specs.Ways.{WayStands}
 use Rattle.core_rule.proofs.frames.SeatFrames.{AddressAt}
 use Rattle.core_rule.proofs.cycle.FreshCycle.{cycle_fresh}
 use Rattle.core_rule.proofs.entries.AtRest.{seat_fits, none_awaited}
@@ -29,9 +14,9 @@ use Rattle.core_rule.proofs.entries.OwnEntries.{counts_same}
 use Rattle.core_rule.proofs.entries.SeatLists.{all_told}
 use Rattle.core_rule.proofs.entries.Starting.{IsFresh}
 use Rattle.core_rule.proofs.hand.EmptyHand.{nothing_together, none_stored, gathers_none}
-use Rattle.core_rule.proofs.marking.CallRoots.{IsReachedNow}
+use Rattle.core_rule.proofs.roots.CallRoots.{IsReachedNow}
 use Rattle.core_rule.proofs.marking.Marks.{IsOffWay, roots_off_way}
-use Rattle.core_rule.proofs.spines.NoneMade.{MakesNone, none_has_place, none_used, none_weights}
+use Rattle.core_rule.proofs.budgets.NoneMade.{MakesNone, none_has_place, none_used, none_weights}
 use Rattle.core_rule.proofs.spines.SpineFrames.{spine_away}
 use Rattle.core_rule.proofs.steps.Assemble.{Keeps, seat_begins}
 

@@ -1,31 +1,23 @@
 -- A look, and the comparison with another seat's word, keep the rule.
-use Rattle.std.proofs.Common.{◌≡◌, ℕ, ◌<◌, [], filter, subst}
-use Rattle.heap_model.specs.declared.heap.Heap.{Heap}
-use Rattle.heap_model.specs.account.Effects.{is_of}
+use Rattle.std.proofs.Common.{◌≡◌, ℕ, ◌<◌, [], filter, subst, refl}
+use Rattle.core_rule.proofs.Terms.{Heap, is_of, State, seat_at, IsMachine, target_of, IsAtRest, IsSilent, Seat, with_entries, call_over, at, Book, IsAnswered, IsAwaited, Rule}
 use Rattle.core_machine.specs.declared.place.Collecting.{Collecting}
 use Rattle.core_machine.specs.declared.place.Collecting.TheVariants.{Looking, Asking, Comparing}
 use Rattle.core_machine.specs.declared.place.Place.TheVariants as places
 use Rattle.core_machine.specs.declared.table.address.Address.{Address}
 use Rattle.core_machine.specs.declared.table.address.Address.TheVariants.{Phase, Answer}
-use Rattle.core_machine.specs.machine.Machine.{State, seat_at}
-use Rattle.core_machine.specs.machine.Value.{IsMachine}
 use Rattle.core_machine.specs.seat.Collecting.{look_move, asking_move, comparing_move, FitsCollecting}
-use Rattle.core_machine.specs.seat.Commands.{target_of}
-use Rattle.core_machine.specs.seat.Fits.{IsAtRest, IsSilent}
 use Rattle.core_machine.specs.declared.seat.looks.Looks.{Looks}
 use Rattle.core_machine.specs.seat.Looks.{looked, seen_phase, compared}
-use Rattle.core_machine.specs.seat.Seat.{Seat, with_entries, call_over}
-use Rattle.core_machine.specs.table.Layout.{at}
 use Rattle.heap_model.specs.declared.command.Command.TheVariants as commands
-use Rattle.core_rule.specs.Book.{Book}
-use Rattle.core_rule.specs.Gathers.{IsAnswered}
-use Rattle.core_rule.specs.Registers.{IsAwaited}
-use Rattle.core_rule.specs.Rule.{Rule}
 use Rattle.core_rule.proofs.entries.AtRest.{seat_fits}
 use Rattle.core_rule.proofs.entries.SeatLists.{all_told}
 use Rattle.core_rule.proofs.steps.Assemble.{Keeps, StepKeeps}
 use Rattle.core_rule.proofs.steps.Loads.{loaded_state}
 use Rattle.core_rule.proofs.steps.QuietLoads.{quiet_ends, quiet_goes}
+use Rattle.core_rule.proofs.steps.StepKinds.{StepKind, plain_words, only_loads, shows_none, load_follows, compare_follows, find_goes, poll_finds, comparing_finds}
+use Rattle.core_rule.proofs.looks.Finding.{looks_looked, looks_asked, looks_compared}
+use Rattle.core_rule.specs.looks.Looks.{LooksStand}
 
 module _ (heap : Heap) (state : State) (book : Book) (number : ℕ) (rule : Rule heap state book) (here : number < heap.seats) (collecting : Collecting)
     (place : (seat_at state number).place ≡ places.Collecting collecting) where
@@ -64,3 +56,51 @@ asking_keeps other heap state book number rule here place =
 pub comparing_keeps : (other p : ℕ) → StepKeeps (places.Collecting (Comparing other p)) (λ heap number seat. comparing_move seat other p)
 comparing_keeps other p heap state book number rule here place =
     found_ends heap state book number rule here (Comparing other p) place (Answer other) (compared other p (at heap state.words (Answer other)) (seat_at state number).looks)
+
+-- all that is asked of it
+pub look_kind : StepKind (places.Collecting Looking)
+look_kind = record {
+  keeps = λ heap state book number rule here looks. look_keeps heap state book number rule here;
+  shows = λ heap state number. shows_none;
+  looks = record {
+    follows = λ heap state number seat compares placed. load_follows heap state _ _ refl refl;
+    goes = λ heap state book rule number placed. find_goes heap state book rule number _ (λ note. note)
+        (looks_looked heap state book rule number (seat_at state number).place (seat_at state number).looks (λ named. cc (placed, named)));
+    comes = λ heap number seat found placed. tt;
+  };
+  words = plain_words (places.Collecting Looking) (λ heap number. look_move) (λ heap number seat. refl) (λ heap number seat is. is) (λ heap number seat low. low)
+      (λ heap state book rule number here. only_loads (λ word. refl));
+  found = λ heap state book number stands here placed. poll_finds heap state book number stands here (λ idle. cc (placed, idle));
+}
+
+-- all that is asked of it
+pub asking_kind : (other : ℕ) → StepKind (places.Collecting (Asking other))
+asking_kind other = record {
+  keeps = λ heap state book number rule here looks. asking_keeps other heap state book number rule here;
+  shows = λ heap state number. shows_none;
+  looks = record {
+    follows = λ heap state number seat compares placed. load_follows heap state _ _ refl refl;
+    goes = λ heap state book rule number placed. find_goes heap state book rule number _ (λ note. note)
+        (λ was. looks_asked heap state book rule number other (seat_at state number).looks (subst (λ p. LooksStand heap book.history number p (seat_at state number).looks) placed was));
+    comes = λ heap number seat found placed. tt;
+  };
+  words = plain_words (places.Collecting (Asking other)) (λ heap number seat. asking_move seat other) (λ heap number seat. refl) (λ heap number seat is. is) (λ heap number seat low. low)
+      (λ heap state book rule number here. only_loads (λ word. refl));
+  found = λ heap state book number stands here placed. poll_finds heap state book number stands here (λ idle. cc (placed, idle));
+}
+
+-- all that is asked of it
+pub comparing_kind : (other : ℕ) (p : ℕ) → StepKind (places.Collecting (Comparing other p))
+comparing_kind other p = record {
+  keeps = λ heap state book number rule here looks. comparing_keeps other p heap state book number rule here;
+  shows = λ heap state number. shows_none;
+  looks = record {
+    follows = λ heap state number seat compares placed. compare_follows heap state other p seat.looks (compares other p placed);
+    goes = λ heap state book rule number placed. find_goes heap state book rule number _ (λ note. note)
+        (λ was. looks_compared heap state book rule number other p (seat_at state number).looks (subst (λ q. LooksStand heap book.history number q (seat_at state number).looks) placed was));
+    comes = λ heap number seat found placed. tt;
+  };
+  words = plain_words (places.Collecting (Comparing other p)) (λ heap number seat. comparing_move seat other p) (λ heap number seat. refl) (λ heap number seat is. is) (λ heap number seat low. low)
+      (λ heap state book rule number here. only_loads (λ word. refl));
+  found = λ heap state book number stands here placed. comparing_finds heap state book number stands here (λ idle. cc (placed, idle)) other p placed;
+}

@@ -3,28 +3,15 @@ use Rattle.std.proofs.Common.{◌≡◌, ℕ, ◌+◌, ◌*◌, ◌<◌, ◌≤�
 use Rattle.heap_model.specs.declared.calls.collect.CollectReply.{CollectReply}
 use Rattle.heap_model.specs.declared.calls.collect.CollectReply.TheVariants.{Cycle, Waits}
 use Rattle.heap_model.specs.declared.command.Command.TheVariants as commands
-use Rattle.heap_model.specs.declared.heap.Heap.{Heap}
+use Rattle.core_rule.proofs.Terms.{Heap, graph_of, phase, up_to_reply, Graph, graph_seat, State, seat_at, target_of, IsAtRest, IsSilent, Seat, with_seen, at, Book, IsAwaited, Rule}
 use Rattle.heap_model.specs.Command.{IsCommand}
-use Rattle.heap_model.specs.account.Cycles.{graph_of}
-use Rattle.heap_model.specs.account.PhaseCounts.{phase}
-use Rattle.heap_model.specs.account.Windows.{up_to_reply}
-use Rattle.heap_model.specs.graph.Graph.{Graph}
-use Rattle.heap_model.specs.graph.Objects.{graph_seat}
 use Rattle.core_machine.specs.declared.place.Collecting.TheVariants.{Noting}
 use Rattle.core_machine.specs.declared.place.Place.TheVariants as places
 use Rattle.core_machine.specs.declared.table.address.Address.TheVariants.{Phase}
-use Rattle.core_machine.specs.machine.Machine.{State, seat_at}
 use Rattle.core_machine.specs.Moves.{seat_after}
 use Rattle.core_machine.specs.seat.Collecting.{note_move}
-use Rattle.core_machine.specs.seat.Commands.{target_of}
-use Rattle.core_machine.specs.seat.Fits.{IsAtRest, IsSilent}
 use Rattle.core_machine.specs.seat.Looks.{FirstUpTo, MayNote, noted_reply}
-use Rattle.core_machine.specs.seat.Seat.{Seat}
-use Rattle.core_machine.specs.table.Layout.{at}
-use Rattle.core_rule.specs.Book.{Book}
-use Rattle.core_rule.specs.Looks.{WasSeen, WasFound, LooksStand}
-use Rattle.core_rule.specs.Registers.{IsAwaited}
-use Rattle.core_rule.specs.Rule.{Rule}
+use Rattle.core_rule.specs.looks.Looks.{WasSeen, WasFound, LooksStand}
 use Rattle.core_rule.proofs.entries.AtRest.{seat_fits, in_flight}
 use Rattle.core_rule.proofs.entries.Noted.{has_ended, began_since}
 use Rattle.core_rule.proofs.entries.PhaseEntries.{no_leave_told}
@@ -32,10 +19,11 @@ use Rattle.core_rule.proofs.entries.SeatLists.{all_told}
 use Rattle.core_rule.proofs.graph.LocalReplies.{IsLocalReply, HoldAll}
 use Rattle.core_rule.proofs.graph.PutRegister.{only_none}
 use Rattle.core_rule.proofs.lists.Options.{of_some}
-use Rattle.core_rule.proofs.marking.CallRoots.{IsReachedNow}
+use Rattle.core_rule.proofs.roots.CallRoots.{IsReachedNow}
 use Rattle.core_rule.proofs.marking.Marks.{roots_off_way}
 use Rattle.core_rule.proofs.steps.Assemble.{MoveKeeps}
 use Rattle.core_rule.proofs.steps.LocalStep.{local_reply_keeps}
+use Rattle.core_rule.proofs.steps.StepKinds.{StepKind, only_loads, shows_note, load_follows, seen_first, one_own, ends, poll_finds, plain_words}
 
 -- the first look found no earlier phase than the last reply's
 first_after : (heap : Heap) (book : Book) (number q : ℕ) (first : Option ℕ) → IfSome first (WasSeen book.history number) → FirstUpTo first q → phase (up_to_reply number book.history) ≤ q
@@ -101,3 +89,19 @@ module _ (heap : Heap) (state : State) (book : Book) (number : ℕ) (rule : Rule
       (no_leave_told number number seat.command (noted_reply reply) (λ leaves. absurd (cc (leaves, fits.1))))
       record { idle = refl; reserve = refl; mine = refl; answered = refl; asked = sym silent.none_asked; made = refl; sets = refl; left = refl }
       (λ marks. roots_off_way (IsReachedNow heap state book) seat now refl tt)
+
+-- all that is asked of it
+pub note_kind : (reply : CollectReply) → StepKind (places.Collecting (Noting reply))
+note_kind reply = record {
+  keeps = λ heap state book number rule here looks. note_keeps heap state book number rule here looks reply;
+  shows = λ heap state number. shows_note number (seat_at state number) reply;
+  looks = record {
+    follows = λ heap state number seat compares placed. load_follows heap state _ _ refl refl;
+    goes = λ heap state book rule number placed. seen_first heap state book rule number _ _ (λ other p comparing. cc (placed, comparing))
+        (ends heap number book.history (with_seen (at heap state.words Phase) (seat_at state number)) _ _ refl refl (one_own number));
+    comes = λ heap number seat found placed. tt;
+  };
+  words = plain_words (places.Collecting (Noting reply)) (λ heap number seat. note_move number seat reply) (λ heap number seat. refl) (λ heap number seat is. is) (λ heap number seat low. low)
+      (λ heap state book rule number here. only_loads (λ word. refl));
+  found = λ heap state book number stands here placed. poll_finds heap state book number stands here (λ idle. cc (placed, idle));
+}

@@ -2,44 +2,30 @@
 use Rattle.std.proofs.Common.{◌≡◌, ◌≢◌, ℕ, ◌+◌, ◌*◌, ◌%◌, ◌<◌, List, length, refl, sym, ap, ◌∙◌, subst, arith, inl, inr, Bool, true, false}
 use Rattle.std.proofs.lemmas.Bool.{cases_lt}
 use Rattle.std.proofs.lemmas.Bool.Decides.{eqb_tells}
-use Rattle.heap_model.specs.declared.entry.Entry.TheVariants.{Advance}
-use Rattle.heap_model.specs.declared.heap.Heap.{Heap}
-use Rattle.heap_model.specs.account.Cycles.{graph_of}
-use Rattle.heap_model.specs.account.PhaseCounts.{phase}
-use Rattle.heap_model.specs.graph.Graph.{Graph, Node}
-use Rattle.core_machine.specs.collector.Collector.{turn_at}
+use Rattle.core_rule.proofs.Terms.{cycle_phases, Advance, Heap, graph_of, phase, Graph, Node, turn_at, HasLooked, State, seat_at, Book, nodes_in, MarkingStands, AfterMarking}
+use Rattle.core_rule.proofs.Terms.{SweepStands, HasMarked, IsSettled, IsKept, node_at, Dead, SpineOwner, AddressStands, Rule, HeapStands, SeatStands, HasPlace, next_spine}
+use Rattle.heap_model.specs.PhasePlan.{barriers as barriers_phase, clearing as clearing_phase, sweep as sweep_phase}
 use Rattle.core_machine.specs.declared.collector.stage.Stage.TheVariants as stages
-use Rattle.core_machine.specs.collector.FitsTurns.{FitsStage, HasLooked}
-use Rattle.core_machine.specs.machine.Machine.{State, seat_at}
-use Rattle.core_rule.specs.Book.{Book}
-use Rattle.core_rule.specs.Budgets.{nodes_in}
-use Rattle.core_rule.specs.Marking.{MarkingStands, AfterMarking}
-use Rattle.core_rule.specs.Sweep.{SweepStands, HasMarked, IsSettled}
-use Rattle.core_rule.specs.Objects.{IsKept, node_at}
-use Rattle.core_rule.specs.Owners.{Dead, SpineOwner}
-use Rattle.core_rule.specs.Replicas.{AddressStands}
-use Rattle.core_rule.specs.Rule.{Rule, HeapStands, SeatStands}
-use Rattle.core_rule.specs.Spines.{HasPlace, next_spine}
+use Rattle.core_machine.specs.collector.FitsTurns.{FitsStage}
 use Rattle.core_rule.proofs.cycle.NextPhase.{coloured_next}
 use Rattle.core_rule.proofs.entries.Legality.{legal_more, keeps_begins}
 use Rattle.core_rule.proofs.entries.AtRest.{seat_fits}
 use Rattle.core_rule.proofs.marking.Marks.{all_answered}
-use Rattle.core_rule.proofs.spines.Leaving.{has_place_present, arrays_here, hands_here}
-use Rattle.core_rule.proofs.spines.LeftHalf.{let_go, spines_let_go, hand_let_go, address_let_go}
-use Rattle.core_rule.proofs.spines.PhaseSpaces.{EndsPhase, lets_other}
+use Rattle.core_rule.proofs.halves.Leaving.{has_place_present, arrays_here, hands_here}
+use Rattle.core_rule.proofs.halves.LeftHalf.{let_go, spines_let_go, hand_let_go, address_let_go}
+use Rattle.core_rule.proofs.halves.PhaseSpaces.{EndsPhase, lets_other}
 use Rattle.core_rule.proofs.steps.TurnSteps.{StageKeeps, TurnKeeps}
 use Rattle.core_rule.proofs.steps.collector.PhaseTurn.{BeginsNext, MayLetGo, words_next, later, graph, leads_next, all_answer, next_told, all_stay, phase_turns, marks_next}
+use Rattle.core_rule.proofs.steps.TurnKinds.{TurnKind, beside, begins_phase, keeps_whole, keeps_bits, beside_spines, looked_all}
+use Rattle.core_rule.proofs.turns.LookTurns.{advance_leaves}
 
 pub advance_begins : (now : ℕ) → BeginsNext now (Advance (now + 1))
 advance_begins now = record {
   phases = refl;
   uses = record { taken = refl; given = refl; freed = refl };
-  spines = record { begins = refl; anew = λ rests. let first : (now + 1) % 7 ≡ 1 = omega (arith, rests) in rw first refl; granted = refl; returned = refl };
-  answers = refl;
-  nobodys = λ r. refl;
-  no_leave = λ r. refl;
+  spines = record { begins = refl; anew = λ rests. let first : (now + 1) % cycle_phases ≡ barriers_phase = omega (arith, rests) in rw first refl; granted = refl; returned = refl };
+  tells = record { answers = refl; nobodys = λ r. refl; no_leave = λ r. refl; graph_stays = λ g. refl };
   collectors = refl;
-  graph_stays = λ g. refl;
 }
 
 module _ (heap : Heap) (state : State) (book : Book) (rule : Rule heap state book) (advancing : state.collector.stage ≡ stages.Advancing) where
@@ -50,11 +36,11 @@ module _ (heap : Heap) (state : State) (book : Book) (rule : Rule heap state boo
   has_looked = subst (FitsStage heap p state.collector.looked) advancing rule.machine.collector_fit.at_stage
 
   -- it isn't the last phase of a cycle
-  within : phase book.history % 7 ≢ 6
-  within last = has_looked.goes_on (ap (λ n. n % 7) rule.collector_stands.phase_told ∙ last)
+  within : phase book.history % cycle_phases ≢ clearing_phase
+  within last = has_looked.goes_on (ap (λ n. n % cycle_phases) rule.collector_stands.phase_told ∙ last)
 
   -- what is to be freed is freed by the end of the sweep
-  all_freed : p % 7 ≡ 5 → (f i k : ℕ) → book.owner f ≢ Dead i k
+  all_freed : p % cycle_phases ≡ sweep_phase → (f i k : ℕ) → book.owner f ≢ Dead i k
   all_freed swept f i k is = elim (cases_lt f (16 * heap.groups)) [
     | inl below ↦ subst (SweepStands heap book.owner book.colour p) advancing rule.marks_stand.heap_marks.sweep_stands swept f i k (omega (arith, below)) is
     | inr past ↦ let none = rule.heap_stands.control_words.outside f past in absurd (cc (none, is))
@@ -62,7 +48,7 @@ module _ (heap : Heap) (state : State) (book : Book) (rule : Rule heap state boo
 
   -- nothing is to be freed then, but where that is known already
   alive_then : ¬ IsSettled (p + 1) stages.Looking → (f i k : ℕ) → book.owner f ≢ Dead i k
-  alive_then unsettled f i k = elim (eqb_tells (p % 7) 5) [
+  alive_then unsettled f i k = elim (eqb_tells (p % cycle_phases) sweep_phase) [
     | inl swept ↦ all_freed swept.1 f i k
     | inr other ↦ rule.marks_stand.heap_marks.alive (λ settled. elim settled [
       | inl marked ↦ unsettled (inr (inl (omega (arith, marked.0))))
@@ -102,15 +88,15 @@ module _ (heap : Heap) (state : State) (book : Book) (rule : Rule heap state boo
       (leads_next heap state book rule all (Advance (p + 1)) begins) rule.heap_stands.cycle.coloured)
       marks_then machine
 
-  module _ (swept : p % 7 ≡ 5) where
+  module _ (swept : p % cycle_phases ≡ sweep_phase) where
     abbrev half : ℕ
     half = (next_spine heap state.words).half
 
     -- a seat that hasn't left has answered the sweep
-    answered_sweep : (r : ℕ) → r < heap.seats → (seat_at state r).left ≡ false → (seat_at state r).answered % 7 ≡ 5
-    answered_sweep r below present = ap (λ n. n % 7) (all_answered heap state book rule has_looked.all r below present) ∙ swept
+    answered_sweep : (r : ℕ) → r < heap.seats → (seat_at state r).left ≡ false → (seat_at state r).answered % cycle_phases ≡ sweep_phase
+    answered_sweep r below present = ap (λ n. n % cycle_phases) (all_answered heap state book rule has_looked.all r below present) ∙ swept
 
-    placed_answered : (r : ℕ) → r < heap.seats → HasPlace (seat_at state r) (seat_at state r).place → (seat_at state r).answered % 7 ≡ 5
+    placed_answered : (r : ℕ) → r < heap.seats → HasPlace (seat_at state r) (seat_at state r).place → (seat_at state r).answered % cycle_phases ≡ sweep_phase
     placed_answered r below has = answered_sweep r below (has_place_present heap (seat_at state r) (seat_fits rule r below) has)
 
     -- so its spine stands in the half of the next one, and so do those of arrays
@@ -187,8 +173,20 @@ module _ (heap : Heap) (state : State) (book : Book) (rule : Rule heap state boo
 
 -- the begin of the next phase keeps the rule
 pub advance_keeps : StageKeeps stages.Advancing
-advance_keeps heap state book rule advancing = elim (eqb_tells (state.collector.phase % 7) 5) as (λ _. TurnKeeps heap state book (turn_at heap state.collector stages.Advancing)) [
+advance_keeps heap state book rule advancing = elim (eqb_tells (state.collector.phase % cycle_phases) sweep_phase) as (λ _. TurnKeeps heap state book (turn_at heap state.collector stages.Advancing)) [
   | inl swept ↦ keeps_with heap state book rule advancing _ (may_let_go heap state book rule advancing swept.1)
   | inr other ↦ keeps_with heap state book rule advancing book.spine_owner
       (all_stay heap state book rule (has_looked heap state book rule advancing).all _ (advance_begins state.collector.phase) (ends_phase heap state book rule advancing) other.1)
 ]
+
+-- all that is asked of it
+pub advance_kind : TurnKind stages.Advancing
+advance_kind = record {
+  keeps = keeps_whole stages.Advancing advance_keeps;
+  fewer = λ few. advance_leaves;
+  inside = λ heap state book rule cycle is. tt;
+  shape = λ heap collector found. begins_phase;
+  looked = looked_all stages.Advancing (λ heap phase looked fits. fits.all);
+  bits = keeps_bits stages.Advancing (λ heap collector. beside (λ g below e. omega (arith, e, below)));
+  spines = beside_spines stages.Advancing (λ heap collector. tt);
+}

@@ -1,31 +1,22 @@
 -- A scanned fragment gets black: that keeps the rule.
 use Rattle.std.specs.Prelude.{bit_or}
-use Rattle.std.proofs.Common.{◌≡◌, ℕ, ◌/◌, ◌%◌, ◌<◌, true, List, inl, inr, sym, ap, ◌∙◌, subst, arith}
+use Rattle.std.proofs.Common.{◌≡◌, ℕ, ◌/◌, ◌%◌, ◌<◌, true, List, inl, inr, sym, ap, ◌∙◌, subst, arith, refl}
 use Rattle.std.proofs.lemmas.Bool.Decides.{eqb_tells}
-use Rattle.heap_words.specs.Control.{blacken_bit_of}
-use Rattle.heap_model.specs.declared.heap.Heap.{Heap}
-use Rattle.heap_model.specs.account.PhaseCounts.{phase}
-use Rattle.core_machine.specs.collector.FitsTurns.{IsBlackening}
+use Rattle.core_rule.proofs.Terms.{cycle_phases, blacken_bit_of, Heap, phase, IsBlackening, Control, State, at, put, Book, Colour, White, Grey, WordPointsTo, IsSeenWhole}
+use Rattle.core_rule.proofs.Terms.{MarkingStands, Borne, Kept, IsWhite, Edge, IsReached, Rule, HasMarked}
+use Rattle.heap_model.specs.PhasePlan.{marking as marking_phase}
 use Rattle.core_machine.specs.declared.collector.stage.Scan.{Scan}
 use Rattle.core_machine.specs.declared.collector.stage.Stage.TheVariants as stages
-use Rattle.core_machine.specs.declared.table.address.Address.TheVariants.{Control}
-use Rattle.core_machine.specs.machine.Machine.{State}
-use Rattle.core_machine.specs.table.Layout.{at, put}
-use Rattle.core_rule.specs.Book.{Book, Colour, White, Grey}
-use Rattle.core_rule.specs.Colours.{WordPointsTo}
-use Rattle.core_rule.specs.Marking.{IsSeenWhole, MarkingStands}
-use Rattle.core_rule.specs.Owners.{Borne, Kept}
-use Rattle.core_rule.specs.Paths.{IsWhite, Edge, IsReached}
-use Rattle.core_rule.specs.Rule.{Rule}
-use Rattle.core_rule.proofs.colours.OneBit.{bits_marked}
+use Rattle.core_rule.proofs.colours.OneBit.{bits_marked, bit_above}
 use Rattle.core_rule.proofs.colours.BlackenColours.{with_scan, scan_away, scan_keeps, scan_was, scan_grey, marks_blacken, coloured_blacken}
 use Rattle.core_rule.proofs.colours.LeadsFrames.{control_leads}
 use Rattle.core_rule.proofs.frames.Recoloured.{Recolours}
-use Rattle.core_rule.specs.Sweep.{HasMarked}
 use Rattle.core_rule.proofs.marking.Marks.{marks_at, none_dead}
 use Rattle.core_rule.proofs.marking.Paths.{path_stays}
 use Rattle.core_rule.proofs.steps.collector.ColourTurn.{colour_turns}
 use Rattle.core_rule.proofs.steps.TurnSteps.{StageKeeps}
+use Rattle.core_rule.proofs.steps.TurnKinds.{TurnKind, quiet_shape, spares, keeps_whole, keeps_bits, beside_spines, looked_all}
+use Rattle.core_rule.proofs.turns.MarkingTurns.{blacken_leaves}
 
 module _ (heap : Heap) (state : State) (book : Book) (rule : Rule heap state book) (scan : Scan) (blackening : state.collector.stage ≡ stages.Blackening scan) where
   abbrev f : ℕ
@@ -46,8 +37,8 @@ module _ (heap : Heap) (state : State) (book : Book) (rule : Rule heap state boo
   below : f / 16 < heap.groups
   below = omega (arith, fits.fragment_within)
 
-  third : phase book.history % 7 ≡ 3
-  third = ap (λ p. p % 7) (sym rule.collector_stands.phase_told) ∙ fits.marks.for_marking
+  third : phase book.history % cycle_phases ≡ marking_phase
+  third = ap (λ p. p % cycle_phases) (sym rule.collector_stands.phase_told) ∙ fits.marks.for_marking
 
   new : Recolours heap words book coloured
   new = record {
@@ -84,3 +75,15 @@ blacken_keeps scan heap state book rule blackening machine =
     colour_turns heap state book rule (stages.Blackening scan) (stages.Passing (scan.fragment / 16) true) blackening (scan.fragment / 16) _ (below heap state book rule scan blackening)
     (with_scan book.colour scan.fragment) (new heap state book rule scan blackening) machine (marks heap state book rule scan blackening) tt tt (comes heap state book rule scan blackening)
     (λ x i k owned before marked. inl (scan_was book.colour scan.fragment (seen heap state book rule scan blackening).grey x marked))
+
+-- all that is asked of it
+pub blacken_kind : (scan : Scan) → TurnKind (stages.Blackening scan)
+blacken_kind scan = record {
+  keeps = keeps_whole (stages.Blackening scan) (blacken_keeps scan);
+  fewer = blacken_leaves scan;
+  inside = λ heap state book rule cycle is. tt;
+  shape = λ heap collector found. quiet_shape heap collector found (stages.Blackening scan) refl refl;
+  looked = looked_all (stages.Blackening scan) (λ heap phase looked fits. fits.marks.all);
+  bits = keeps_bits (stages.Blackening scan) (λ heap collector. spares (scan.fragment / 16) refl (λ word i above below. bit_above word 48 scan.fragment i (omega (arith, below))));
+  spines = beside_spines (stages.Blackening scan) (λ heap collector. tt);
+}

@@ -1,29 +1,24 @@
 -- The collector clears the marks of a group: that keeps the rule.
 use Rattle.std.proofs.Common.{◌≡◌, ℕ, ◌+◌, ◌%◌, ◌≤◌, List, [], refl, sym, ap, ◌∙◌, subst, arith, inl}
 use Rattle.std.proofs.lemmas.List.{append-nil}
-use Rattle.heap_model.specs.declared.heap.Heap.{Heap}
-use Rattle.heap_model.specs.account.PhaseCounts.{phase}
-use Rattle.core_machine.specs.collector.FitsTurns.{IsClearing}
+use Rattle.core_rule.proofs.Terms.{cycle_phases, Heap, phase, IsClearing, Stage, Control, State, at, Book, ScanStands, IsFewWords, PassStands, MarkingStands, IsSettled}
+use Rattle.core_rule.proofs.Terms.{SweepStands, AreCleared, Rule}
+use Rattle.heap_model.specs.PhasePlan.{clearing as clearing_phase}
 use Rattle.core_machine.specs.collector.Sweeping.{taken_count_of, after_cleared}
-use Rattle.core_machine.specs.declared.collector.stage.Stage.{Stage}
 use Rattle.core_machine.specs.declared.collector.stage.Stage.TheVariants as stages
-use Rattle.core_machine.specs.declared.table.address.Address.TheVariants.{Control}
-use Rattle.core_machine.specs.machine.Machine.{State}
-use Rattle.core_machine.specs.table.Layout.{at}
-use Rattle.core_rule.specs.Book.{Book}
-use Rattle.core_rule.specs.Marking.{ScanStands, IsFewWords, PassStands, MarkingStands}
-use Rattle.core_rule.specs.Sweep.{IsSettled, SweepStands, AreCleared}
-use Rattle.core_rule.specs.Rule.{Rule}
-use Rattle.core_rule.proofs.footprint.BookGoing.{colours_go}
+use Rattle.core_rule.proofs.book.BookGoing.{colours_go}
 use Rattle.core_rule.proofs.frames.Clearing.{words_cleared, book_cleared, leaves_spines, heap_cleared, seat_cleared}
 use Rattle.core_rule.proofs.marking.Marks.{settled_phase}
 use Rattle.core_rule.proofs.marking.SweepMarks.{after_cleared_either}
-use Rattle.core_rule.proofs.spines.BudgetFrames.{grants_same}
-use Rattle.core_rule.proofs.spines.HalvesFrames.{IsPlain}
-use Rattle.core_rule.proofs.spines.StagesOn.{plain_goes_on}
+use Rattle.core_rule.proofs.budgets.BudgetFrames.{grants_same}
+use Rattle.core_rule.proofs.halves.HalvesFrames.{IsPlain}
+use Rattle.core_rule.proofs.halves.StagesOn.{plain_goes_on}
 use Rattle.core_rule.proofs.steps.collector.ColourTurn.{at_stage, agrees_at}
 use Rattle.core_rule.proofs.steps.TurnSteps.{StageKeeps, quiet, turn_steps, turn_space}
 use Rattle.core_rule.proofs.words.SweepWords.{cleared_further, cleared_grey, cleared_in, cleared_was}
+use Rattle.core_rule.proofs.steps.TurnKinds.{TurnKind, quiet_shape, cleared_inside, spares, keeps_whole, keeps_bits, beside_spines, looked_all}
+use Rattle.core_rule.proofs.turns.SweepTurns.{clear_leaves}
+use Rattle.core_rule.proofs.words.SweepBits.{cleared_low}
 
 module _ (heap : Heap) (state : State) (book : Book) (rule : Rule heap state book) (group kept : ℕ) (clearing : state.collector.stage ≡ stages.Clearing group kept) where
   fits : IsClearing heap state.collector.phase state.collector.looked group kept
@@ -32,8 +27,8 @@ module _ (heap : Heap) (state : State) (book : Book) (rule : Rule heap state boo
   cleared : AreCleared book.colour group
   cleared = subst (SweepStands heap book.owner book.colour state.collector.phase) clearing rule.marks_stand.heap_marks.sweep_stands
 
-  last : phase book.history % 7 ≡ 6
-  last = ap (λ p. p % 7) (sym rule.collector_stands.phase_told) ∙ fits.for_clearing
+  last : phase book.history % cycle_phases ≡ clearing_phase
+  last = ap (λ p. p % cycle_phases) (sym rule.collector_stands.phase_told) ∙ fits.for_clearing
 
   -- marking and the sweep are over
   unsettled : (stage : Stage) → ¬ IsSettled state.collector.phase stage
@@ -87,3 +82,15 @@ clear_keeps group kept heap state book rule clearing machine =
     (plain_goes_on heap state.words words now state.collector (quiet (at_stage state.collector stage)) refl (subst IsPlain (sym clearing) tt)
     (after_cleared_either IsPlain heap group (kept + taken_count_of (at heap state.words (Control group))) tt (λ all. tt)) (leaves_spines heap state book rule group fits.group_within).spines rule.space.halves.copy))
     (colours_go heap state book (cleared_in group book.colour) (λ f i k owned below marked. inl (cleared_was group book.colour f marked)))
+
+-- all that is asked of it
+pub clear_kind : (group : ℕ) (kept : ℕ) → TurnKind (stages.Clearing group kept)
+clear_kind group kept = record {
+  keeps = keeps_whole (stages.Clearing group kept) (clear_keeps group kept);
+  fewer = λ few. clear_leaves group kept;
+  inside = λ heap state book rule cycle is. cleared_inside heap state book rule cycle group kept is;
+  shape = λ heap collector found. quiet_shape heap collector found (stages.Clearing group kept) refl refl;
+  looked = looked_all (stages.Clearing group kept) (λ heap phase looked fits. fits.all);
+  bits = keeps_bits (stages.Clearing group kept) (λ heap collector. spares group refl (λ word i above below. cleared_low word i below));
+  spines = beside_spines (stages.Clearing group kept) (λ heap collector. tt);
+}

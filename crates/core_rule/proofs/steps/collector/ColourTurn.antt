@@ -1,28 +1,16 @@
 -- A turn of the collector that colours a fragment keeps the rule.
 use Rattle.std.proofs.Common.{◌≡◌, ℕ, ◌<◌, List, [], refl, sym, subst}
 use Rattle.std.proofs.lemmas.List.{append-nil}
-use Rattle.heap_model.specs.declared.heap.Heap.{Heap}
-use Rattle.core_machine.specs.collector.Collector.{Collector}
-use Rattle.core_machine.specs.declared.collector.stage.Stage.{Stage}
+use Rattle.core_rule.proofs.Terms.{Heap, Collector, Stage, Control, State, seat_at, IsMachine, at, put, Book, Colour, MarkingStands, IsReached, CollectorAgrees, Rule, HasMarked}
 use Rattle.core_machine.specs.declared.table.address.Address.{Address}
-use Rattle.core_machine.specs.declared.table.address.Address.TheVariants.{Control}
-use Rattle.core_machine.specs.machine.Machine.{State, seat_at}
-use Rattle.core_machine.specs.machine.Value.{IsMachine}
-use Rattle.core_machine.specs.table.Layout.{at, put}
-use Rattle.core_rule.specs.Book.{Book, Colour}
-use Rattle.core_rule.specs.Marking.{MarkingStands}
-use Rattle.core_rule.specs.Roots.{RootsAreReached}
-use Rattle.core_rule.specs.Paths.{IsReached}
-use Rattle.core_rule.specs.Phases.{CollectorAgrees}
-use Rattle.core_rule.specs.Rule.{Rule}
-use Rattle.core_rule.specs.Sweep.{HasMarked}
-use Rattle.core_rule.proofs.footprint.BookGoing.{ColoursGoOn, colours_go}
+use Rattle.core_rule.specs.roots.Roots.{RootsAreReached}
+use Rattle.core_rule.proofs.book.BookGoing.{ColoursGoOn, colours_go}
 use Rattle.core_rule.proofs.frames.Recoloured.{Recolours, leaves_spines, heap_recoloured, seat_recoloured}
 use Rattle.core_rule.proofs.marking.MarkingStages.{OfMarking, marking_goes, marking_plain}
 use Rattle.core_rule.proofs.marking.Marks.{roots_more}
-use Rattle.core_rule.proofs.spines.BudgetFrames.{grants_same}
-use Rattle.core_rule.proofs.spines.HalvesFrames.{StageGoesOn, IsPlain}
-use Rattle.core_rule.proofs.spines.StagesOn.{plain_goes_on}
+use Rattle.core_rule.proofs.budgets.BudgetFrames.{grants_same}
+use Rattle.core_rule.proofs.halves.HalvesFrames.{StageGoesOn, IsPlain}
+use Rattle.core_rule.proofs.halves.StagesOn.{plain_goes_on}
 use Rattle.core_rule.proofs.steps.Assemble.{Keeps}
 use Rattle.core_rule.proofs.steps.TurnSteps.{after_turn, quiet, turn_steps, turn_space, load_turns}
 

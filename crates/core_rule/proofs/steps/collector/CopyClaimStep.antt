@@ -2,27 +2,22 @@
 use Rattle.std.proofs.Common.{◌≡◌, ℕ, ◌+◌, List, [], ◌++◌, refl, sym, ap, arith}
 use Rattle.std.proofs.lemmas.List.{append-nil}
 use Rattle.heap_words.specs.declared.spot.Spot.{Spot}
-use Rattle.heap_model.specs.declared.entry.Entry.{Entry}
-use Rattle.heap_model.specs.declared.heap.Heap.{Heap}
+use Rattle.core_rule.proofs.Terms.{Entry, Heap, Stage, State, Book, copying_words, SpineOwner, Rule, SpaceStands, next_spine}
 use Rattle.core_machine.specs.collector.Copying.{copy_at}
 use Rattle.core_machine.specs.declared.collector.stage.ArrayAt.{ArrayAt}
 use Rattle.core_machine.specs.declared.collector.stage.Copying.TheVariants.{Claiming}
-use Rattle.core_machine.specs.declared.collector.stage.Stage.{Stage}
 use Rattle.core_machine.specs.declared.collector.stage.Stage.TheVariants as stages
-use Rattle.core_machine.specs.machine.Machine.{State}
-use Rattle.core_rule.specs.Book.{Book}
-use Rattle.core_rule.specs.Budgets.{copying_words}
-use Rattle.core_rule.specs.Owners.{SpineOwner}
-use Rattle.core_rule.specs.Rule.{Rule, SpaceStands}
-use Rattle.core_rule.specs.Spines.{next_spine}
 use Rattle.core_rule.proofs.copies.CopyClaims.{to_copy, few, copy, now, owners, later, has_claimed, budget_same, heap_copying, seat_copying}
 use Rattle.core_rule.proofs.copies.CopyWords.{copy_leads}
 use Rattle.core_rule.proofs.copies.CopyingStages.{LeadsBy, turned, in_copying, after_marking, few_from, marks_copying, halves_led, budgets_led}
 use Rattle.core_rule.proofs.copies.VisitsOn.{arrays_from}
-use Rattle.core_rule.proofs.footprint.BookGoing.{spines_go}
+use Rattle.core_rule.proofs.book.BookGoing.{spines_go}
 use Rattle.core_rule.proofs.spines.SpotClaims.{next_claimed, before_claimed}
 use Rattle.core_rule.proofs.steps.collector.ColourTurn.{agrees_at, at_stage}
 use Rattle.core_rule.proofs.steps.TurnSteps.{StageKeeps, quiet, turn_steps}
+use Rattle.core_rule.proofs.steps.TurnKinds.{TurnKind, quiet_shape, Inside, beside, keeps_whole, keeps_bits, looked_all}
+use Rattle.core_rule.proofs.turns.CopyTurns.{copy_turn_leaves, claiming_leaves}
+use Rattle.core_rule.proofs.turns.WorkCases.{copy_on}
 
 module _ (heap : Heap) (state : State) (book : Book) (rule : Rule heap state book) (array : ArrayAt) (from : Spot) (claiming : state.collector.stage ≡ stages.Copying (Claiming array from)) where
   abbrev next : Stage
@@ -65,3 +60,19 @@ copy_claim_keeps array from heap state book rule claiming machine =
     }
     (space heap state book rule array from claiming (state.collector.log ++ []))
     (spines_go heap state book (owner heap state book rule array from claiming))
+
+-- all that is asked of it
+pub copy_claim_kind : (array : ArrayAt) (from : Spot) → TurnKind (stages.Copying (Claiming array from))
+copy_claim_kind array from = record {
+  keeps = keeps_whole (stages.Copying (Claiming array from)) (copy_claim_keeps array from);
+  fewer = copy_turn_leaves (Claiming array from) (claiming_leaves array from);
+  inside = λ heap state book rule cycle is. copy_on (Inside heap state book rule cycle) (λ stage. tt) tt heap _;
+  shape = λ heap collector found. quiet_shape heap collector found (stages.Copying (Claiming array from)) refl refl;
+  looked = looked_all (stages.Copying (Claiming array from)) (λ heap phase looked fits. fits.0.all);
+  bits = keeps_bits (stages.Copying (Claiming array from)) (λ heap collector. beside (λ g below e. omega (arith, e, below)));
+  spines = record {
+    there = λ heap state book rule is there. there;
+    stores = λ heap collector half offset word due. absurd (cc due);
+    claims = λ heap collector words due. (array, from, refl, cc due);
+  };
+}

@@ -1,36 +1,26 @@
 -- The end of a cycle keeps the rule, where the cycle may end.
 use Rattle.std.proofs.Common.{◌≡◌, ◌≢◌, ℕ, ◌+◌, ◌*◌, ◌/◌, ◌%◌, false, refl, sym, ap, ◌∙◌, subst, arith, inl, inr}
 use Rattle.std.proofs.lemmas.Bool.{cases_lt}
-use Rattle.heap_model.specs.declared.entry.Entry.{Entry}
-use Rattle.heap_model.specs.declared.entry.Entry.TheVariants.{Ends}
-use Rattle.heap_model.specs.declared.heap.Heap.{Heap}
-use Rattle.heap_model.specs.account.Cycles.{EndsCycle}
-use Rattle.heap_model.specs.account.PhaseCounts.{phase}
+use Rattle.core_rule.proofs.Terms.{cycle_phases, Entry, Ends, Heap, EndsCycle, phase, turn_at, HasCleared, State, Book, White, MarkingStands, AfterMarking, Dead, Rule, SweepStands}
+use Rattle.core_rule.proofs.Terms.{IsSettled}
+use Rattle.heap_model.specs.PhasePlan.{clearing as clearing_phase}
 use Rattle.core_machine.specs.declared.collector.stage.Stage.TheVariants as stages
-use Rattle.core_machine.specs.collector.Collector.{turn_at}
-use Rattle.core_machine.specs.collector.FitsTurns.{FitsStage, HasCleared}
-use Rattle.core_machine.specs.machine.Machine.{State}
-use Rattle.core_rule.specs.Book.{Book, White}
-use Rattle.core_rule.specs.Marking.{MarkingStands, AfterMarking}
-use Rattle.core_rule.specs.Owners.{Dead}
-use Rattle.core_rule.specs.Rule.{Rule}
-use Rattle.core_rule.specs.Sweep.{SweepStands, IsSettled}
+use Rattle.core_machine.specs.collector.FitsTurns.{FitsStage}
 use Rattle.core_rule.proofs.cycle.NextPhase.{coloured_rest}
 use Rattle.core_rule.proofs.entries.Legality.{legal_more, keeps_ends}
-use Rattle.core_rule.proofs.spines.PhaseSpaces.{EndsPhase}
+use Rattle.core_rule.proofs.halves.PhaseSpaces.{EndsPhase}
 use Rattle.core_rule.proofs.steps.TurnSteps.{TurnKeeps}
 use Rattle.core_rule.proofs.steps.collector.PhaseTurn.{BeginsNext, words_next, all_stay, phase_turns, marks_next}
+use Rattle.core_rule.proofs.steps.TurnKinds.{TurnKind, beside, ends_cycle, keeps_bits, beside_spines, looked_all}
+use Rattle.core_rule.proofs.turns.SweepTurns.{end_leaves}
 
-end_begins : (now cycle kept : ℕ) → now % 7 ≡ 6 → BeginsNext now (Ends cycle kept)
+end_begins : (now cycle kept : ℕ) → now % cycle_phases ≡ clearing_phase → BeginsNext now (Ends cycle kept)
 end_begins now cycle kept last = record {
   phases = refl;
   uses = record { taken = refl; given = refl; freed = refl };
   spines = record { begins = refl; anew = λ rests. absurd (omega (arith, rests, last)); granted = refl; returned = refl };
-  answers = refl;
-  nobodys = λ r. refl;
-  no_leave = λ r. refl;
+  tells = record { answers = refl; nobodys = λ r. refl; no_leave = λ r. refl; graph_stays = λ g. refl };
   collectors = refl;
-  graph_stays = λ g. refl;
 }
 
 module _ (kept : ℕ) (heap : Heap) (state : State) (book : Book) (rule : Rule heap state book) (ending : state.collector.stage ≡ stages.Ending kept) where
@@ -44,8 +34,8 @@ module _ (kept : ℕ) (heap : Heap) (state : State) (book : Book) (rule : Rule h
   has_cleared = subst (FitsStage heap p state.collector.looked) ending rule.machine.collector_fit.at_stage
 
   -- it is the last phase of a cycle
-  last : phase book.history % 7 ≡ 6
-  last = ap (λ n. n % 7) (sym rule.collector_stands.phase_told) ∙ has_cleared.for_clearing
+  last : phase book.history % cycle_phases ≡ clearing_phase
+  last = ap (λ n. n % cycle_phases) (sym rule.collector_stands.phase_told) ∙ has_cleared.for_clearing
 
   -- nothing is copied or returned then
   ends_phase : EndsPhase p state.collector.stage
@@ -95,3 +85,15 @@ end_keeps kept heap state book rule ending ends machine =
     (coloured_rest heap state.words (words_next heap state book rule all (Ends cycle kept) begins) book.owner book.colour book.fragments (phase book.history)
     (last kept heap state book rule ending) (all_white kept heap state book rule ending) rule.heap_stands.cycle.coloured)
     (marks_then kept heap state book rule ending) machine
+
+-- all that is asked of it
+pub end_kind : (kept : ℕ) → TurnKind (stages.Ending kept)
+end_kind kept = record {
+  keeps = λ heap state book rule ends is. end_keeps kept heap state book rule is (ends kept is);
+  fewer = λ few. end_leaves kept;
+  inside = λ heap state book rule cycle is. tt;
+  shape = λ heap collector found. ends_cycle kept;
+  looked = looked_all (stages.Ending kept) (λ heap phase looked fits. fits.all);
+  bits = keeps_bits (stages.Ending kept) (λ heap collector. beside (λ g below e. omega (arith, e, below)));
+  spines = beside_spines (stages.Ending kept) (λ heap collector. tt);
+}

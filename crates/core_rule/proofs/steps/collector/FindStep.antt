@@ -2,28 +2,21 @@
 use Rattle.std.proofs.Common.{◌≡◌, ◌≢◌, ℕ, ◌+◌, ◌<◌, true, length, refl, sym, ap, ◌∙◌, subst, inl, inr, arith}
 use Rattle.std.proofs.lemmas.Bool.Decides.{eqb_tells}
 use Rattle.heap_words.specs.declared.spot.Spot.{Spot}
-use Rattle.heap_words.specs.Spot.{spot_in}
-use Rattle.heap_model.specs.declared.heap.Heap.{Heap}
-use Rattle.heap_model.specs.account.Cycles.{graph_of}
+use Rattle.core_rule.proofs.Terms.{spot_in, Heap, graph_of, Word, State, id_of, at, FitsSpot, Book, fragment_at, IsKept, node_at, VisitIsMarked, BeginsArray, HasFoundArray, Rule}
+use Rattle.core_rule.proofs.Terms.{next_spine}
 use Rattle.core_machine.specs.collector.Copying.{left_half, next_half, after_located}
 use Rattle.core_machine.specs.collector.CopyingTurns.{visited, sentinel_at}
 use Rattle.core_machine.specs.declared.collector.stage.ArrayAt.{ArrayAt}
 use Rattle.core_machine.specs.declared.collector.stage.Copying.TheVariants.{Naming, Locating, Claiming}
 use Rattle.core_machine.specs.declared.collector.stage.Stage.TheVariants as stages
 use Rattle.core_machine.specs.declared.collector.stage.Visit.{Visit}
-use Rattle.core_machine.specs.declared.table.address.Address.TheVariants.{Word}
-use Rattle.core_machine.specs.machine.Machine.{State}
-use Rattle.core_machine.specs.table.Decode.{id_of}
-use Rattle.core_machine.specs.table.Layout.{at, FitsSpot}
-use Rattle.core_rule.specs.Book.{Book, fragment_at}
-use Rattle.core_rule.specs.Objects.{IsKept, node_at}
-use Rattle.core_rule.specs.Replicas.{VisitIsMarked, BeginsArray, HasFoundArray}
-use Rattle.core_rule.specs.Rule.{Rule}
-use Rattle.core_rule.specs.Spines.{next_spine}
 use Rattle.core_rule.proofs.copies.BegunArrays.{begun_name, begun_fits, begun_spine, begun_alone}
 use Rattle.core_rule.proofs.copies.CopyingStages.{IsFree, LeadsTo, copying_loads, leads_free, few_from, half_next, halves_apart}
 use Rattle.core_rule.proofs.copies.VisitsOn.{arrays_from, arrays_behind, found_from, leads_seen}
 use Rattle.core_rule.proofs.steps.TurnSteps.{StageKeeps}
+use Rattle.core_rule.proofs.steps.TurnKinds.{TurnKind, load_kind, Inside}
+use Rattle.core_rule.proofs.turns.CopyTurns.{copy_turn_leaves, naming_leaves, locating_leaves}
+use Rattle.core_rule.proofs.turns.WorkCases.{located_on}
 
 module _ (heap : Heap) (state : State) (book : Book) (rule : Rule heap state book) (visit : Visit) (words : ℕ) (naming : state.collector.stage ≡ stages.Copying (Naming visit words)) where
   found : VisitIsMarked book.colour visit × BeginsArray (node_at (graph_of heap book.history) book.made) book.owner (visited visit) words
@@ -88,3 +81,21 @@ pub find_keeps : (array : ArrayAt) → StageKeeps (stages.Copying (Locating arra
 find_keeps array heap state book rule locating machine =
     copying_loads heap state book rule (Locating array) locating (after_located heap state.collector.phase array (from heap state book rule array locating)) (locate_leads heap state book rule array locating)
     (Word (sentinel_at array) 2) machine
+
+-- all that is asked of it
+pub name_copy_kind : (visit : Visit) (words : ℕ) → TurnKind (stages.Copying (Naming visit words))
+name_copy_kind visit words = load_kind (stages.Copying (Naming visit words)) (λ heap collector. record { adds_none = refl; steps = λ word. refl; loaded = λ word. refl; beside = tt }) record {
+  keeps = name_copy_keeps visit words;
+  fewer = copy_turn_leaves (Naming visit words) (naming_leaves visit words);
+  inside = λ heap state book rule cycle is. tt;
+  all = λ heap phase looked fits. fits.0.all;
+}
+
+-- all that is asked of it
+pub find_kind : (array : ArrayAt) → TurnKind (stages.Copying (Locating array))
+find_kind array = load_kind (stages.Copying (Locating array)) (λ heap collector. record { adds_none = refl; steps = λ word. refl; loaded = λ word. refl; beside = tt }) record {
+  keeps = find_keeps array;
+  fewer = copy_turn_leaves (Locating array) (locating_leaves array);
+  inside = λ heap state book rule cycle is. located_on (Inside heap state book rule cycle) (λ stage. tt) tt heap state.collector.phase array _;
+  all = λ heap phase looked fits. fits.0.all;
+}

@@ -1,20 +1,16 @@
 -- The flip keeps the rule: spines have their places in the other half from now on.
-use Rattle.std.proofs.Common.{◌≡◌, ℕ, [], inl, sym, ap, subst, arith}
+use Rattle.std.proofs.Common.{◌≡◌, ℕ, [], inl, sym, ap, subst, arith, refl}
 use Rattle.std.proofs.lemmas.List.{append-nil}
-use Rattle.heap_words.specs.Spot.{spot_word}
-use Rattle.heap_model.specs.declared.heap.Heap.{Heap}
+use Rattle.core_rule.proofs.Terms.{spot_word, Heap, State, Book, MarkingStands, Rule, IsSettled}
 use Rattle.core_machine.specs.collector.Collector.{next_half}
 use Rattle.core_machine.specs.declared.collector.stage.Stage.TheVariants as stages
-use Rattle.core_machine.specs.machine.Machine.{State}
-use Rattle.core_rule.specs.Book.{Book}
-use Rattle.core_rule.specs.Marking.{MarkingStands}
-use Rattle.core_rule.specs.Rule.{Rule}
-use Rattle.core_rule.specs.Sweep.{IsSettled}
-use Rattle.core_rule.proofs.footprint.BookGoing.{book_stays}
-use Rattle.core_rule.proofs.spines.Flips.{flip_words, other_told, space_flips, third}
+use Rattle.core_rule.proofs.book.BookGoing.{book_stays}
+use Rattle.core_rule.proofs.halves.Flips.{flip_words, other_told, space_flips, third}
 use Rattle.core_rule.proofs.spines.SpotWritten.{heap_spot, seat_spot}
 use Rattle.core_rule.proofs.steps.TurnSteps.{StageKeeps, quiet, turn_steps}
 use Rattle.core_rule.proofs.steps.collector.ColourTurn.{at_stage, agrees_at}
+use Rattle.core_rule.proofs.steps.TurnKinds.{TurnKind, quiet_shape, beside, keeps_whole, keeps_bits, looked_all}
+use Rattle.core_rule.proofs.turns.MarkingTurns.{flip_leaves}
 
 module _ (heap : Heap) (state : State) (book : Book) (rule : Rule heap state book) (flipping : state.collector.stage ≡ stages.Flipping) where
   -- what is white is to be freed, as before
@@ -42,3 +38,19 @@ flip_keeps heap state book rule flipping machine =
     record { heap_marks = marks heap state book rule flipping; roots = λ r below is. absurd (is.goes_on tt) }
     (space_flips heap state book rule flipping)
     (book_stays heap state book book.history book.begun)
+
+-- all that is asked of it
+pub flip_kind : TurnKind stages.Flipping
+flip_kind = record {
+  keeps = keeps_whole stages.Flipping flip_keeps;
+  fewer = λ few. flip_leaves;
+  inside = λ heap state book rule cycle is. tt;
+  shape = λ heap collector found. quiet_shape heap collector found stages.Flipping refl refl;
+  looked = looked_all stages.Flipping (λ heap phase looked fits. fits.all);
+  bits = keeps_bits stages.Flipping (λ heap collector. beside (λ g below e. omega (arith, e, below)));
+  spines = record {
+    there = λ heap state book rule is there. there;
+    stores = λ heap collector half offset word due. absurd (cc due);
+    claims = λ heap collector words due. absurd (cc due);
+  };
+}

@@ -2,39 +2,29 @@
 use Rattle.std.proofs.Common.{◌≡◌, ℕ, zero, suc, ◌%◌, ◌≤◌, List, [], ◌∷◌, ◌++◌, length, count_ones, inl, inr, refl, sym, ap, ◌∙◌, subst, arith}
 use Rattle.std.proofs.lemmas.Bool.Decides.{eqb_tells}
 use Rattle.std.proofs.lemmas.Nat.{zero_from_ones}
-use Rattle.heap_model.specs.declared.entry.Entry.TheVariants.{Frees}
-use Rattle.heap_model.specs.declared.heap.Heap.{Heap}
-use Rattle.heap_model.specs.account.PhaseCounts.{phase}
-use Rattle.heap_model.specs.graph.Graph.{Graph}
-use Rattle.core_machine.specs.collector.Collector.{Collector}
-use Rattle.core_machine.specs.collector.FitsTurns.{IsFreeing}
+use Rattle.core_rule.proofs.Terms.{cycle_phases, Frees, Heap, phase, Graph, Collector, IsFreeing, State, sum_upto, IsMachine, Book, SweepCounts, dead_sum, words_of_object}
+use Rattle.core_rule.proofs.Terms.{nodes_in, returning, AfterMarking, MarkingStands, AreFreed, AreDead, SweepStands, node_at, CollectorAgrees, Rule}
+use Rattle.heap_model.specs.PhasePlan.{sweep as sweep_phase}
 use Rattle.core_machine.specs.collector.Sweeping.{after_freed}
 use Rattle.core_machine.specs.declared.collector.stage.Stage.TheVariants as stages
-use Rattle.core_machine.specs.machine.Machine.{State}
-use Rattle.core_machine.specs.machine.Sums.{sum_upto}
-use Rattle.core_machine.specs.machine.Value.{IsMachine}
-use Rattle.core_rule.specs.Book.{Book}
-use Rattle.core_rule.specs.Budgets.{SweepCounts, dead_sum, words_of_object, nodes_in, returning}
-use Rattle.core_rule.specs.Marking.{AfterMarking, MarkingStands}
-use Rattle.core_rule.specs.Sweep.{AreFreed, AreDead, SweepStands}
-use Rattle.core_rule.specs.Objects.{node_at}
-use Rattle.core_rule.specs.Phases.{CollectorAgrees}
-use Rattle.core_rule.specs.Rule.{Rule}
 use Rattle.core_rule.proofs.entries.ToldTurns.{agrees_told}
-use Rattle.core_rule.proofs.footprint.BookGoing.{owners_go}
-use Rattle.core_rule.proofs.footprint.OwnersGo.{free_goes}
+use Rattle.core_rule.proofs.book.BookGoing.{owners_go}
+use Rattle.core_rule.proofs.book.OwnersGo.{free_goes}
 use Rattle.core_rule.proofs.frames.Freeing.{words_freed, book_freed, graph_freed, same, leaves_spines, told_freed, heap_freed, seat_freed}
 use Rattle.core_rule.proofs.marking.SweepMarks.{after_swept_either, after_freed_either, freed_further}
 use Rattle.core_rule.proofs.objects.ObjectFrames.{SameKept}
 use Rattle.core_rule.proofs.owners.DeadOwners.{set_dead}
 use Rattle.core_rule.proofs.owners.DeadOwners as owners
 use Rattle.core_rule.proofs.spines.OtherWords.{LeavesPlaces, LeavesSpines, places_of}
-use Rattle.core_rule.proofs.spines.SweepSums.{at_place, dead_less}
-use Rattle.core_rule.proofs.spines.SweptSpace.{CopiesNone, Sweeps, space_swept}
+use Rattle.core_rule.proofs.dying.SweepSums.{at_place, dead_less}
+use Rattle.core_rule.proofs.dying.SweptSpace.{CopiesNone, Sweeps, space_swept}
 use Rattle.core_rule.proofs.steps.Assemble.{Keeps}
 use Rattle.core_rule.proofs.owners.OwnerLemmas.{is_dead}
 use Rattle.core_rule.proofs.steps.TurnSteps.{StageKeeps, after_turn, turn_steps}
 use Rattle.core_rule.proofs.words.SetBits.{set_in, length-set}
+use Rattle.core_rule.proofs.steps.TurnKinds.{TurnKind, freed_inside, adds_one, frees_in_phase, keeps_whole, beside_spines, looked_all}
+use Rattle.core_rule.proofs.turns.SweepTurns.{free_leaves}
+use Rattle.core_rule.proofs.steps.collector.FreeBits.{free_bits}
 
 module _ (heap : Heap) (state : State) (book : Book) (rule : Rule heap state book) (group dead counted : ℕ) (freeing : state.collector.stage ≡ stages.Freeing group dead counted) where
   fits : IsFreeing heap state.collector.phase state.collector.looked group dead counted
@@ -46,8 +36,8 @@ module _ (heap : Heap) (state : State) (book : Book) (rule : Rule heap state boo
   after : AfterMarking book.owner book.colour
   after = rule.marks_stand.heap_marks.after (inr (inr fits.sweeps.for_sweep))
 
-  sweeps : phase book.history % 7 ≡ 5
-  sweeps = ap (λ p. p % 7) (sym rule.collector_stands.phase_told) ∙ fits.sweeps.for_sweep
+  sweeps : phase book.history % cycle_phases ≡ sweep_phase
+  sweeps = ap (λ p. p % cycle_phases) (sym rule.collector_stands.phase_told) ∙ fits.sweeps.for_sweep
 
   some : 1 ≤ length (set_in group dead)
   some = by (count_ones dead) refl
@@ -135,3 +125,15 @@ module _ (heap : Heap) (state : State) (book : Book) (rule : Rule heap state boo
 
 pub free_keeps : (group dead counted : ℕ) → StageKeeps (stages.Freeing group dead counted)
 free_keeps group dead counted heap state book rule freeing machine = free_kept heap state book rule group dead counted freeing machine
+
+-- all that is asked of it
+pub free_kind : (group : ℕ) (dead : ℕ) (counted : ℕ) → TurnKind (stages.Freeing group dead counted)
+free_kind group dead counted = record {
+  keeps = keeps_whole (stages.Freeing group dead counted) (free_keeps group dead counted);
+  fewer = λ few. free_leaves group dead counted;
+  inside = λ heap state book rule cycle is. freed_inside heap state book rule cycle group counted;
+  shape = λ heap collector found. adds_one (stages.Freeing group dead counted) (Frees (count_ones dead)) (frees_in_phase heap (count_ones dead)) refl refl;
+  looked = looked_all (stages.Freeing group dead counted) (λ heap phase looked fits. fits.sweeps.all);
+  bits = free_bits group dead counted;
+  spines = beside_spines (stages.Freeing group dead counted) (λ heap collector. tt);
+}

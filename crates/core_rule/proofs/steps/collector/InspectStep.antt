@@ -1,26 +1,19 @@
 -- The load of a marked fragment's first word keeps the rule: where an array begins there its name comes next, and else the visit goes on.
 use Rattle.std.proofs.Common.{◌≡◌, ℕ, ◌+◌, ◌<◌, true, length, Option, Some, None, refl, sym, ap, ◌∙◌}
-use Rattle.heap_model.specs.declared.heap.Heap.{Heap}
-use Rattle.heap_model.specs.account.Cycles.{graph_of}
+use Rattle.core_rule.proofs.Terms.{Heap, graph_of, Word, State, array_length_of, at, Book, fragment_at, IsKept, node_at, VisitIsMarked, Rule, next_spine}
 use Rattle.core_machine.specs.collector.Copying.{after_inspected}
 use Rattle.core_machine.specs.collector.CopyingTurns.{visited}
 use Rattle.core_machine.specs.collector.FitsCopying.{FitsVisit}
 use Rattle.core_machine.specs.declared.collector.stage.Copying.TheVariants.{Inspecting}
 use Rattle.core_machine.specs.declared.collector.stage.Stage.TheVariants as stages
 use Rattle.core_machine.specs.declared.collector.stage.Visit.{Visit}
-use Rattle.core_machine.specs.declared.table.address.Address.TheVariants.{Word}
-use Rattle.core_machine.specs.machine.Machine.{State}
-use Rattle.heap_words.specs.Loaded.{array_length_of}
-use Rattle.core_machine.specs.table.Layout.{at}
-use Rattle.core_rule.specs.Book.{Book, fragment_at}
-use Rattle.core_rule.specs.Objects.{IsKept, node_at}
-use Rattle.core_rule.specs.Replicas.{VisitIsMarked}
-use Rattle.core_rule.specs.Rule.{Rule}
-use Rattle.core_rule.specs.Spines.{next_spine}
 use Rattle.core_rule.proofs.copies.CopyingStages.{IsFree, LeadsTo, copying_loads, leads_free, fits_from, after_marking}
 use Rattle.core_rule.proofs.copies.InspectedWords.{first_length, begins_array}
 use Rattle.core_rule.proofs.copies.VisitsOn.{arrays_from, arrays_behind, found_from, leads_seen}
 use Rattle.core_rule.proofs.steps.TurnSteps.{StageKeeps}
+use Rattle.core_rule.proofs.steps.TurnKinds.{TurnKind, load_kind, Inside}
+use Rattle.core_rule.proofs.turns.CopyTurns.{copy_turn_leaves, inspecting_leaves}
+use Rattle.core_rule.proofs.turns.WorkCases.{inspected_on}
 
 module _ (heap : Heap) (state : State) (book : Book) (rule : Rule heap state book) (visit : Visit) (inspecting : state.collector.stage ≡ stages.Copying (Inspecting visit)) where
   abbrev f : ℕ
@@ -51,3 +44,12 @@ pub inspect_keeps : (visit : Visit) → StageKeeps (stages.Copying (Inspecting v
 inspect_keeps visit heap state book rule inspecting machine =
     let length : Option ℕ = array_length_of (at heap state.words (Word (visited visit) 0)) in
     copying_loads heap state book rule (Inspecting visit) inspecting (after_inspected heap visit length) (inspect_leads heap state book rule visit inspecting length refl) (Word (visited visit) 0) machine
+
+-- all that is asked of it
+pub inspect_kind : (visit : Visit) → TurnKind (stages.Copying (Inspecting visit))
+inspect_kind visit = load_kind (stages.Copying (Inspecting visit)) (λ heap collector. record { adds_none = refl; steps = λ word. refl; loaded = λ word. refl; beside = tt }) record {
+  keeps = inspect_keeps visit;
+  fewer = copy_turn_leaves (Inspecting visit) (inspecting_leaves visit);
+  inside = λ heap state book rule cycle is. inspected_on (Inside heap state book rule cycle) (λ stage. tt) tt heap visit _;
+  all = λ heap phase looked fits. fits.0.all;
+}

@@ -1,25 +1,17 @@
 -- The load of the place of an array's spine keeps the rule.
 use Rattle.std.proofs.Common.{◌≡◌, ℕ, ◌≤◌, refl, subst, arith}
-use Rattle.heap_words.specs.Spot.{spot_in}
-use Rattle.heap_model.specs.declared.heap.Heap.{Heap}
-use Rattle.core_machine.specs.collector.FitsTurns.{IsLocating}
+use Rattle.core_rule.proofs.Terms.{spot_in, Heap, IsLocating, Word, State, spine_words_in, at, Book, IsSeen, IsFewWords, MarkingStands, Rule, HasMarked}
 use Rattle.core_machine.specs.collector.Marking.{scan_step, after_address}
 use Rattle.core_machine.specs.declared.collector.stage.Scan.{Scan}
 use Rattle.core_machine.specs.declared.collector.stage.SpineScan.{SpineScan}
 use Rattle.core_machine.specs.declared.collector.stage.Stage.TheVariants as stages
-use Rattle.core_machine.specs.declared.table.address.Address.TheVariants.{Word}
-use Rattle.core_machine.specs.machine.Machine.{State}
-use Rattle.core_machine.specs.table.Decode.{spine_words_in}
-use Rattle.core_machine.specs.table.Layout.{at}
-use Rattle.core_rule.specs.Book.{Book}
-use Rattle.core_rule.specs.Marking.{IsSeen, IsFewWords, MarkingStands}
-use Rattle.core_rule.specs.Rule.{Rule}
-use Rattle.core_rule.specs.Sweep.{HasMarked}
 use Rattle.core_rule.proofs.marking.Marks.{marks_at, none_dead}
 use Rattle.core_rule.proofs.marking.Scans.{spine_stands, spine_passes, spine_sweeps, spine_on_marks}
 use Rattle.core_rule.proofs.steps.collector.ColourTurn.{marking_loads}
 use Rattle.core_rule.proofs.steps.TurnSteps.{StageKeeps}
 use Rattle.core_rule.proofs.turns.FewWords.{few_spine}
+use Rattle.core_rule.proofs.steps.TurnKinds.{TurnKind, load_kind, spine_at_inside}
+use Rattle.core_rule.proofs.turns.SpineTurns.{locate_leaves}
 
 module _ (heap : Heap) (state : State) (book : Book) (rule : Rule heap state book) (scan : Scan) (count : ℕ) (locating : state.collector.stage ≡ stages.Locating scan count) where
   abbrev found : ℕ
@@ -48,3 +40,12 @@ module _ (heap : Heap) (state : State) (book : Book) (rule : Rule heap state boo
 pub locate_keeps : (scan : Scan) (count : ℕ) → StageKeeps (stages.Locating scan count)
 locate_keeps scan count heap state book rule locating machine =
     marking_loads heap state book rule (stages.Locating scan count) _ locating (Word scan.fragment 2) machine (marks heap state book rule scan count locating) tt (spine_on_marks (begun heap state book rule scan count locating))
+
+-- all that is asked of it
+pub locate_kind : (scan : Scan) (count : ℕ) → TurnKind (stages.Locating scan count)
+locate_kind scan count = load_kind (stages.Locating scan count) (λ heap collector. record { adds_none = refl; steps = λ word. refl; loaded = λ word. refl; beside = tt }) record {
+  keeps = locate_keeps scan count;
+  fewer = λ few. locate_leaves scan count;
+  inside = λ heap state book rule cycle is. spine_at_inside heap state book rule cycle _;
+  all = λ heap phase looked fits. fits.marks.all;
+}

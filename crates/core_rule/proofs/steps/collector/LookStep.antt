@@ -1,30 +1,25 @@
 -- The collector's look at a seat's answer keeps the rule.
 use Rattle.std.specs.Prelude.{if◌then◌else◌}
-use Rattle.std.proofs.Common.{◌≡◌, ℕ, suc, ◌+◌, ◌%◌, ◌<◌, ◌≤◌, Bool, true, false, List, inl, inr, refl, sym, ◌∙◌, subst, arith, ◌==◌}
+use Rattle.std.proofs.Common.{◌≡◌, ℕ, suc, ◌+◌, ◌%◌, ◌<◌, ◌≤◌, Bool, true, false, List, inl, inr, refl, sym, ◌∙◌, subst, arith}
 use Rattle.std.proofs.lemmas.Bool.Decides.{eqb_tells, leb_tells}
+use Rattle.core_rule.proofs.Terms.{cycle_phases, Entry, Heap, phase, last_answer, has_left, Stage, Collector, has_answered_of, first_work, after_last_look, after_counted_look}
+use Rattle.core_rule.proofs.Terms.{after_look, at, State, seat_at, Book, ScanStands, IsFewWords, PassStands, AwaitsCopy, SweepStands, HasMarked, Rule, MarksStand, CollectorAgrees}
+use Rattle.heap_model.specs.PhasePlan.{marking as marking_phase, copying as copying_phase}
 use Rattle.heap_words.specs.declared.phase.TheConstants.{LEFT}
-use Rattle.heap_model.specs.declared.entry.Entry.{Entry}
-use Rattle.heap_model.specs.declared.heap.Heap.{Heap}
-use Rattle.heap_model.specs.account.PhaseCounts.{phase, last_answer, has_left}
 use Rattle.core_machine.specs.declared.table.address.Address.TheVariants.{Answer}
 use Rattle.core_machine.specs.declared.collector.stage.Copying.TheVariants.{Visiting}
-use Rattle.core_machine.specs.declared.collector.stage.Stage.{Stage}
 use Rattle.core_machine.specs.declared.collector.stage.Stage.TheVariants as stages
-use Rattle.core_machine.specs.collector.Collector.{Collector, has_answered_of, after_last_look, after_counted_look, after_look}
 use Rattle.core_machine.specs.seat.Fits.{FitsStage}
-use Rattle.core_machine.specs.table.Layout.{at}
-use Rattle.core_machine.specs.machine.Machine.{State, seat_at}
-use Rattle.core_rule.specs.Book.{Book}
-use Rattle.core_rule.specs.Marking.{ScanStands, IsFewWords, PassStands}
-use Rattle.core_rule.specs.Halves.{AwaitsCopy}
-use Rattle.core_rule.specs.Sweep.{SweepStands, HasMarked}
-use Rattle.core_rule.specs.Rule.{Rule, MarksStand}
-use Rattle.core_rule.specs.Phases.{CollectorAgrees}
 use Rattle.core_rule.proofs.marking.Marks.{settled_moves}
-use Rattle.core_rule.proofs.spines.HalvesFrames.{StageGoesOn}
-use Rattle.core_rule.proofs.spines.StagesOn.{IsIdle, idle_goes_on}
+use Rattle.core_rule.proofs.marking.SweepMarks.{unswept_stands}
+use Rattle.core_rule.proofs.halves.HalvesFrames.{StageGoesOn}
+use Rattle.core_rule.proofs.halves.StagesOn.{IsIdle, idle_goes_on}
 use Rattle.core_rule.proofs.steps.Assemble.{few_answers}
+use Rattle.core_rule.proofs.turns.WorkCases.{work_either}
 use Rattle.core_rule.proofs.steps.TurnSteps.{StageKeeps, after_turn, load_turns}
+use Rattle.core_rule.proofs.steps.TurnKinds.{TurnKind, look_inside, only_loads, adds_nothing, keeps_whole, keeps_bits, beside_spines}
+use Rattle.core_rule.proofs.turns.LookTurns.{look_leaves}
+use Rattle.heap_model.specs.declared.calls.collector_calls.Turn.TheVariants as answers
 
 -- the word of a seat that hasn't left tells that it has answered the phase
 word_tells : (p answer : ℕ) → answer ≤ p → p < LEFT → has_answered_of p answer ≡ true → answer ≡ p
@@ -68,16 +63,6 @@ module _ (heap : Heap) (collector : Collector) (history : List Entry) (stands : 
       by true seen = on_seen (seen refl)
       by false seen = stands
 
--- the work of a phase but marking, but copying, and but the sweep
-abbrev last_work : ℕ → Stage
-last_work phase = if phase % 7 == 6 then stages.Clearing 0 0 else stages.Advancing
-
-abbrev later_work : ℕ → Stage
-later_work phase = if phase % 7 == 5 then stages.Sweeping 0 else last_work phase
-
-abbrev next_work : ℕ → Stage
-next_work phase = if phase % 7 == 4 then stages.Copying (Visiting 0) else later_work phase
-
 module _ (heap : Heap) (state : State) (book : Book) (rule : Rule heap state book) (looking : state.collector.stage ≡ stages.Looking) where
   -- marking and the spine space stand where the collector goes to
   record StandsAt (collector : Collector) : Type 0 where
@@ -85,7 +70,7 @@ module _ (heap : Heap) (state : State) (book : Book) (rule : Rule heap state boo
     spines : StageGoesOn heap state.words book state.collector collector
 
   -- of marking and of the spine space nothing changes, wherever it goes on
-  stands_stage : (stage : Stage) (looked : ℕ) → (state.collector.phase % 7 ≡ 3 → ¬ HasMarked stage) → (state.collector.phase % 7 ≡ 4 → (f : ℕ) → AwaitsCopy state.collector.phase stage f) → IsIdle stage
+  stands_stage : (stage : Stage) (looked : ℕ) → (state.collector.phase % cycle_phases ≡ marking_phase → ¬ HasMarked stage) → (state.collector.phase % cycle_phases ≡ copying_phase → (f : ℕ) → AwaitsCopy state.collector.phase stage f) → IsIdle stage
       → ScanStands heap state.words book.owner book.colour book.fragments stage → IsFewWords stage → PassStands book.colour stage → SweepStands heap book.owner book.colour state.collector.phase stage
       → StandsAt (record state.collector { stage = stage; looked = looked })
   stands_stage stage looked goes awaits idle scan few pass sweep = record {
@@ -116,19 +101,13 @@ module _ (heap : Heap) (state : State) (book : Book) (rule : Rule heap state boo
 
   -- it begins the phase's work, or goes on to the next phase
   stands_last : StandsAt (after_last_look heap state.collector)
-  stands_last = elim (eqb_tells (state.collector.phase % 7) 3) as (λ _. StandsAt (after_last_look heap state.collector)) [
-    | inl third ↦ rw third.0 (stands_stage (stages.Passing 0 false) heap.seats (λ is e. e) (λ fourth. absurd (omega (arith, fourth, third.1))) tt tt tt (λ f grey. (f, grey, omega arith)) tt)
-    | inr other ↦ rw other.0 (elim (eqb_tells (state.collector.phase % 7) 4) as (λ _. StandsAt (at_work (next_work state.collector.phase))) [
-      | inl copies ↦ rw copies.0 (stands_stage (stages.Copying (Visiting 0)) heap.seats (λ is e. e) (λ fourth f. omega arith) tt tt tt tt tt)
-      | inr before ↦ rw before.0 (elim (eqb_tells (state.collector.phase % 7) 5) as (λ _. StandsAt (at_work (later_work state.collector.phase))) [
-        | inl sweeps ↦ rw sweeps.0 (stands_stage (stages.Sweeping 0) heap.seats (λ is e. e) (λ fourth. absurd (before.1 fourth)) tt tt tt tt (λ f i k none. absurd (omega (arith, none))))
-        | inr neither ↦ rw neither.0 (elim (eqb_tells (state.collector.phase % 7) 6) as (λ _. StandsAt (at_work (last_work state.collector.phase))) [
-          | inl clears ↦ rw clears.0 (stands_stage (stages.Clearing 0 0) heap.seats (λ is e. e) (λ fourth. absurd (before.1 fourth)) tt tt tt tt (λ f none. absurd (omega (arith, none))))
-          | inr none ↦ rw none.0 (stands_stage stages.Advancing heap.seats (λ third. absurd (other.1 third)) (λ fourth. absurd (before.1 fourth)) tt tt tt tt (λ swept. absurd (neither.1 swept)))
-        ])
-      ])
-    ])
-  ]
+  stands_last = work_either (λ stage most. StandsAt (at_work stage)) heap.groups state.collector.phase
+      (λ third. stands_stage (stages.Passing 0 false) heap.seats (λ is e. e) (λ fourth. absurd (omega (arith, fourth, third))) tt tt tt (λ f grey. (f, grey, omega arith)) tt)
+      (λ copies. stands_stage (stages.Copying (Visiting 0)) heap.seats (λ is e. e) (λ fourth f. omega arith) tt tt tt tt tt)
+      (λ sweeps. stands_stage (stages.Sweeping 0) heap.seats (λ is e. e) (λ fourth. absurd (omega (arith, fourth, sweeps))) tt tt tt tt (λ f i k none. absurd (omega (arith, none))))
+      (λ clears. stands_stage (stages.Clearing 0 0) heap.seats (λ is e. e) (λ fourth. absurd (omega (arith, fourth, clears))) tt tt tt tt (λ f none. absurd (omega (arith, none))))
+      (λ nothing. stands_stage (first_work 0) heap.seats (λ third. absurd (nothing.unmarked third)) (λ fourth. absurd (nothing.uncopied fourth)) tt tt tt tt
+      (unswept_stands heap book.owner book.colour state.collector.phase (first_work 0) tt nothing.unswept))
 
   stands_counted : StandsAt (after_counted_look heap state.collector)
   stands_counted = elim (leb_tells (suc (state.collector.looked + 1)) heap.seats) as (λ _. StandsAt (after_counted_look heap state.collector)) [
@@ -160,3 +139,20 @@ look_keeps heap state book rule looking machine =
     let after = look_stands heap state book rule looking found in
     load_turns heap state book (Answer number) (after_look heap collector found) rule machine (look_seen heap collector book.history rule.collector_stands found tells)
     after.marks after.spines
+
+-- its answer ends no cycle
+no_end : (b : Bool) (seat answer p cycle kept : ℕ) → (if b then answers.Stepped else answers.Waits seat answer p) ≡ answers.Ended cycle kept → ⊥
+no_end true seat answer p cycle kept same = cc same
+no_end false seat answer p cycle kept same = cc same
+
+-- all that is asked of it
+pub look_kind : TurnKind stages.Looking
+look_kind = record {
+  keeps = keeps_whole stages.Looking look_keeps;
+  fewer = λ few. look_leaves;
+  inside = λ heap state book rule cycle is. look_inside heap state book rule cycle _;
+  shape = λ heap collector found. adds_nothing stages.Looking refl (no_end (has_answered_of collector.phase found) collector.looked found collector.phase);
+  looked = λ heap phase looked fits. inl refl;
+  bits = keeps_bits stages.Looking (λ heap collector. only_loads (λ word. refl));
+  spines = beside_spines stages.Looking (λ heap collector. tt);
+}

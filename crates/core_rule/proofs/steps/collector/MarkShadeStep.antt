@@ -1,30 +1,26 @@
 -- The collector marks what a word of a grey fragment led to: that keeps the rule.
-use Rattle.std.proofs.Common.{◌≡◌, ℕ, ◌+◌, ◌/◌, ◌≤◌, List, Some, inl, inr, subst, arith}
-use Rattle.heap_model.specs.declared.heap.Heap.{Heap}
-use Rattle.core_machine.specs.collector.FitsTurns.{IsShading}
+use Rattle.std.proofs.Common.{◌≡◌, ℕ, ◌+◌, ◌/◌, ◌≤◌, List, Some, inl, inr, subst, arith, refl}
+use Rattle.core_rule.proofs.Terms.{Heap, IsShading, State, Book, Colour, IsMarked, WordPointsTo, DeletionBarrier, IsSeen, MayMark, ComesAfter, MarkingStands, Rule, HasMarked}
 use Rattle.core_machine.specs.collector.Marking.{scan_step, scan_at}
 use Rattle.core_machine.specs.declared.collector.stage.Scan.{Scan}
 use Rattle.core_machine.specs.declared.collector.stage.Stage.TheVariants as stages
-use Rattle.core_machine.specs.machine.Machine.{State}
-use Rattle.core_rule.specs.Book.{Book, Colour}
-use Rattle.core_rule.specs.Colours.{IsMarked, WordPointsTo}
-use Rattle.core_rule.specs.Flight.{DeletionBarrier}
-use Rattle.core_rule.specs.Marking.{IsSeen, MayMark, ComesAfter, MarkingStands}
-use Rattle.core_rule.specs.Rule.{Rule}
-use Rattle.core_rule.specs.Sources.{TellsNoSpine}
+use Rattle.core_rule.specs.marking.Sources.{TellsNoSpine}
 use Rattle.core_rule.proofs.colours.LeadsFrames.{SameSources, still_no_spine}
 use Rattle.core_rule.proofs.colours.ShadeColours.{with_mark, mark_keeps, mark_marks}
-use Rattle.core_rule.proofs.footprint.BookGoing.{by_scan, mark_goes}
-use Rattle.core_rule.specs.Sweep.{HasMarked}
+use Rattle.core_rule.proofs.book.BookGoing.{by_scan, mark_goes}
 use Rattle.core_rule.proofs.marking.Marks.{marks_at, none_dead}
 use Rattle.core_rule.proofs.marking.Paths.{grey_on}
-use Rattle.core_rule.proofs.marking.Scans.{scan_stands, scan_passes, scan_sweeps, scan_on_marks, seen_next}
+use Rattle.core_rule.proofs.marking.Scans.{scan_stands, scan_passes, scan_sweeps, scan_on_marks}
+use Rattle.core_rule.proofs.marking.ScannedWords.{seen_next}
 use Rattle.core_rule.proofs.marking.SeatShades.{words_marked, sources_marked, leads_back, comes_shaded}
 use Rattle.core_rule.proofs.marking.ShadeMarks.{grey_part}
 use Rattle.core_rule.proofs.steps.collector.ColourTurn.{colour_turns}
 use Rattle.core_rule.proofs.steps.collector.MarkedTarget.{target_recolours}
 use Rattle.core_rule.proofs.steps.TurnSteps.{StageKeeps}
 use Rattle.core_rule.proofs.turns.FewWords.{few_at}
+use Rattle.core_rule.proofs.steps.TurnKinds.{TurnKind, quiet_shape, at_inside, spares, keeps_whole, keeps_bits, beside_spines, looked_all}
+use Rattle.core_rule.proofs.turns.MarkingTurns.{shade_leaves}
+use Rattle.core_rule.proofs.colours.OneBit.{bit_above}
 
 module _ (heap : Heap) (state : State) (book : Book) (rule : Rule heap state book) (scan : Scan) (m next : ℕ) (shading : state.collector.stage ≡ stages.Shading scan m next) where
   abbrev f : ℕ
@@ -77,3 +73,15 @@ mark_shade_keeps scan m next heap state book rule shading machine =
     colour_turns heap state book rule (stages.Shading scan m next) (scan_at (scan_step scan) next) shading (m / 16) _ (omega (arith, fits.target_within))
     (with_mark book.colour m) (target_recolours heap state book rule fits.marks.for_marking m fits.target_within (may heap state book rule scan m next shading)) machine
     (marks heap state book rule scan m next shading) tt (scan_on_marks (scan_step scan) next) (comes_shaded heap state book rule m fits.target_within) (mark_goes heap state book m (by_scan scan next shading)).marked
+
+-- all that is asked of it
+pub mark_shade_kind : (scan : Scan) (m : ℕ) (next : ℕ) → TurnKind (stages.Shading scan m next)
+mark_shade_kind scan m next = record {
+  keeps = keeps_whole (stages.Shading scan m next) (mark_shade_keeps scan m next);
+  fewer = λ few. shade_leaves scan m next;
+  inside = λ heap state book rule cycle is. at_inside heap state book rule cycle (scan_step scan) next;
+  shape = λ heap collector found. quiet_shape heap collector found (stages.Shading scan m next) refl refl;
+  looked = looked_all (stages.Shading scan m next) (λ heap phase looked fits. fits.marks.all);
+  bits = keeps_bits (stages.Shading scan m next) (λ heap collector. spares (m / 16) refl (λ word i above below. bit_above word 32 m i (omega (arith, below))));
+  spines = beside_spines (stages.Shading scan m next) (λ heap collector. tt);
+}

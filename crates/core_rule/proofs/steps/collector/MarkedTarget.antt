@@ -1,19 +1,13 @@
 -- What the collector's scan led to is marked: the new colours are right.
 use Rattle.std.proofs.Common.{◌≡◌, ℕ, ◌*◌, ◌<◌, ◌%◌, inl, inr, sym, ap, ◌∙◌, subst, arith}
-use Rattle.heap_model.specs.declared.heap.Heap.{Heap}
-use Rattle.heap_model.specs.account.PhaseCounts.{phase}
-use Rattle.core_machine.specs.machine.Machine.{State}
-use Rattle.core_rule.specs.Book.{Book, Colour, fragment_at}
-use Rattle.core_rule.specs.Colours.{IsMarked}
-use Rattle.core_rule.specs.Marking.{MayMark, IsPart}
-use Rattle.core_rule.specs.Owners.{Borne, Kept}
-use Rattle.core_rule.specs.Rule.{Rule}
+use Rattle.core_rule.proofs.Terms.{cycle_phases, Heap, phase, State, Book, Colour, fragment_at, IsMarked, MayMark, IsPart, Borne, Kept, Rule}
+use Rattle.heap_model.specs.PhasePlan.{marking as marking_phase}
 use Rattle.core_rule.proofs.colours.OneBit.{bits_marked}
 use Rattle.core_rule.proofs.colours.ShadeColours.{with_mark, mark_keeps, mark_marks, mark_away, marks_shade, coloured_shade}
 use Rattle.core_rule.proofs.frames.Recoloured.{Recolours}
 use Rattle.core_rule.proofs.marking.SeatShades.{words_marked}
 
-module _ (heap : Heap) (state : State) (book : Book) (rule : Rule heap state book) (marks : state.collector.phase % 7 ≡ 3) (m : ℕ) (within : m < 16 * heap.groups)
+module _ (heap : Heap) (state : State) (book : Book) (rule : Rule heap state book) (marks : state.collector.phase % cycle_phases ≡ marking_phase) (m : ℕ) (within : m < 16 * heap.groups)
     (may : MayMark book.owner book.colour book.fragments m) where
   abbrev coloured : ℕ → Colour
   coloured = with_mark book.colour m
@@ -21,8 +15,8 @@ module _ (heap : Heap) (state : State) (book : Book) (rule : Rule heap state boo
   abbrev part_of : IsPart book.owner m
   part_of = may.part
 
-  third : phase book.history % 7 ≡ 3
-  third = ap (λ p. p % 7) (sym rule.collector_stands.phase_told) ∙ marks
+  third : phase book.history % cycle_phases ≡ marking_phase
+  third = ap (λ p. p % cycle_phases) (sym rule.collector_stands.phase_told) ∙ marks
 
   -- the object's first fragment is marked then
   first : IsMarked coloured (fragment_at (book.fragments part_of.index) 0)

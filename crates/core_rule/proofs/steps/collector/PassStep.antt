@@ -1,32 +1,24 @@
 -- A load of a group's control word keeps the rule: a grey fragment of it is scanned, or the next group's turn comes, or another pass, or marking ends.
 use Rattle.std.proofs.Common.{◌≡◌, ◌≢◌, ℕ, suc, ◌+◌, ◌*◌, ◌≤◌, Bool, true, false, [], Option, Some, None, inl, inr, refl, sym, subst, arith, length}
 use Rattle.std.proofs.lemmas.Bool.Decides.{leb_tells}
-use Rattle.heap_model.specs.declared.heap.Heap.{Heap}
-use Rattle.core_machine.specs.collector.Collector.{Collector}
-use Rattle.core_machine.specs.collector.FitsTurns.{FitsStage, IsPassing}
+use Rattle.core_rule.proofs.Terms.{Heap, Collector, IsPassing, Stage, Control, State, IsMachine, at, put, Book, Grey, ScanStands, IsFewWords, PassStands, MarkingStands}
+use Rattle.core_rule.proofs.Terms.{SweepStands, HasMarked, CollectorAgrees, Rule}
+use Rattle.core_machine.specs.collector.FitsTurns.{FitsStage}
 use Rattle.core_machine.specs.collector.Marking.{lowest_grey_of, after_last_group, after_group, after_pass}
-use Rattle.core_machine.specs.declared.collector.stage.Stage.{Stage}
 use Rattle.core_machine.specs.declared.collector.stage.Stage.TheVariants as stages
-use Rattle.core_machine.specs.declared.table.address.Address.TheVariants.{Control}
-use Rattle.core_machine.specs.machine.Machine.{State}
-use Rattle.core_machine.specs.machine.Value.{IsMachine}
-use Rattle.core_machine.specs.table.Layout.{at, put}
-use Rattle.core_rule.specs.Book.{Book, Grey}
-use Rattle.core_rule.specs.Marking.{ScanStands, IsFewWords, PassStands, MarkingStands}
-use Rattle.core_rule.specs.Sweep.{SweepStands, HasMarked}
-use Rattle.core_rule.specs.Phases.{CollectorAgrees}
-use Rattle.core_rule.specs.Rule.{Rule}
-use Rattle.core_rule.proofs.footprint.OwnersGo.{settled_go}
+use Rattle.core_rule.proofs.book.OwnersGo.{settled_go}
 use Rattle.core_rule.proofs.marking.MarkingStages.{OfMarking, marking_plain}
 use Rattle.core_rule.proofs.marking.Marks.{marks_at, none_dead}
 use Rattle.core_rule.proofs.marking.GreyPlaces.{lowest_is_grey, pass_further, nothing_grey, pass_anew, scan_anew}
 use Rattle.core_rule.proofs.marking.SettledBook.{heap_settles, seat_settles, marking_settles}
-use Rattle.core_rule.proofs.spines.DyingWords.{settled_book}
-use Rattle.core_rule.proofs.spines.HalvesFrames.{IsPlain}
-use Rattle.core_rule.proofs.spines.Settling.{space_settles}
-use Rattle.core_rule.proofs.spines.StagesOn.{plain_goes_on}
+use Rattle.core_rule.proofs.dying.DyingWords.{settled_book}
+use Rattle.core_rule.proofs.halves.HalvesFrames.{IsPlain}
+use Rattle.core_rule.proofs.dying.Settling.{space_settles}
+use Rattle.core_rule.proofs.halves.StagesOn.{plain_goes_on}
 use Rattle.core_rule.proofs.steps.Assemble.{Keeps}
 use Rattle.core_rule.proofs.steps.TurnSteps.{StageKeeps, after_turn, quiet, load_turns, load_turns_with}
+use Rattle.core_rule.proofs.steps.TurnKinds.{TurnKind, load_kind, pass_inside}
+use Rattle.core_rule.proofs.turns.MarkingTurns.{pass_leaves}
 
 module _ (heap : Heap) (state : State) (book : Book) (rule : Rule heap state book) (group : ℕ) (found : Bool) (passing : state.collector.stage ≡ stages.Passing group found) where
   passes : IsPassing heap state.collector.phase state.collector.looked group
@@ -93,3 +85,12 @@ module _ (heap : Heap) (state : State) (book : Book) (rule : Rule heap state boo
 
 pub pass_keeps : (group : ℕ) (found : Bool) → StageKeeps (stages.Passing group found)
 pass_keeps group found heap state book rule passing machine = passes_on heap state book rule group found passing (lowest_grey_of (at heap state.words (Control group))) refl machine
+
+-- all that is asked of it
+pub pass_kind : (group : ℕ) (found : Bool) → TurnKind (stages.Passing group found)
+pass_kind group found = load_kind (stages.Passing group found) (λ heap collector. record { adds_none = refl; steps = λ word. refl; loaded = λ word. refl; beside = tt }) record {
+  keeps = pass_keeps group found;
+  fewer = λ few. pass_leaves group found;
+  inside = λ heap state book rule cycle is. pass_inside heap state book rule cycle group found _;
+  all = λ heap phase looked fits. fits.marks.all;
+}

@@ -1,41 +1,23 @@
 -- A turn that begins the next phase, once all have answered, keeps the rule.
 use Rattle.std.proofs.Common.{◌≡◌, ◌≢◌, ℕ, ◌+◌, ◌%◌, ◌<◌, Bool, true, false, List, [], ◌∷◌, ◌++◌, length, refl, sym, ap, ◌∙◌, subst, arith, inl, inr}
 use Rattle.std.proofs.lemmas.List.Elements.{filter-append}
-use Rattle.heap_model.specs.declared.entry.Entry.{Entry}
-use Rattle.heap_model.specs.declared.heap.Heap.{Heap}
-use Rattle.heap_model.specs.account.Account.{IsLegal}
-use Rattle.heap_model.specs.account.Cycles.{graph_of}
-use Rattle.heap_model.specs.account.Effects.{effect_of, is_of}
-use Rattle.heap_model.specs.graph.Growth.{after_entry}
-use Rattle.heap_model.specs.graph.Objects.{graph_seat}
-use Rattle.heap_model.specs.account.PhaseCounts.{phase, last_answer, has_left, is_leave_of, AllAnswered}
-use Rattle.heap_model.specs.graph.Graph.{Graph, opening}
+use Rattle.core_rule.proofs.Terms.{cycle_phases, Entry, Heap, IsLegal, graph_of, effect_of, is_of, after_entry, graph_seat, phase, last_answer, has_left, is_leave_of, AllAnswered}
+use Rattle.core_rule.proofs.Terms.{Graph, opening, Collector, after_advance, put, State, seat_at, IsMachine, Book, Coloured, WordPointsTo, HeapInCycle, Dead, SpineOwner, Rule}
+use Rattle.core_rule.proofs.Terms.{HeapStands, SeatStands, HasPlace, next_spine, MarkingStands, AfterMarking, IsSettled, IsReached}
+use Rattle.heap_model.specs.PhasePlan.{sweep as sweep_phase}
 use Rattle.heap_model.proofs.Histories.{graph_after-more}
 use Rattle.core_machine.specs.declared.table.address.Address.TheVariants.{Answer, Phase}
 use Rattle.core_machine.specs.declared.collector.stage.Stage.TheVariants as stages
-use Rattle.core_machine.specs.collector.Collector.{Collector, after_advance}
-use Rattle.core_machine.specs.table.Layout.{put}
-use Rattle.core_machine.specs.machine.Machine.{State, seat_at}
-use Rattle.core_machine.specs.machine.Value.{IsMachine}
 use Rattle.core_machine.proofs.table_lemmas.Addresses.{at-put_same}
-use Rattle.core_rule.specs.Book.{Book}
-use Rattle.core_rule.specs.Colours.{Coloured, WordPointsTo}
-use Rattle.core_rule.specs.Counts.{is_collectors}
-use Rattle.core_rule.specs.Cycle.{HeapInCycle}
-use Rattle.core_rule.specs.Owners.{Dead, SpineOwner}
-use Rattle.core_rule.specs.Rule.{Rule, HeapStands, SeatStands}
-use Rattle.core_rule.specs.Spines.{HasPlace, next_spine}
-use Rattle.core_rule.specs.Marking.{MarkingStands, AfterMarking}
-use Rattle.core_rule.specs.Sweep.{IsSettled}
-use Rattle.core_rule.specs.Roots.{OfRoots}
-use Rattle.core_rule.specs.Paths.{IsReached}
-use Rattle.core_rule.proofs.marking.GoneRoots.{gone_roots}
+use Rattle.core_rule.specs.counts.Counts.{is_collectors}
+use Rattle.core_rule.specs.roots.Roots.{OfRoots}
+use Rattle.core_rule.proofs.roots.GoneRoots.{gone_roots}
 use Rattle.core_rule.proofs.entries.AtRest.{seat_fits}
 use Rattle.core_rule.proofs.words.Addresses.{at-put_apart}
 use Rattle.core_rule.proofs.steps.Assemble.{Keeps}
 use Rattle.core_rule.proofs.steps.TurnSteps.{after_turn, turn_steps}
 use Rattle.core_rule.proofs.cycle.CycleFrames.{cycle_told}
-use Rattle.core_rule.proofs.footprint.BookGoing.{owners_stay}
+use Rattle.core_rule.proofs.book.BookGoing.{owners_stay}
 use Rattle.core_rule.proofs.frames.EntryFrames.{UsesNothing, fragments_phase, heap_past, seat_past}
 use Rattle.core_rule.proofs.colours.LeadsFrames.{leads_ahead}
 use Rattle.core_rule.proofs.colours.MarkWords.{marks_same}
@@ -44,18 +26,22 @@ use Rattle.core_rule.proofs.entries.PhaseEntries.{phase_rises, answered_stays, l
 use Rattle.core_rule.proofs.graph.SameNodes.{SameNodes, nodes_same}
 use Rattle.core_rule.proofs.frames.SeatFrames.{with_entry}
 use Rattle.core_rule.proofs.spines.OtherWords.{spines_left_phase}
-use Rattle.core_rule.proofs.spines.PhaseSpaces.{EndsPhase, BeginsAt, LetsGo, lets_none, space_next}
+use Rattle.core_rule.proofs.halves.PhaseSpaces.{EndsPhase, BeginsAt, LetsGo, lets_none, space_next}
+
+-- the entry tells of no seat, and leaves the graph
+pub record TellsOfNoSeat (entry : Entry) : Type 0 where
+  pub answers : (effect_of entry).answers ≡ 0
+  pub nobodys : (r : ℕ) → is_of r entry ≡ false
+  pub no_leave : (r : ℕ) → is_leave_of r entry ≡ false
+  pub graph_stays : (g : Graph) → after_entry g entry ≡ g
 
 -- the entry begins the phase that comes after this one, is the collector's, and changes nothing else
 pub record BeginsNext (now : ℕ) (entry : Entry) : Type 0 where
   pub phases : (effect_of entry).phases ≡ 1
   pub uses : UsesNothing entry
   pub spines : BeginsAt now entry
-  pub answers : (effect_of entry).answers ≡ 0
-  pub nobodys : (r : ℕ) → is_of r entry ≡ false
-  pub no_leave : (r : ℕ) → is_leave_of r entry ≡ false
+  pub tells : TellsOfNoSeat entry
   pub collectors : is_collectors entry ≡ true
-  pub graph_stays : (g : Graph) → after_entry g entry ≡ g
 
 module _ (heap : Heap) (state : State) (book : Book) (rule : Rule heap state book) (all : state.collector.looked ≡ heap.seats) (entry : Entry) (begins : BeginsNext state.collector.phase entry) where
   abbrev pub next : ℕ
@@ -83,7 +69,7 @@ module _ (heap : Heap) (state : State) (book : Book) (rule : Rule heap state boo
   grown = phase_rises book.history entry begins.phases
 
   pub graph : graph_of heap later.history ≡ graph_of heap book.history
-  graph = graph_after-more (opening heap) book.history entry ∙ begins.graph_stays (graph_of heap book.history)
+  graph = graph_after-more (opening heap) book.history entry ∙ begins.tells.graph_stays (graph_of heap book.history)
 
   nodes : SameNodes (graph_of heap book.history) (graph_of heap later.history)
   nodes = nodes_same (graph_of heap book.history) (graph_of heap later.history) graph
@@ -105,9 +91,9 @@ module _ (heap : Heap) (state : State) (book : Book) (rule : Rule heap state boo
   seat_on : (r : ℕ) → r < heap.seats → SeatStands heap words_next later r (seat_at state r)
   seat_on r below =
       let stands = rule.seats_stand r below in
-      seat_past heap state.words words_next (fragments_phase heap state.words next) book entry nodes r (seat_at state r) (begins.nobodys r) (ap (λ (g : Graph). graph_seat g r) graph)
+      seat_past heap state.words words_next (fragments_phase heap state.words next) book entry nodes r (seat_at state r) (begins.tells.nobodys r) (ap (λ (g : Graph). graph_seat g r) graph)
       (cycle_told heap words_next (phase book.history + 1) (phase later.history) (last_answer r book.history) (last_answer r later.history) (has_left r book.history) (has_left r later.history)
-      book.owner book.colour r (seat_at state r) grown (answered_stays book.history entry r begins.answers) (left_stays book.history entry r (begins.no_leave r))
+      book.owner book.colour r (seat_at state r) grown (answered_stays book.history entry r begins.tells.answers) (left_stays book.history entry r (begins.tells.no_leave r))
       (cycle_next heap state.words words_next book.owner book.colour (phase book.history) (last_answer r book.history) (has_left r book.history) r (seat_at state r)
       (at-put_apart heap state.words Phase (Answer r) next (λ e. omega (arith, e))) leads_next (seat_fits rule r below) (all_answer r below) stands.cycle)) stands
 
@@ -134,13 +120,13 @@ module _ (heap : Heap) (state : State) (book : Book) (rule : Rule heap state boo
   pub record MayLetGo (spine_owner : ℕ → ℕ → SpineOwner) : Type 0 where
     pub ends : EndsPhase state.collector.phase state.collector.stage
     pub lets : LetsGo (next_spine heap state.words).half state.collector.phase book.spine_owner spine_owner
-    pub alive : state.collector.phase % 7 ≡ 5 → (f i k : ℕ) → book.owner f ≢ Dead i k
-    pub answered : state.collector.phase % 7 ≡ 5 → (r : ℕ) → r < heap.seats → HasPlace (seat_at state r) (seat_at state r).place → (seat_at state r).answered % 7 ≡ 5
+    pub alive : state.collector.phase % cycle_phases ≡ sweep_phase → (f i k : ℕ) → book.owner f ≢ Dead i k
+    pub answered : state.collector.phase % cycle_phases ≡ sweep_phase → (r : ℕ) → r < heap.seats → HasPlace (seat_at state r) (seat_at state r).place → (seat_at state r).answered % cycle_phases ≡ sweep_phase
     pub heap_lets : HeapStands heap words_next later → HeapStands heap words_next (let_later spine_owner)
     pub seat_lets : (r : ℕ) → r < heap.seats → SeatStands heap words_next later r (seat_at state r) → SeatStands heap words_next (let_later spine_owner) r (seat_at state r)
 
   -- so it is where each word stays whose it was, in any phase but that of the sweep
-  pub all_stay : EndsPhase state.collector.phase state.collector.stage → state.collector.phase % 7 ≢ 5 → MayLetGo book.spine_owner
+  pub all_stay : EndsPhase state.collector.phase state.collector.stage → state.collector.phase % cycle_phases ≢ sweep_phase → MayLetGo book.spine_owner
   all_stay ends other = record {
     ends = ends;
     lets = lets_none (next_spine heap state.words).half state.collector.phase book.spine_owner other;

@@ -1,47 +1,31 @@
 -- The collector returns the spine words of a group's arrays that it has freed: that keeps the rule.
 use Rattle.std.proofs.Common.{◌≡◌, ℕ, ◌+◌, ◌-◌, ◌%◌, ◌^◌, ◌<◌, false, List, [], ◌∷◌, ◌++◌, inr, refl, sym, ap, ◌∙◌, subst, arith}
-use Rattle.heap_model.specs.declared.entry.Entry.{Entry}
-use Rattle.heap_model.specs.declared.entry.Entry.TheVariants.{Returns}
-use Rattle.heap_model.specs.declared.heap.Heap.{Heap}
-use Rattle.heap_model.specs.account.Account.{IsLegal}
-use Rattle.heap_model.specs.account.Cycles.{graph_of}
-use Rattle.heap_model.specs.account.PhaseCounts.{phase}
-use Rattle.heap_model.specs.account.Space.{words_returned}
-use Rattle.heap_model.specs.account.Windows.{begins_cycle, since_cycle}
-use Rattle.heap_model.specs.graph.Graph.{Graph, opening}
-use Rattle.heap_model.specs.graph.Objects.{graph_seat}
+use Rattle.core_rule.proofs.Terms.{cycle_phases, Entry, Returns, Heap, IsLegal, graph_of, phase, words_returned, begins_cycle, since_cycle, Graph, opening, graph_seat, Collector}
+use Rattle.core_rule.proofs.Terms.{IsReturning, Stage, Budget, State, seat_at, at, Book, SweepCounts, dead_sum, words_of_object, nodes_in, returning, MarkingStands, node_at}
+use Rattle.core_rule.proofs.Terms.{CollectorAgrees, Rule, HeapStands, SeatStands, AreFreed, SweepStands}
+use Rattle.heap_model.specs.PhasePlan.{sweep as sweep_phase}
 use Rattle.heap_model.proofs.Histories.{graph_after-more, total-more}
 use Rattle.heap_model.proofs.account_lemmas.Windows.{after_last-no}
-use Rattle.core_machine.specs.collector.Collector.{Collector}
-use Rattle.core_machine.specs.collector.FitsTurns.{FitsStage, IsReturning}
+use Rattle.core_machine.specs.collector.FitsTurns.{FitsStage}
 use Rattle.core_machine.specs.collector.Sweeping.{after_swept}
-use Rattle.core_machine.specs.declared.collector.stage.Stage.{Stage}
 use Rattle.core_machine.specs.declared.collector.stage.Stage.TheVariants as stages
-use Rattle.core_machine.specs.declared.table.address.Address.TheVariants.{Budget}
-use Rattle.core_machine.specs.machine.Machine.{State, seat_at}
-use Rattle.core_machine.specs.table.Layout.{at}
 use Rattle.core_machine.proofs.table_lemmas.Addresses.{at-put_same}
-use Rattle.core_rule.specs.Book.{Book}
-use Rattle.core_rule.specs.Budgets.{SweepCounts, dead_sum, words_of_object, nodes_in, returning}
-use Rattle.core_rule.specs.Marking.{MarkingStands}
-use Rattle.core_rule.specs.Objects.{node_at}
-use Rattle.core_rule.specs.Phases.{CollectorAgrees}
-use Rattle.core_rule.specs.Rule.{Rule, HeapStands, SeatStands}
-use Rattle.core_rule.specs.Sweep.{AreFreed, SweepStands}
 use Rattle.core_rule.proofs.cycle.CycleHistory.{heap_cycle_more, cycle_other}
 use Rattle.core_rule.proofs.entries.Legality.{legal_more, keeps_returns}
 use Rattle.core_rule.proofs.entries.ToldTurns.{agrees_told}
-use Rattle.core_rule.proofs.footprint.BookGoing.{book_stays}
+use Rattle.core_rule.proofs.book.BookGoing.{book_stays}
 use Rattle.core_rule.proofs.frames.BudgetWritten.{budget_words, budget_places, heap_budget, seat_budget}
 use Rattle.core_rule.proofs.frames.EntryFrames.{fragments_same, heap_past, seat_past}
 use Rattle.core_rule.proofs.frames.SeatFrames.{with_entry}
 use Rattle.core_rule.proofs.graph.SameNodes.{SameNodes, nodes_same}
 use Rattle.core_rule.proofs.marking.SweepMarks.{after_swept_either, swept_further}
-use Rattle.core_rule.proofs.spines.BudgetFrames.{none_granted_by}
-use Rattle.core_rule.proofs.spines.BudgetSteps.{budget_small, budget_falls}
+use Rattle.core_rule.proofs.budgets.BudgetFrames.{none_granted_by}
+use Rattle.core_rule.proofs.budgets.BudgetSteps.{budget_small, budget_falls}
 use Rattle.core_rule.proofs.spines.SpineFrames.{same_kept}
-use Rattle.core_rule.proofs.spines.SweptSpace.{CopiesNone, Sweeps, space_swept}
+use Rattle.core_rule.proofs.dying.SweptSpace.{CopiesNone, Sweeps, space_swept}
 use Rattle.core_rule.proofs.steps.TurnSteps.{StageKeeps, turn_steps}
+use Rattle.core_rule.proofs.steps.TurnKinds.{TurnKind, swept_inside, adds_one, returns_in_phase, beside, keeps_whole, keeps_bits, beside_spines, looked_all}
+use Rattle.core_rule.proofs.turns.SweepTurns.{return_leaves}
 
 module _ (heap : Heap) (state : State) (book : Book) (rule : Rule heap state book) (group counted : ℕ) (returns : state.collector.stage ≡ stages.Returning group counted) where
   fits : IsReturning heap state.collector.phase state.collector.looked group counted
@@ -50,8 +34,8 @@ module _ (heap : Heap) (state : State) (book : Book) (rule : Rule heap state boo
   told : AreFreed book.owner (group + 1)
   told = subst (SweepStands heap book.owner book.colour state.collector.phase) returns rule.marks_stand.heap_marks.sweep_stands
 
-  sweeps : phase book.history % 7 ≡ 5
-  sweeps = ap (λ p. p % 7) (sym rule.collector_stands.phase_told) ∙ fits.sweeps.for_sweep
+  sweeps : phase book.history % cycle_phases ≡ sweep_phase
+  sweeps = ap (λ p. p % cycle_phases) (sym rule.collector_stands.phase_told) ∙ fits.sweeps.for_sweep
 
   -- the words that are about to be returned count as granted
   about : returning state.collector.stage ≡ counted
@@ -149,3 +133,15 @@ return_keeps group counted heap state book rule returns machine =
     (space_swept heap state book rule fits.sweeps.for_sweep (was_none heap state book rule group counted returns) _ (none_next heap state book rule group counted returns) _ _ _ _
     (graph heap state book rule group counted returns) book.owner (same_kept book.owner) counted (sweeps_on heap state book rule group counted returns))
     (book_stays heap state book later.history book.begun)
+
+-- all that is asked of it
+pub return_kind : (group : ℕ) (counted : ℕ) → TurnKind (stages.Returning group counted)
+return_kind group counted = record {
+  keeps = keeps_whole (stages.Returning group counted) (return_keeps group counted);
+  fewer = λ few. return_leaves group counted;
+  inside = λ heap state book rule cycle is. swept_inside heap state book rule cycle group;
+  shape = λ heap collector found. adds_one (stages.Returning group counted) (Returns counted) (returns_in_phase heap counted) refl refl;
+  looked = looked_all (stages.Returning group counted) (λ heap phase looked fits. fits.sweeps.all);
+  bits = keeps_bits (stages.Returning group counted) (λ heap collector. beside (λ g below e. omega (arith, e, below)));
+  spines = beside_spines (stages.Returning group counted) (λ heap collector. tt);
+}

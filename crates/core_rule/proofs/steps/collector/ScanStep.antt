@@ -2,31 +2,22 @@
 use Rattle.std.specs.Option.{option_map_or}
 use Rattle.std.proofs.Common.{◌≡◌, ℕ, ◌<◌, ◌≤◌, Option, Some, None, inl, inr, refl, sym, ap, ◌∙◌, subst, arith}
 use Rattle.std.proofs.lemmas.Bool.Decides.{eqb_tells}
-use Rattle.heap_model.specs.declared.heap.Heap.{Heap}
-use Rattle.heap_model.specs.Needs.{array_words}
-use Rattle.heap_model.specs.account.PhaseCounts.{phase}
+use Rattle.core_rule.proofs.Terms.{Heap, array_words, phase, IsScanning, Stage, Word, State, pointer_in, array_length_of, at, Book, WordPointsTo, IsBetween, IsSeen, IsPart}
+use Rattle.core_rule.proofs.Terms.{ScanStands, IsFewWords, PassStands, MarkingStands, SweepStands, HasMarked, Rule}
 use Rattle.core_machine.specs.collector.Marking.{part_after, scan_step, after_scan_load, array_at, after_first_load}
-use Rattle.core_machine.specs.collector.FitsTurns.{IsScanning}
 use Rattle.core_machine.specs.declared.collector.stage.Scan.{Scan}
-use Rattle.core_machine.specs.declared.collector.stage.Stage.{Stage}
 use Rattle.core_machine.specs.declared.collector.stage.Stage.TheVariants as stages
-use Rattle.core_machine.specs.declared.table.address.Address.TheVariants.{Word}
-use Rattle.core_machine.specs.machine.Machine.{State}
-use Rattle.heap_words.specs.Loaded.{pointer_in, array_length_of}
-use Rattle.core_machine.specs.table.Layout.{at}
-use Rattle.core_rule.specs.Book.{Book}
-use Rattle.core_rule.specs.Colours.{WordPointsTo, IsBetween}
-use Rattle.core_rule.specs.Marking.{IsSeen, IsPart, ScanStands, IsFewWords, PassStands, MarkingStands}
-use Rattle.core_rule.specs.Sweep.{SweepStands, HasMarked}
-use Rattle.core_rule.specs.Rule.{Rule}
-use Rattle.core_rule.specs.Sources.{TellsNoSpine}
+use Rattle.core_rule.specs.marking.Sources.{TellsNoSpine}
 use Rattle.core_rule.proofs.colours.SourceCases.{word_leads, lead_of_word}
 use Rattle.core_rule.proofs.marking.MarkingStages.{OfMarking}
 use Rattle.core_rule.proofs.marking.Marks.{marks_at, none_dead}
-use Rattle.core_rule.proofs.marking.Scans.{scan_stands, scan_passes, scan_sweeps, scan_on_marks, may_mark, comes_after, seen_next, array_first, array_few, sentinel_seen}
+use Rattle.core_rule.proofs.marking.Scans.{scan_stands, scan_passes, scan_sweeps, scan_on_marks}
+use Rattle.core_rule.proofs.marking.ScannedWords.{may_mark, comes_after, seen_next, array_first, array_few, sentinel_seen}
 use Rattle.core_rule.proofs.steps.collector.ColourTurn.{marking_loads}
 use Rattle.core_rule.proofs.steps.TurnSteps.{StageKeeps}
 use Rattle.core_rule.proofs.turns.FewWords.{few_at}
+use Rattle.core_rule.proofs.steps.TurnKinds.{TurnKind, load_kind, scan_inside}
+use Rattle.core_rule.proofs.turns.MarkingTurns.{scan_leaves}
 
 module _ (heap : Heap) (state : State) (book : Book) (rule : Rule heap state book) (scan : Scan) (scanning : state.collector.stage ≡ stages.Scanning scan) where
   abbrev f : ℕ
@@ -122,3 +113,12 @@ pub scan_keeps : (scan : Scan) → StageKeeps (stages.Scanning scan)
 scan_keeps scan heap state book rule scanning machine =
     let on = goes_on heap state book rule scan scanning in
     marking_loads heap state book rule (stages.Scanning scan) _ scanning (Word scan.fragment scan.part) machine on.0 tt on.1
+
+-- all that is asked of it
+pub scan_kind : (scan : Scan) → TurnKind (stages.Scanning scan)
+scan_kind scan = load_kind (stages.Scanning scan) (λ heap collector. record { adds_none = refl; steps = λ word. refl; loaded = λ word. refl; beside = tt }) record {
+  keeps = scan_keeps scan;
+  fewer = λ few. scan_leaves scan;
+  inside = λ heap state book rule cycle is. scan_inside heap state book rule cycle scan is _ _;
+  all = λ heap phase looked fits. fits.marks.all;
+}

@@ -2,34 +2,25 @@
 use Rattle.std.specs.Prelude.{if◌then◌else◌}
 use Rattle.std.proofs.Common.{◌≡◌, ℕ, ◌+◌, ◌*◌, ◌%◌, ◌==◌, Option, Some, None, inl, inr, refl, sym, ap, ◌∙◌, subst, arith}
 use Rattle.std.proofs.lemmas.Bool.Decides.{eqb_tells}
-use Rattle.heap_model.specs.declared.heap.Heap.{Heap}
-use Rattle.core_machine.specs.collector.FitsTurns.{IsSweeping, IsExamining}
+use Rattle.core_rule.proofs.Terms.{cycle_phases, Heap, IsSweeping, IsExamining, Stage, Control, Word, State, sum_upto, spine_words_in, at, Book, SweepCounts, dead_weight}
+use Rattle.core_rule.proofs.Terms.{words_of_object, nodes_in, AwaitsCopy, AfterMarking, AreFreed, AreDead, SweepStands, Rule}
+use Rattle.heap_model.specs.PhasePlan.{sweep as sweep_phase}
 use Rattle.core_machine.specs.collector.Sweeping.{dead_bits_of, next_place_of, after_swept, after_examined}
-use Rattle.core_machine.specs.declared.collector.stage.Stage.{Stage}
 use Rattle.core_machine.specs.declared.collector.stage.Stage.TheVariants as stages
-use Rattle.core_machine.specs.declared.table.address.Address.TheVariants.{Control, Word}
-use Rattle.core_machine.specs.machine.Machine.{State}
-use Rattle.core_machine.specs.machine.Sums.{sum_upto}
-use Rattle.core_machine.specs.table.Decode.{spine_words_in}
 use Rattle.core_machine.proofs.table_lemmas.DeadBits.{dead_few}
 use Rattle.core_machine.proofs.table_lemmas.Free.{sum_upto-none, sum_upto-more}
-use Rattle.core_machine.specs.table.Layout.{at}
-use Rattle.core_rule.specs.Book.{Book}
-use Rattle.core_rule.specs.Budgets.{SweepCounts, dead_weight, words_of_object, nodes_in}
-use Rattle.core_rule.specs.Halves.{AwaitsCopy}
-use Rattle.core_rule.specs.Marking.{AfterMarking}
-use Rattle.core_rule.specs.Sweep.{AreFreed, AreDead, SweepStands}
-use Rattle.core_rule.specs.Rule.{Rule}
 use Rattle.core_rule.proofs.marking.DeadPlaces.{are_dead}
 use Rattle.core_rule.proofs.marking.SweepMarks.{after_swept_either, examined_further}
 use Rattle.core_rule.proofs.owners.OwnerLemmas.{is_dead}
-use Rattle.core_rule.proofs.spines.HalvesFrames.{StageGoesOn}
-use Rattle.core_rule.proofs.spines.StagesOn.{IsQuiet, quiet_goes_on}
-use Rattle.core_rule.proofs.spines.SweepSums.{at_place, counts_on}
+use Rattle.core_rule.proofs.halves.HalvesFrames.{StageGoesOn}
+use Rattle.core_rule.proofs.halves.StagesOn.{IsQuiet, quiet_goes_on}
+use Rattle.core_rule.proofs.dying.SweepSums.{at_place, counts_on}
 use Rattle.core_rule.proofs.steps.collector.ColourTurn.{at_stage, load_turns_on}
 use Rattle.core_rule.proofs.steps.TurnSteps.{StageKeeps}
+use Rattle.core_rule.proofs.steps.TurnKinds.{TurnKind, load_kind, examined_inside}
+use Rattle.core_rule.proofs.turns.SweepTurns.{sweep_leaves, examine_leaves}
 
-module _ (heap : Heap) (state : State) (book : Book) (rule : Rule heap state book) (sweeps : state.collector.phase % 7 ≡ 5) (group dead : ℕ) where
+module _ (heap : Heap) (state : State) (book : Book) (rule : Rule heap state book) (sweeps : state.collector.phase % cycle_phases ≡ sweep_phase) (group dead : ℕ) where
   -- nothing is copied or returned where the sweep goes on in its group
   still_quiet : (counted : ℕ) (next : Option ℕ) → IsQuiet (after_examined heap group dead counted next)
   still_quiet counted (Some place) = tt
@@ -116,3 +107,24 @@ examine_keeps group dead place counted heap state book rule examining machine =
     (λ e. e)
     (spines_on heap state book rule fits.sweeps.for_sweep group dead (stages.Examining group dead place counted) examining tt (λ f waits. waits) more next
     (counts_on heap (words_of_object (nodes_in heap book)) book.owner group dead told.1 more (place + 1) (counts_more heap state book rule group dead place counted examining) (omega (arith, fits.place_within)) next refl))
+
+-- all that is asked of it
+pub sweep_kind : (group : ℕ) → TurnKind (stages.Sweeping group)
+sweep_kind group = load_kind (stages.Sweeping group) (λ heap collector. record { adds_none = refl; steps = λ word. refl; loaded = λ word. refl; beside = tt }) record {
+  keeps = sweep_keeps group;
+  fewer = λ few. sweep_leaves group;
+  inside = λ heap state book rule cycle is.
+      let dead : ℕ = dead_bits_of (at heap state.words (Control group)) in
+      examined_inside heap state book rule cycle group dead 0 (next_place_of dead 0);
+  all = λ heap phase looked fits. fits.all;
+}
+
+-- all that is asked of it
+pub examine_kind : (group : ℕ) (dead : ℕ) (place : ℕ) (counted : ℕ) → TurnKind (stages.Examining group dead place counted)
+examine_kind group dead place counted = load_kind (stages.Examining group dead place counted) (λ heap collector. record { adds_none = refl; steps = λ word. refl; loaded = λ word. refl; beside = tt }) record {
+  keeps = examine_keeps group dead place counted;
+  fewer = λ few. examine_leaves group dead place counted;
+  inside = λ heap state book rule cycle is.
+      examined_inside heap state book rule cycle group dead (counted + spine_words_in (at heap state.words (Word (16 * group + place) 0))) (next_place_of dead (place + 1));
+  all = λ heap phase looked fits. fits.sweeps.all;
+}

@@ -1,33 +1,25 @@
 -- An array swings to the collector's copy of its spine: that keeps the rule.
 use Rattle.std.specs.Option.{IsSomeAnd}
 use Rattle.std.proofs.Common.{◌≡◌, ◌%◌, true, false, List, [], ◌∷◌, ◌++◌, length, Some, inl, refl, sym, ap, ◌∙◌, subst, arith}
+use Rattle.core_rule.proofs.Terms.{cycle_phases, Entry, Heap, IsLegal, graph_of, phase, Graph, Node, node, turn_at, State, Book, id_at, node_at, CollectorAgrees, Rule, Swings}
+use Rattle.heap_model.specs.PhasePlan.{copying as copying_phase}
 use Rattle.heap_words.specs.declared.spot.Spot.{Spot}
-use Rattle.heap_model.specs.declared.entry.Entry.{Entry}
-use Rattle.heap_model.specs.declared.heap.Heap.{Heap}
-use Rattle.heap_model.specs.account.Account.{IsLegal}
-use Rattle.heap_model.specs.account.Cycles.{graph_of}
-use Rattle.heap_model.specs.account.PhaseCounts.{phase}
 use Rattle.heap_model.specs.account.Sweep.{IsArray, HasSwung}
-use Rattle.heap_model.specs.graph.Graph.{Graph, Node}
-use Rattle.heap_model.specs.graph.Objects.{node}
-use Rattle.core_machine.specs.collector.Collector.{turn_at}
 use Rattle.core_machine.specs.declared.collector.stage.Copying.TheVariants.{Swinging}
 use Rattle.core_machine.specs.declared.collector.stage.SpineCopy.{SpineCopy}
 use Rattle.core_machine.specs.declared.collector.stage.Stage.TheVariants as stages
-use Rattle.core_machine.specs.machine.Machine.{State}
-use Rattle.core_rule.specs.Book.{Book, id_at}
-use Rattle.core_rule.specs.Objects.{node_at}
-use Rattle.core_rule.specs.Phases.{CollectorAgrees}
-use Rattle.core_rule.specs.Rule.{Rule}
 use Rattle.core_rule.proofs.copies.CopyingStages.{in_copying, after_marking, marks_copying}
 use Rattle.core_rule.proofs.copies.SwungBook.{to_copy, its, now, entry, book_swung}
 use Rattle.core_rule.proofs.copies.SwungSeats.{heap_swung, seat_swung}
 use Rattle.core_rule.proofs.copies.SwungSpace.{collector_swung, stage, free, space_swung}
 use Rattle.core_rule.proofs.entries.Legality.{legal_more, keeps_swings}
 use Rattle.core_rule.proofs.entries.ToldTurns.{agrees_told}
-use Rattle.core_rule.proofs.footprint.BookGoing.{owners_stay}
+use Rattle.core_rule.proofs.book.BookGoing.{owners_stay}
 use Rattle.core_rule.proofs.graph.SameNodes.{made_node}
 use Rattle.core_rule.proofs.steps.TurnSteps.{StageKeeps, TurnKeeps, turn_steps}
+use Rattle.core_rule.proofs.steps.TurnKinds.{TurnKind, Inside, beside, adds_one, swings_in_phase, keeps_whole, keeps_bits, beside_spines, looked_all}
+use Rattle.core_rule.proofs.turns.CopyTurns.{copy_turn_leaves, swinging_leaves}
+use Rattle.core_rule.proofs.turns.WorkCases.{seen_on}
 
 module _ (heap : Heap) (state : State) (book : Book) (rule : Rule heap state book) (copy : SpineCopy) (swinging : state.collector.stage ≡ stages.Copying (Swinging copy)) where
   abbrev g : Graph
@@ -39,8 +31,8 @@ module _ (heap : Heap) (state : State) (book : Book) (rule : Rule heap state boo
   abbrev log : List Entry
   log = state.collector.log ++ entry heap state book rule copy swinging ∷ []
 
-  fourth : phase book.history % 7 ≡ 4
-  fourth = ap (λ p. p % 7) (sym rule.collector_stands.phase_told) ∙ in_copying heap state book rule (Swinging copy) swinging
+  fourth : phase book.history % cycle_phases ≡ copying_phase
+  fourth = ap (λ p. p % cycle_phases) (sym rule.collector_stands.phase_told) ∙ in_copying heap state book rule (Swinging copy) swinging
 
   -- it is an array
   is_array : IsArray g copy.array.id
@@ -80,3 +72,15 @@ module _ (heap : Heap) (state : State) (book : Book) (rule : Rule heap state boo
 
 pub swing_keeps : (copy : SpineCopy) → StageKeeps (stages.Copying (Swinging copy))
 swing_keeps copy heap state book rule swinging machine = swing_turns heap state book rule copy swinging machine
+
+-- all that is asked of it
+pub swing_kind : (copy : SpineCopy) → TurnKind (stages.Copying (Swinging copy))
+swing_kind copy = record {
+  keeps = keeps_whole (stages.Copying (Swinging copy)) (swing_keeps copy);
+  fewer = copy_turn_leaves (Swinging copy) (swinging_leaves copy);
+  inside = λ heap state book rule cycle is. seen_on (Inside heap state book rule cycle) (λ stage. tt) tt heap _ _ _;
+  shape = λ heap collector found. adds_one (stages.Copying (Swinging copy)) (Swings copy.array.id) (swings_in_phase heap copy.array.id) refl refl;
+  looked = looked_all (stages.Copying (Swinging copy)) (λ heap phase looked fits. fits.0.all);
+  bits = keeps_bits (stages.Copying (Swinging copy)) (λ heap collector. beside (λ g below e. omega (arith, e, below)));
+  spines = beside_spines (stages.Copying (Swinging copy)) (λ heap collector. tt);
+}

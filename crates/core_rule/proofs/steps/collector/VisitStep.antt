@@ -1,21 +1,18 @@
 -- The load of a group's control word, which tells the marked fragments to be visited, keeps the rule.
 use Rattle.std.proofs.Common.{◌≡◌, ℕ, ◌/◌, ◌≤◌, inl, inr, refl, sym, arith}
 use Rattle.std.proofs.lemmas.Bool.{cases_lt}
-use Rattle.heap_model.specs.declared.heap.Heap.{Heap}
+use Rattle.core_rule.proofs.Terms.{Heap, Control, State, at, Book, fragment_at, IsToVisit, Rule}
 use Rattle.core_machine.specs.collector.Copying.{marked_bits_of, after_visit}
 use Rattle.core_machine.specs.declared.collector.stage.Copying.TheVariants.{Visiting}
 use Rattle.core_machine.specs.declared.collector.stage.Stage.TheVariants as stages
 use Rattle.core_machine.specs.declared.collector.stage.Visit.{Visit}
-use Rattle.core_machine.specs.declared.table.address.Address.TheVariants.{Control}
-use Rattle.core_machine.specs.machine.Machine.{State}
-use Rattle.core_machine.specs.table.Layout.{at}
-use Rattle.core_rule.specs.Book.{Book, fragment_at}
-use Rattle.core_rule.specs.Halves.{IsToVisit}
-use Rattle.core_rule.specs.Rule.{Rule}
 use Rattle.core_rule.proofs.copies.CopyingStages.{LeadsTo, copying_loads, fits_from, after_marking}
 use Rattle.core_rule.proofs.copies.Visits.{has_bit, are_marked}
 use Rattle.core_rule.proofs.copies.VisitsOn.{ArraysOr, arrays_from, leads_seen, kept_marked}
 use Rattle.core_rule.proofs.steps.TurnSteps.{StageKeeps}
+use Rattle.core_rule.proofs.steps.TurnKinds.{TurnKind, load_kind, Inside}
+use Rattle.core_rule.proofs.turns.CopyTurns.{copy_turn_leaves, visiting_leaves}
+use Rattle.core_rule.proofs.turns.WorkCases.{seen_on}
 
 module _ (heap : Heap) (state : State) (book : Book) (rule : Rule heap state book) (group : ℕ) (visiting : state.collector.stage ≡ stages.Copying (Visiting group)) where
   abbrev begun : Visit
@@ -49,3 +46,12 @@ module _ (heap : Heap) (state : State) (book : Book) (rule : Rule heap state boo
 pub visit_keeps : (group : ℕ) → StageKeeps (stages.Copying (Visiting group))
 visit_keeps group heap state book rule visiting machine =
     copying_loads heap state book rule (Visiting group) visiting (after_visit heap group (at heap state.words (Control group))) (visit_leads heap state book rule group visiting) (Control group) machine
+
+-- all that is asked of it
+pub visit_kind : (group : ℕ) → TurnKind (stages.Copying (Visiting group))
+visit_kind group = load_kind (stages.Copying (Visiting group)) (λ heap collector. record { adds_none = refl; steps = λ word. refl; loaded = λ word. refl; beside = tt }) record {
+  keeps = visit_keeps group;
+  fewer = copy_turn_leaves (Visiting group) (visiting_leaves group);
+  inside = λ heap state book rule cycle is. seen_on (Inside heap state book rule cycle) (λ stage. tt) tt heap _ _ _;
+  all = λ heap phase looked fits. fits.0.all;
+}

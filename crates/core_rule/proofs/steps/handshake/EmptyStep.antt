@@ -2,27 +2,14 @@
 use Rattle.std.proofs.Common.{◌≡◌, ℕ, ◌+◌, ◌<◌, false, List, [], ◌∷◌, length, filter, drop, refl, ◌∙◌, subst, arith}
 use Rattle.std.proofs.lemmas.Bool.{eq-eqb}
 use Rattle.heap_model.specs.declared.command.Command.TheVariants as commands
-use Rattle.heap_model.specs.declared.entry.Entry.{Entry}
+use Rattle.core_rule.proofs.Terms.{Entry, graph_of, is_of, graph_seat, taken_of, spent_of, Graph, Control, target_of, IsAtRest, at, seat_at, Seat, Book, IsAnswered}
 use Rattle.heap_model.specs.declared.entry.Entry.TheVariants as entries
-use Rattle.heap_model.specs.account.Cycles.{graph_of}
-use Rattle.heap_model.specs.account.Effects.{is_of}
-use Rattle.heap_model.specs.graph.Objects.{graph_seat}
-use Rattle.heap_model.specs.account.Space.{taken_of, spent_of}
-use Rattle.heap_model.specs.graph.Graph.{Graph}
-use Rattle.core_machine.specs.declared.table.address.Address.TheVariants.{Control}
-use Rattle.core_machine.specs.declared.place.Leaving.TheVariants.{Emptying, Parting}
+use Rattle.core_machine.specs.declared.place.Leaving.TheVariants.{Emptying}
 use Rattle.core_machine.specs.declared.place.Place.TheVariants as places
 use Rattle.core_machine.specs.seat.HandshakeMoves.{empty_move}
-use Rattle.core_machine.specs.seat.Commands.{target_of}
-use Rattle.core_machine.specs.seat.Fits.{IsAtRest}
-use Rattle.core_machine.specs.table.Layout.{at}
-use Rattle.core_machine.specs.machine.Machine.{seat_at}
 use Rattle.core_machine.specs.Moves.{seat_after}
-use Rattle.core_machine.specs.seat.Seat.{Seat}
-use Rattle.core_rule.specs.Book.{Book}
-use Rattle.core_rule.specs.Gathers.{IsAnswered}
-use Rattle.core_rule.proofs.footprint.BookGoing.{owners_go}
-use Rattle.core_rule.proofs.footprint.OwnersGo.{give_goes}
+use Rattle.core_rule.proofs.book.BookGoing.{owners_go}
+use Rattle.core_rule.proofs.book.OwnersGo.{give_goes}
 use Rattle.core_rule.proofs.frames.SeatFrames.{registers_owners}
 use Rattle.core_rule.proofs.steps.Assemble.{seat_steps, step_space, StepKeeps}
 use Rattle.core_rule.proofs.entries.AtRest.{seat_fits, in_flight, own_reserve, none_awaited}
@@ -33,8 +20,11 @@ use Rattle.core_rule.proofs.entries.OwnEntries.{counts_own, own_grows}
 use Rattle.core_rule.proofs.hand.ReserveGiven.{reserve_held, reserve_once, holding_emptied, emptied_bits}
 use Rattle.core_rule.proofs.entries.SeatLists.{whole_list, all_told}
 use Rattle.core_rule.proofs.hand.StoredFrames.{stored_control}
-use Rattle.core_rule.proofs.spines.NoneMade.{MakesNone, none_has_place, none_weights}
+use Rattle.core_rule.proofs.budgets.NoneMade.{MakesNone, none_has_place, none_weights}
 use Rattle.core_rule.proofs.spines.SpineFrames.{spine_away}
+use Rattle.core_rule.proofs.steps.StepKinds.{StepKind, spares, shows_one, gives, on_its_way, plain_words, born_bits}
+use Rattle.core_rule.proofs.words.WordBits.{untaken_born}
+use Rattle.core_machine.proofs.table_lemmas.Masks.{mask-lt}
 
 -- the give back keeps the rule
 pub empty_keeps : StepKeeps (places.Leaving Emptying) (λ heap. empty_move)
@@ -79,7 +69,7 @@ empty_keeps heap state book number rule here place machine =
         list = whole_list (graph_of heap later.history) later.history book.made later.owner book.fragments number now refl (own_grows number book.history seat.mine entry (eq-eqb number number refl) told);
         counts = rw graph (counts_own g g book.history number seat now stands.told.counts entry (eq-eqb number number refl)
             stands.told.counts.numbered stands.told.counts.stamped stands.told.counts.leaves (omega arith));
-        began = began_past book.history entry number (book.begun number) seat.place (places.Leaving Parting) refl (λ still. subst IsAnswered place) stands.told.began;
+        began = began_past book.history entry number (book.begun number) seat.place now.place refl (λ still. subst IsAnswered place) stands.told.began;
         gathers = gathers_none heap later.owner number (drop (book.begun number) later.history) seat.cursor seat.tried seat.given rest.none_tried rest.none_given;
         used = tt;
       };
@@ -90,3 +80,20 @@ empty_keeps heap state book number rule here place machine =
     (step_space heap state book number rule here words now later (leaves_spines heap state book number rule here seat.cursor fs below held once) (none_weights seat now makes tt)
     (grants_given heap state book number rule here seat.cursor fs below held once) (λ f dark. dark))
     (owners_go heap state book later.history book.begun later.owner (give_goes (length book.made) book.owner fs number held))
+
+-- all that is asked of it
+pub empty_kind : StepKind (places.Leaving Emptying)
+empty_kind = record {
+  keeps = λ heap state book number rule here looks. empty_keeps heap state book number rule here;
+  shows = λ heap state number. shows_one _ (gives _);
+  looks = on_its_way (places.Leaving Emptying) (λ heap. empty_move) (λ heap number seat. refl) record {
+    unnamed = λ e. cc e;
+    blind = λ heap number seat. tt;
+    mute = λ heap number seat words found r. refl;
+    stays = λ heap number seat found placed. record { looks = refl; elsewhere = tt };
+    comes = λ heap number seat found. tt;
+  };
+  words = plain_words (places.Leaving Emptying) (λ heap. empty_move) (λ heap number seat. refl) (λ heap number seat is. is) (λ heap number seat low. low)
+      (λ heap state book rule number here. spares _ refl (λ word i above below. born_bits word _ (λ j small. untaken_born word j small _ (mask-lt _)) i above below));
+  found = λ heap state book number stands here placed. tt;
+}

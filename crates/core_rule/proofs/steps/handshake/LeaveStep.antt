@@ -3,39 +3,26 @@ use Rattle.std.proofs.Common.{◌≡◌, ℕ, zero, suc, ◌<◌, true, false, L
 use Rattle.std.proofs.lemmas.Bool.{eq-eqb}
 use Rattle.heap_words.specs.declared.phase.TheConstants.{LEFT}
 use Rattle.heap_model.specs.declared.command.Command.TheVariants as commands
-use Rattle.heap_model.specs.declared.entry.Entry.{Entry}
+use Rattle.core_rule.proofs.Terms.{Entry, Value, leave, graph_of, after_reply, graph_seat, phase, is_leave_of, Graph, IsAtRest, at, put, seat_at, Seat, Objects, IsReached}
+use Rattle.core_rule.proofs.Terms.{Register, register_head}
 use Rattle.heap_model.specs.declared.entry.Entry.TheVariants as entries
-use Rattle.heap_model.specs.declared.id.Value.{Value}
 use Rattle.heap_model.specs.declared.id.Value.TheVariants as values
 use Rattle.heap_model.specs.declared.reply.Reply.TheVariants as replies
-use Rattle.heap_model.specs.graph.Changes.{leave}
 use Rattle.heap_model.specs.Command.{IsCommand}
-use Rattle.heap_model.specs.account.Cycles.{graph_of}
-use Rattle.heap_model.specs.graph.Growth.{after_reply}
-use Rattle.heap_model.specs.graph.Objects.{graph_seat}
-use Rattle.heap_model.specs.account.PhaseCounts.{phase, is_leave_of}
 use Rattle.heap_model.specs.account.Phases.{ShowsPhases}
 use Rattle.heap_model.specs.graph.Replies.{Says}
-use Rattle.heap_model.specs.graph.Graph.{Graph, GraphSeat}
+use Rattle.heap_model.specs.graph.Graph.{GraphSeat}
 use Rattle.core_machine.specs.declared.table.address.Address.TheVariants.{Answer}
 use Rattle.core_machine.specs.declared.place.Leaving.TheVariants.{Parting}
 use Rattle.core_machine.specs.declared.place.Place.TheVariants as places
 use Rattle.core_machine.specs.declared.seat.register.Register.TheVariants as registers
 use Rattle.core_machine.specs.seat.HandshakeMoves.{leave_move}
-use Rattle.core_machine.specs.seat.Fits.{IsAtRest}
-use Rattle.core_machine.specs.table.Layout.{at, put}
-use Rattle.core_machine.specs.machine.Machine.{seat_at}
 use Rattle.core_machine.specs.Moves.{seat_after}
-use Rattle.core_machine.specs.seat.Seat.{Seat}
 use Rattle.core_machine.proofs.table_lemmas.Addresses.{at-put_same}
-use Rattle.core_rule.specs.Objects.{Objects}
-use Rattle.core_rule.specs.Registers as regs
-use Rattle.core_rule.specs.Paths.{IsReached}
+use Rattle.core_rule.specs.graph.Registers as regs
 use Rattle.core_rule.proofs.colours.LeadsFrames.{same_ahead}
 use Rattle.core_rule.proofs.spines.OtherWords.{spines_left_answer}
 use Rattle.std.specs.Prelude.{IfSome}
-use Rattle.core_machine.specs.declared.seat.register.Register.{Register}
-use Rattle.core_machine.specs.seat.Registers.{register_head}
 use Rattle.core_rule.proofs.frames.SeatFrames.{with_entry}
 use Rattle.core_rule.proofs.marking.Marks.{MarksGoOn, Leaves, leaves_words, heap_marks_on, comes_on}
 use Rattle.core_rule.proofs.cycle.AnswerWords.{fragments_answer, heap_cycle_answer, leaves_answer}
@@ -48,6 +35,7 @@ use Rattle.core_rule.proofs.objects.ObjectFrames.{objects_words}
 use Rattle.core_rule.proofs.entries.PhaseEntries.{phase_stays, answered_stays, left_once}
 use Rattle.core_rule.proofs.steps.ReplyStep.{reply_keeps, graph_replies}
 use Rattle.core_rule.proofs.entries.SeatLists.{all_told}
+use Rattle.core_rule.proofs.steps.StepKinds.{StepKind, beside, shows_plain, reply_ends, plain_words}
 
 -- each register of such a list is nil
 all_nil : {A : Type 0} (x : A) (n i : ℕ) → get_or (replicate n x) i x ≡ x
@@ -130,3 +118,15 @@ leave_keeps heap state book number rule here place machine =
 
     all_holds : (i : ℕ) {value : Value} → value ≡ values.Nil → regs.HoldsValue book.made book.owner book.fragments (get_or (replicate 16 registers.Nil) i registers.Nil) value
     all_holds i {value} is = subst (λ h. regs.HoldsValue book.made book.owner book.fragments h value) (sym (all_nil registers.Nil 16 i)) is
+
+-- all that is asked of it
+pub leave_kind : StepKind (places.Leaving Parting)
+leave_kind = record {
+  keeps = λ heap state book number rule here looks. leave_keeps heap state book number rule here;
+  shows = λ heap state number. shows_plain number (seat_at state number) (places.Leaving Parting) _ tt;
+  looks = reply_ends (places.Leaving Parting) (λ heap. leave_move) (λ seat found. replies.Done) (λ heap number seat. refl) (λ heap number seat. tt)
+      (λ heap number seat found. refl) (λ heap number seat found. refl) (λ heap number seat words found. refl);
+  words = plain_words (places.Leaving Parting) (λ heap. leave_move) (λ heap number seat. refl) (λ heap number seat is. is) (λ heap number seat low. low)
+      (λ heap state book rule number here. beside (λ g below e. omega (arith, e, here, rule.machine.limits.seats_fit)));
+  found = λ heap state book number stands here placed. tt;
+}

@@ -5,37 +5,24 @@ use Rattle.std.proofs.lemmas.Bool.Decides.{eqb_tells}
 use Rattle.std.proofs.lemmas.List.{append-nil}
 use Rattle.heap_model.specs.declared.command.Command.TheVariants as commands
 use Rattle.heap_model.specs.declared.entry.Entry.TheVariants as entries
-use Rattle.heap_model.specs.declared.heap.Heap.{Heap}
+use Rattle.core_rule.proofs.Terms.{Heap, graph_of, is_of, phase, last_answer, has_left, Graph, target_of, IsAtRest, IsSilent, at, put, State, seat_at, Seat, with_seen}
+use Rattle.core_rule.proofs.Terms.{with_entries, after_call, IsMachine, Book, SeatInCycle, Asks, PollingStands, IsReached, Rule, SeatStands, IsAwaited, Command}
 use Rattle.heap_model.specs.declared.reply.Reply.TheVariants as replies
 use Rattle.heap_model.specs.Command.{IsCommand}
-use Rattle.heap_model.specs.account.Cycles.{graph_of}
-use Rattle.heap_model.specs.account.Effects.{is_of}
-use Rattle.heap_model.specs.account.PhaseCounts.{phase, last_answer, has_left}
-use Rattle.heap_model.specs.graph.Graph.{Graph}
 use Rattle.core_machine.specs.declared.table.address.Address.TheVariants.{Phase}
 use Rattle.core_machine.specs.declared.place.Place.TheVariants as places
 use Rattle.core_machine.specs.declared.place.Polling.TheVariants.{Asking, Shading, Answering}
 use Rattle.core_machine.specs.seat.HandshakeMoves.{poll_move, phase_told}
-use Rattle.core_machine.specs.seat.Commands.{target_of}
-use Rattle.core_machine.specs.seat.Fits.{IsAtRest, IsSilent, AnswersThePhase}
-use Rattle.core_machine.specs.table.Layout.{at, put}
-use Rattle.core_machine.specs.machine.Machine.{State, seat_at}
-use Rattle.core_machine.specs.seat.Handshake.{roots, answer_next, polling_over}
+use Rattle.core_machine.specs.seat.Fits.{AnswersThePhase}
+use Rattle.core_machine.specs.seat.Handshake.{roots, answer_next, polling_over, after_phase_load}
 use Rattle.core_machine.specs.seat.Looks.{seen_phase}
-use Rattle.core_machine.specs.seat.Seat.{Seat, with_seen, with_entries, after_call}
-use Rattle.core_machine.specs.machine.Value.{IsMachine}
 use Rattle.core_machine.proofs.table_lemmas.Addresses.{put-at}
-use Rattle.core_rule.specs.Book.{Book}
-use Rattle.core_rule.specs.Cycle.{SeatInCycle}
-use Rattle.core_rule.specs.Phases.{Asks, PollingStands}
-use Rattle.core_rule.specs.Paths.{IsReached}
-use Rattle.core_rule.specs.Rule.{Rule, SeatStands}
-use Rattle.core_rule.proofs.spines.BudgetFrames.{grants_same}
+use Rattle.core_rule.proofs.budgets.BudgetFrames.{grants_same}
 use Rattle.core_rule.proofs.colours.SpineStays.{same_sources}
 use Rattle.core_rule.proofs.marking.Marks.{roots_off_way, leaves_words, marks_off_way}
-use Rattle.core_rule.proofs.footprint.BookGoing.{book_stays}
+use Rattle.core_rule.proofs.book.BookGoing.{book_stays}
 use Rattle.core_rule.proofs.steps.Assemble.{Keeps, seat_steps, step_space, StepKeeps}
-use Rattle.core_rule.proofs.cycle.Roots.{roots_marked}
+use Rattle.core_rule.proofs.roots.Roots.{roots_marked}
 use Rattle.core_rule.proofs.entries.AtRest.{seat_fits, in_flight, none_awaited}
 use Rattle.core_rule.proofs.entries.InFlight.{began_on}
 use Rattle.core_rule.proofs.graph.LocalReplies.{IsLocalReply, HoldAll}
@@ -45,12 +32,11 @@ use Rattle.core_rule.proofs.entries.PhaseEntries.{no_leave_told}
 use Rattle.core_rule.proofs.graph.PutRegister.{only_none}
 use Rattle.core_rule.proofs.entries.SeatLists.{all_told}
 use Rattle.core_rule.proofs.entries.PhasesTold.{answers_by}
-use Rattle.core_rule.proofs.spines.NoneMade.{none_has_place, none_weights}
+use Rattle.core_rule.proofs.budgets.NoneMade.{none_has_place, none_weights}
 use Rattle.core_rule.proofs.spines.OtherWords.{spines_left_none}
 use Rattle.core_rule.proofs.spines.SpineFrames.{spine_away}
 use Rattle.core_rule.proofs.steps.QuietLoads.{quiet_ends}
-use Rattle.core_rule.specs.Registers.{IsAwaited}
-use Rattle.heap_model.specs.declared.command.Command.{Command}
+use Rattle.core_rule.proofs.steps.StepKinds.{StepKind, only_loads, shows_poll, poll_follows, seen_first, polling_goes, from_usual, phase_usual, poll_finds, plain_words}
 
 -- the seat after the load, by whether it has answered the phase found
 abbrev polled : ℕ → Command → Seat → ℕ → Bool → Seat
@@ -192,3 +178,19 @@ module _ (heap : Heap) (state : State) (book : Book) (number : ℕ) (rule : Rule
 -- a poll's load keeps the rule
 pub poll_keeps : StepKeeps (places.Polling Asking) (λ heap. poll_move)
 poll_keeps heap state book number rule here place = poll_kept heap state book number rule here place
+
+-- all that is asked of it
+pub poll_kind : StepKind (places.Polling Asking)
+poll_kind = record {
+  keeps = λ heap state book number rule here looks. poll_keeps heap state book number rule here;
+  shows = λ heap state number. shows_poll number (seat_at state number) (places.Polling Asking) ((at heap state.words Phase) == (seat_at state number).answered) (at heap state.words Phase);
+  looks = record {
+    follows = λ heap state number seat compares placed. poll_follows heap state number seat ((at heap state.words Phase) == seat.answered) (at heap state.words Phase) refl;
+    goes = λ heap state book rule number placed. seen_first heap state book rule number _ _ (λ other p comparing. cc (placed, comparing))
+        (polling_goes heap number book.history (with_seen (at heap state.words Phase) (seat_at state number)) ((at heap state.words Phase) == (seat_at state number).answered) (at heap state.words Phase) _ (λ named. cc (placed, named)));
+    comes = λ heap number seat found placed. from_usual _ (after_phase_load (with_seen found seat) found).place (phase_usual (with_seen found seat) found);
+  };
+  words = plain_words (places.Polling Asking) (λ heap. poll_move) (λ heap number seat. refl) (λ heap number seat is. is) (λ heap number seat low. low)
+      (λ heap state book rule number here. only_loads (λ word. refl));
+  found = λ heap state book number stands here placed. poll_finds heap state book number stands here (λ idle. cc (placed, idle));
+}

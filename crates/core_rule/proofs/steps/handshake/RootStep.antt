@@ -2,35 +2,26 @@
 use Rattle.std.proofs.Common.{◌≡◌, ℕ, ◌+◌, ◌%◌, ◌<◌, ◌==◌, if◌then◌else◌, Bool, true, false, List, [], length, filter, slice_index_or, refl, sym, ap, subst, arith, nat_lt}
 use Rattle.std.proofs.lemmas.Bool.{cond_both, eqb-true}
 use Rattle.std.proofs.lemmas.List.{append-nil}
-use Rattle.heap_model.specs.account.Cycles.{graph_of}
-use Rattle.heap_model.specs.account.Effects.{is_of}
-use Rattle.heap_model.specs.graph.Objects.{register_value}
-use Rattle.heap_model.specs.account.PhaseCounts.{phase, last_answer, has_left}
-use Rattle.heap_model.specs.graph.Graph.{Graph}
+use Rattle.core_rule.proofs.Terms.{cycle_phases, graph_of, is_of, register_value, phase, last_answer, has_left, Graph, target_of, seat_at, heads_of, register_in, Seat, RootsStand}
+use Rattle.core_rule.proofs.Terms.{WhilePolling, IsAnswered, Asks, PollingStands, AnswerStands, IsAwaited, HoldsValue, IsReached}
+use Rattle.heap_model.specs.PhasePlan.{marking as marking_phase}
 use Rattle.core_machine.specs.declared.place.Place.TheVariants as places
 use Rattle.core_machine.specs.declared.place.Polling.TheVariants.{Shading, Answering}
 use Rattle.core_machine.specs.seat.HandshakeMoves.{root_move}
-use Rattle.core_machine.specs.seat.Commands.{target_of}
 use Rattle.core_machine.specs.seat.Fits.{SeatIsAnswering as FitsAnswers}
-use Rattle.core_machine.specs.machine.Machine.{seat_at}
 use Rattle.core_machine.specs.seat.Handshake.{roots, answer_place}
-use Rattle.core_machine.specs.seat.Registers.{heads_of, register_in}
-use Rattle.core_machine.specs.seat.Seat.{Seat}
-use Rattle.core_rule.specs.Flight.{RootsStand, WhilePolling}
-use Rattle.core_rule.specs.Gathers.{IsAnswered}
-use Rattle.core_rule.specs.Phases.{Asks, PollingStands, AnswerStands}
-use Rattle.core_rule.specs.Registers.{IsAwaited, HoldsValue}
-use Rattle.core_rule.specs.Paths.{IsReached}
-use Rattle.core_rule.proofs.footprint.BookGoing.{by_register}
+use Rattle.core_rule.proofs.book.BookGoing.{by_register}
 use Rattle.core_rule.proofs.marking.Marks.{roots_off_way}
 use Rattle.core_rule.proofs.steps.Assemble.{StepKeeps, seat_fits}
 use Rattle.core_rule.proofs.cycle.CycleFrames.{cycle_by_flight}
 use Rattle.core_rule.proofs.colours.Births.{births_stay}
-use Rattle.core_rule.proofs.cycle.Roots.{FrontMarked, front_more, roots_all, roots_marked}
+use Rattle.core_rule.proofs.roots.Roots.{FrontMarked, front_more, roots_all, roots_marked}
 use Rattle.core_rule.proofs.ways.LoadedObjects.{KeptHead, RefersTo, refers_kept, heads_refer}
 use Rattle.core_rule.proofs.entries.SeatLists.{list_more}
 use Rattle.core_rule.proofs.colours.ShadeColours.{with_mark}
 use Rattle.core_rule.proofs.steps.ShadeStep.{shading, words_shaded, shade_keeps, answer_shaded, borne_unshaded}
+use Rattle.core_rule.proofs.steps.StepKinds.{StepKind, spares, way_kind, plain_words}
+use Rattle.core_rule.proofs.colours.OneBit.{bit_above}
 
 -- whoever goes on to shade or to answer asks for the phase
 asks_on : (phase answer asked : ℕ) (seat : Seat) → Asks phase answer asked → PollingStands phase answer asked (answer_place seat)
@@ -50,8 +41,8 @@ root_keeps heap state book number rule here place machine =
     let stands = rule.seats_stand number here in
     let fits : FitsAnswers seat × (seat.shaded < length (roots seat)) = rw place at (seat_fits rule number here).answer_at_place in
     let asks : Asks p seat.answered seat.asked = subst (λ x. AnswerStands p seat.answered seat.asked x) place stands.cycle.answer in
-    let third : (seat.asked % 7 == 3) ≡ true = roots_third (seat.asked % 7 == 3) (heads_of seat.registers) seat.shaded fits.1 in
-    let is_third : seat.asked % 7 ≡ 3 = eqb-true (seat.asked % 7) 3 third in
+    let third : (seat.asked % cycle_phases == marking_phase) ≡ true = roots_third (seat.asked % cycle_phases == marking_phase) (heads_of seat.registers) seat.shaded fits.1 in
+    let is_third : seat.asked % cycle_phases ≡ marking_phase = eqb-true (seat.asked % cycle_phases) marking_phase third in
     let all : roots seat ≡ heads_of seat.registers = roots_all seat is_third in
     let f : ℕ = slice_index_or (roots seat) seat.shaded 0 in
     let busy : ¬ IsAnswered seat.place = λ done. subst IsAnswered place done in
@@ -62,7 +53,7 @@ root_keeps heap state book number rule here place machine =
     (heads_refer book.made book.owner book.fragments seat.registers (λ r. register_value g number r) held seat.shaded (subst (λ (fs : List ℕ). seat.shaded < length fs) all fits.1)) in
     let head : KeptHead book.made book.owner book.fragments f = refers_kept book.made book.owner book.fragments (register_value g number refers.0) f refers.1 in
     let front : FrontMarked book.colour seat.registers seat.shaded
-    = subst (λ x. seat.asked % 7 ≡ 3 → WhilePolling (RootsStand book.colour seat) x) place stands.cycle.flight.roots is_third in
+    = subst (λ x. seat.asked % cycle_phases ≡ marking_phase → WhilePolling (RootsStand book.colour seat) x) place stands.cycle.flight.roots is_third in
     let new : Seat = shading seat (seat.shaded + 1) (places.Polling (answer_place (record seat { shaded = seat.shaded + 1 }))) in
     shade_keeps heap state book number rule here f head.index head.kept head.is (seat.shaded + 1) (places.Polling (answer_place (record seat { shaded = seat.shaded + 1 })))
     (λ rests. omega (arith, rests, asks.now, is_third)) machine
@@ -85,3 +76,14 @@ root_keeps heap state book number rule here place machine =
     (λ marks. roots_off_way (IsReached heap state.words book.owner book.colour) seat new refl tt)
     (λ last. omega (arith, asks.next, is_third, last))
     (by_register number refers.0 refers.1)
+
+-- all that is asked of it
+pub root_kind : StepKind (places.Polling Shading)
+root_kind = way_kind (places.Polling Shading) (λ heap number. root_move) (λ heap number seat. refl) (λ e. cc e) (λ heap number seat. tt) (λ heap number seat words found. refl) record {
+  keeps = root_keeps;
+  stays = λ heap number seat found placed. record { looks = refl; elsewhere = tt };
+  comes = λ heap number seat found. tt;
+  words = plain_words (places.Polling Shading) (λ heap number. root_move) (λ heap number seat. refl) (λ heap number seat is. is) (λ heap number seat low. low)
+      (λ heap state book rule number here. spares _ refl (λ word i above below. bit_above word 32 _ i below));
+  found = λ heap state book number stands here placed. tt;
+}

@@ -1,22 +1,10 @@
 -- The begin of a call that makes a record keeps the rule.
 use Rattle.std.proofs.Common.{slice_set, ℕ, ◌<◌, [], length, drop, refl, ◌≡◌, subst, ◌∙◌}
-use Rattle.heap_model.specs.declared.command.Command.{Command}
+use Rattle.core_rule.proofs.Terms.{Command, Heap, spine_need_of, graph_of, phase, last_answer, has_left, IsRecordCall, target_of, IsAtRest, State, seat_at, MayBegin, gather_next}
+use Rattle.core_rule.proofs.Terms.{Seat, IsMachine, Book, Rule, IsReached}
 use Rattle.heap_model.specs.declared.command.Command.TheVariants as commands
-use Rattle.heap_model.specs.declared.heap.Heap.{Heap}
-use Rattle.heap_model.specs.Needs.{spine_need_of}
-use Rattle.heap_model.specs.account.Cycles.{graph_of}
-use Rattle.heap_model.specs.account.PhaseCounts.{phase, last_answer, has_left}
 use Rattle.core_machine.specs.declared.place.Place.TheVariants as places
-use Rattle.core_machine.specs.seat.Commands.{IsRecordCall, target_of}
-use Rattle.core_machine.specs.seat.Fits.{IsAtRest}
-use Rattle.core_machine.specs.machine.Machine.{State, seat_at, MayBegin}
-use Rattle.core_machine.specs.seat.Making.{gather_next}
-use Rattle.core_machine.specs.seat.Seat.{Seat}
-use Rattle.core_machine.specs.machine.Value.{IsMachine}
 use Rattle.core_machine.proofs.seat_lemmas.Fitting.{record_makes}
-use Rattle.core_rule.specs.Book.{Book}
-use Rattle.core_rule.specs.Rule.{Rule}
-use Rattle.core_rule.specs.Paths.{IsReached}
 use Rattle.core_rule.proofs.marking.Marks.{roots_off_way}
 use Rattle.core_rule.proofs.steps.Assemble.{Keeps, seat_begins}
 use Rattle.core_rule.proofs.entries.AtRest.{seat_fits, none_awaited}
@@ -27,7 +15,7 @@ use Rattle.core_rule.proofs.hand.GoesOn.{holding_goes_on, length_goes_on, gather
 use Rattle.core_rule.proofs.cycle.MakingCycle.{cycle_goes_on}
 use Rattle.core_rule.proofs.entries.OwnEntries.{counts_same}
 use Rattle.core_rule.proofs.entries.SeatLists.{list_of_making, idle_list}
-use Rattle.core_rule.proofs.spines.NoneMade.{MakesNone, none_has_place, none_granted, none_placed, none_refused}
+use Rattle.core_rule.proofs.budgets.NoneMade.{MakesNone, none_has_place, none_granted, none_placed, none_refused}
 use Rattle.core_rule.proofs.spines.SpineFrames.{spine_away}
 
 -- a record has no spine words

@@ -1,42 +1,27 @@
 -- A birth of some fragments of an object keeps the rule.
 use Rattle.std.proofs.Common.{◌≡◌, ◌≢◌, ℕ, ◌<◌, Bool, false, List, [], drop, bit_or, refl, sym, ap, ◌∙◌, arith, subst, length}
 use Rattle.std.proofs.lemmas.List.{append-nil}
-use Rattle.heap_model.specs.declared.heap.Heap.{Heap}
-use Rattle.heap_model.specs.account.Cycles.{graph_of}
-use Rattle.heap_model.specs.graph.Graph.{Node}
-use Rattle.heap_model.specs.account.PhaseCounts.{phase, last_answer, has_left}
-use Rattle.core_machine.specs.declared.table.address.Address.TheVariants.{Control}
-use Rattle.core_machine.specs.declared.place.Making.TheVariants.{Bearing}
+use Rattle.core_rule.proofs.Terms.{Heap, graph_of, Node, phase, last_answer, has_left, Control, Bearing, target_of, part_in, part_out, mask_of, at, put, State, seat_at}
+use Rattle.core_rule.proofs.Terms.{last_group_of, before_run, Move, birth_move, is_last_birth, birth_bits_of, Seat, Book, Colour, White, fragment_at, IsMarked, node_at, Owner}
+use Rattle.core_rule.proofs.Terms.{Borne, born_bit, owner_after, IsBoards, Rule}
 use Rattle.core_machine.specs.declared.place.Place.TheVariants as places
-use Rattle.core_machine.specs.seat.Commands.{target_of}
-use Rattle.core_machine.specs.table.Fragments.{part_in, part_out, mask_of}
-use Rattle.core_machine.specs.table.Layout.{at, put}
-use Rattle.core_machine.specs.machine.Machine.{State, seat_at}
-use Rattle.core_machine.specs.seat.Making.{last_group_of, before_run}
-use Rattle.core_machine.specs.Moves.{Move, plain_move, birth_move, bears_black_of, is_last_birth, seat_after}
+use Rattle.core_machine.specs.Moves.{plain_move, bears_black_of, seat_after}
 use Rattle.core_machine.specs.declared.step.Step.TheVariants as steps
 use Rattle.core_machine.specs.declared.step.MakingStep.TheVariants.{Birth}
-use Rattle.core_machine.specs.table.Operation.{birth_bits_of}
-use Rattle.core_machine.specs.seat.Seat.{Seat}
-use Rattle.core_rule.specs.Book.{Book, Colour, White, fragment_at}
-use Rattle.core_rule.specs.Colours.{IsMarked}
-use Rattle.core_rule.specs.Objects.{node_at}
-use Rattle.core_rule.specs.Owners.{Owner, Borne, born_bit, owner_after, IsBoards}
-use Rattle.core_rule.specs.Rule.{Rule}
 use Rattle.core_rule.proofs.cycle.FieldFrames.{watched_born}
 use Rattle.core_rule.proofs.frames.SeatFrames.{same_party, told_nothing, kept_owners, address_left, seat_left, registers_owners}
 use Rattle.core_rule.proofs.marking.MakingMarks.{leaves_borne, dark_now, pale_now}
 use Rattle.core_rule.proofs.marking.Marks.{marks_off_way}
-use Rattle.core_rule.proofs.spines.BudgetFrames.{grants_on, grants_same, same_told}
-use Rattle.core_rule.proofs.spines.SameBooks.{grants_owned, dead_handed}
+use Rattle.core_rule.proofs.budgets.BudgetFrames.{grants_on, grants_same, same_told}
+use Rattle.core_rule.proofs.budgets.SameBooks.{grants_owned, dead_handed}
 use Rattle.core_rule.proofs.spines.OtherWords.{spines_left_control}
 use Rattle.core_rule.proofs.spines.SpineFrames.{spines_stay, same_shapes, spine_goes_on, spines_left, spine_stored, places_same}
 use Rattle.core_rule.proofs.steps.Assemble.{in_flight, seat_steps, step_space, MoveKeeps, seat_fits}
 use Rattle.core_rule.proofs.colours.Births.{birth_colour, births_are, are_births}
 use Rattle.core_rule.proofs.colours.BirthColours.{painted_cases}
 use Rattle.core_rule.proofs.cycle.BirthCycle.{words_born, colours_born, group_born, some_born, marks_born, heap_born, run_born, rest_born}
-use Rattle.core_rule.proofs.footprint.BirthsGo.{painted_goes}
-use Rattle.core_rule.proofs.footprint.OwnersGo.{birth_goes}
+use Rattle.core_rule.proofs.book.BirthsGo.{painted_goes}
+use Rattle.core_rule.proofs.book.OwnersGo.{birth_goes}
 use Rattle.core_rule.proofs.hand.Bodies.{whole_full}
 use Rattle.core_rule.proofs.hand.ClaimOrder.{together_bears}
 use Rattle.core_rule.proofs.words.ControlSteps.{birth_bits_after}
@@ -51,7 +36,7 @@ use Rattle.core_rule.proofs.owners.OwnerFrames.{owners_handed}
 use Rattle.core_rule.proofs.entries.SeatLists.{making_list, list_of_making}
 use Rattle.core_rule.proofs.hand.StoredFrames.{stored_control}
 use Rattle.core_rule.proofs.cycle.Unwatched.{cycle_apart}
-use Rattle.core_rule.proofs.spines.DeadWords.{dead_after_control}
+use Rattle.core_rule.proofs.dying.DeadWords.{dead_after_control}
 
 -- a step that bears this part of the hand, and leaves the rest
 abbrev birth_of : Seat → List ℕ → List ℕ → Move

@@ -3,40 +3,22 @@ use Rattle.core_rule.proofs.objects.BoardKept.{board_kept}
 use Rattle.std.specs.Int.{bit_at}
 use Rattle.std.proofs.Common.{◌≡◌, ◌≢◌, ℕ, ◌+◌, ◌*◌, ◌/◌, ◌%◌, ◌<◌, ◌≤◌, List, [], ◌++◌, length, drop, bit_or, refl, sym, ap, ◌∙◌, subst, arith}
 use Rattle.std.proofs.lemmas.List.{length-append}
-use Rattle.heap_model.specs.declared.entry.Entry.{Entry}
-use Rattle.heap_model.specs.declared.heap.Heap.{Heap}
-use Rattle.heap_model.specs.account.Cycles.{graph_of}
-use Rattle.heap_model.specs.graph.Objects.{graph_seat}
-use Rattle.heap_model.specs.account.PhaseCounts.{phase, last_answer, has_left}
-use Rattle.heap_model.specs.graph.Graph.{Graph, Node}
-use Rattle.core_machine.specs.declared.table.address.Address.TheVariants.{Control}
-use Rattle.core_machine.specs.declared.place.Making.TheVariants.{Gathering}
+use Rattle.core_rule.proofs.Terms.{taken_at, Entry, Heap, graph_of, graph_seat, phase, last_answer, has_left, Graph, Node, Control, Gathering, target_of, SeatIsGathering, clear_in}
+use Rattle.core_rule.proofs.Terms.{tally, at, put, table_length, seat_at, next_group_of, after_claim, claim_move, takes_some, all_taken, Seat, spine_need, Bits, AreUsed}
+use Rattle.core_rule.proofs.Terms.{GathersRight, fragments_in_hand, node_at, Owner, Free, Taken, Borne, free_bit, born_bit, owner_after}
 use Rattle.core_machine.specs.declared.place.Place.TheVariants as places
-use Rattle.core_machine.specs.seat.Commands.{target_of}
-use Rattle.core_machine.specs.seat.Fits.{SeatIsGathering}
-use Rattle.core_machine.specs.table.Fragments.{clear_in, tally}
-use Rattle.core_machine.specs.table.Layout.{at, put, table_length}
-use Rattle.core_machine.specs.machine.Machine.{seat_at}
-use Rattle.core_machine.specs.seat.Making.{next_group_of}
-use Rattle.core_machine.specs.Moves.{claim_move, takes_some, seat_after}
-use Rattle.core_machine.specs.table.Operation.{all_taken}
-use Rattle.core_machine.specs.seat.Seat.{Seat, spine_need}
+use Rattle.core_machine.specs.Moves.{seat_after}
 use Rattle.core_machine.proofs.table_lemmas.Owned.{clear_in-group}
 use Rattle.core_machine.proofs.seat_lemmas.Fitting.{next_within}
-use Rattle.core_rule.specs.ControlWords.{Bits}
-use Rattle.core_rule.specs.Counts.{AreUsed}
-use Rattle.core_rule.specs.Gathers.{GathersRight}
-use Rattle.core_rule.specs.Holding.{fragments_in_hand}
-use Rattle.core_rule.specs.Objects.{node_at}
-use Rattle.core_rule.specs.Owners.{Owner, Free, Taken, Borne, Kept as KeepsPart, free_bit, born_bit, owner_after}
-use Rattle.core_rule.specs.Together.{AreTogether}
+use Rattle.core_rule.specs.owners.Owners.{Kept as KeepsPart}
+use Rattle.core_rule.specs.hand.Together.{AreTogether}
 use Rattle.core_rule.proofs.cycle.FieldFrames.{watched_born}
-use Rattle.core_rule.proofs.footprint.BookGoing.{owners_go}
-use Rattle.core_rule.proofs.footprint.OwnersGo.{claim_goes}
+use Rattle.core_rule.proofs.book.BookGoing.{owners_go}
+use Rattle.core_rule.proofs.book.OwnersGo.{claim_goes}
 use Rattle.core_rule.proofs.frames.SeatFrames.{KeptStays, same_party, kept_owners, address_left, seat_left, registers_owners}
 use Rattle.core_rule.proofs.marking.MakingMarks.{leaves_handed}
 use Rattle.core_rule.proofs.marking.Marks.{marks_off_way}
-use Rattle.core_rule.proofs.spines.SameBooks.{grants_owned, dead_handed}
+use Rattle.core_rule.proofs.budgets.SameBooks.{grants_owned, dead_handed}
 use Rattle.core_rule.proofs.spines.OtherWords.{spines_left_control}
 use Rattle.core_rule.proofs.spines.SpineFrames.{spines_stay, same_shapes, spine_away, spines_left, spine_stored, places_same}
 use Rattle.core_rule.proofs.steps.Assemble.{present_at, seat_steps, step_space, StepKeeps, seat_fits}
@@ -58,8 +40,10 @@ use Rattle.core_rule.proofs.owners.OwnerFrames.{owners_handed}
 use Rattle.core_rule.proofs.owners.OwnerLemmas.{free_by_bit}
 use Rattle.core_rule.proofs.entries.SeatLists.{making_list, list_of_making}
 use Rattle.core_rule.proofs.hand.StoredFrames.{stored_control}
-use Rattle.core_rule.proofs.spines.DeadWords.{dead_after_control}
+use Rattle.core_rule.proofs.dying.DeadWords.{dead_after_control}
 use Rattle.core_rule.proofs.owners.Handed.{dead_unhanded}
+use Rattle.core_rule.proofs.steps.StepKinds.{StepKind, spares, shows_claim, none_claimed, from_usual, claim_usual, stays_claim, on_its_way, plain_words, born_bits}
+use Rattle.core_rule.proofs.words.WordBits.{claim_born}
 
 module _ (heap : Heap) (words : List ℕ) (owner : ℕ → Owner) (g : ℕ) (whole : length words ≡ table_length heap) (below : g < heap.groups) (bits : Bits heap words owner) where
   abbrev clear : List ℕ
@@ -74,7 +58,7 @@ module _ (heap : Heap) (words : List ℕ) (owner : ℕ → Owner) (g : ℕ) (who
       let less : free_bit (owner f) ≡ free_bit (owner_after (Taken number) owner clear f) + tally f clear
       = claim_frees heap owner history number clear (λ x. clear_once g (at heap words (Control g)) x) clear_within used (clear_is_free heap words owner g whole below bits) f in
       let free : tally f clear ≡ free_bit (owner f)
-      = clear_here g (at heap words (Control g)) f here ∙ free_by_bit (owner f) (bit_at (at heap words (Control g)) (f % 16)) (found_taken heap words owner g whole below bits f here) in
+      = clear_here g (at heap words (Control g)) f here ∙ free_by_bit (owner f) (bit_at (at heap words (Control g)) (taken_at f)) (found_taken heap words owner g whole below bits f here) in
       omega (arith, less, free)
 
 -- what is kept isn't free
@@ -194,3 +178,20 @@ claim_keeps heap state book number rule here place machine =
     record { granted = unplaced.granted; placed = unplaced.placed; refused = unplaced.refused; no_place = unplaced.no_place; none_used = unplaced.none_used })
     (grants_owned heap book history owner tells.spines kept (dead_handed (Taken number) book.owner fs (λ i k e. cc) (λ f i k there is. absurd (cc (free f there, is)))) (rw tells.graph (same_shapes nodes))) (λ f dark. dark))
     (owners_go heap state book history book.begun owner (claim_goes (length book.made) book.owner fs number free))
+
+-- all that is asked of it
+pub claim_kind : StepKind (places.Making Gathering)
+claim_kind = record {
+  keeps = λ heap state book number rule here looks. claim_keeps heap state book number rule here;
+  shows = λ heap state number. shows_claim number (seat_at state number) (places.Making Gathering) _;
+  looks = on_its_way (places.Making Gathering) claim_move (λ heap number seat. refl) record {
+    unnamed = λ e. cc e;
+    blind = λ heap number seat. tt;
+    mute = λ heap number seat words found. none_claimed number _;
+    stays = λ heap number seat found placed. stays_claim heap seat found;
+    comes = λ heap number seat found. from_usual _ (after_claim heap seat found).place (claim_usual heap seat found);
+  };
+  words = plain_words (places.Making Gathering) claim_move (λ heap number seat. refl) (λ heap number seat is. is) (λ heap number seat low. low)
+      (λ heap state book rule number here. spares _ refl (λ word i above below. born_bits word _ (λ j small. claim_born word j small) i above below));
+  found = λ heap state book number stands here placed. tt;
+}

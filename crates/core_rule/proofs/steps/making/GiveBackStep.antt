@@ -1,25 +1,13 @@
 -- A give back keeps the rule.
 use Rattle.std.proofs.Common.{◌≡◌, ℕ, ◌+◌, ◌<◌, List, [], ◌∷◌, length, refl, arith}
 use Rattle.std.proofs.lemmas.Bool.{eq-eqb}
-use Rattle.heap_model.specs.declared.entry.Entry.{Entry}
+use Rattle.core_rule.proofs.Terms.{Entry, graph_of, Graph, Control, Returning, target_of, SeatIsRefusing, part_in, part_out, at, seat_at, first_group_of, refusal_place}
+use Rattle.core_rule.proofs.Terms.{after_give_back, give_back_move, Seat, spine_need, Book, fragments_in_hand}
 use Rattle.heap_model.specs.declared.entry.Entry.TheVariants as entries
-use Rattle.heap_model.specs.account.Cycles.{graph_of}
-use Rattle.heap_model.specs.graph.Graph.{Graph}
-use Rattle.core_machine.specs.declared.table.address.Address.TheVariants.{Control}
-use Rattle.core_machine.specs.declared.place.Making.TheVariants.{Returning}
 use Rattle.core_machine.specs.declared.place.Place.TheVariants as places
-use Rattle.core_machine.specs.seat.Commands.{target_of}
-use Rattle.core_machine.specs.seat.Fits.{SeatIsRefusing}
-use Rattle.core_machine.specs.table.Fragments.{part_in, part_out}
-use Rattle.core_machine.specs.table.Layout.{at}
-use Rattle.core_machine.specs.machine.Machine.{seat_at}
-use Rattle.core_machine.specs.seat.Making.{first_group_of, refusal_place}
-use Rattle.core_machine.specs.Moves.{give_back_move, seat_after}
-use Rattle.core_machine.specs.seat.Seat.{Seat, spine_need}
-use Rattle.core_rule.specs.Book.{Book}
-use Rattle.core_rule.specs.Holding.{fragments_in_hand}
-use Rattle.core_rule.proofs.footprint.BookGoing.{owners_go}
-use Rattle.core_rule.proofs.footprint.OwnersGo.{give_goes}
+use Rattle.core_machine.specs.Moves.{seat_after}
+use Rattle.core_rule.proofs.book.BookGoing.{owners_go}
+use Rattle.core_rule.proofs.book.OwnersGo.{give_goes}
 use Rattle.core_rule.proofs.frames.SeatFrames.{registers_owners}
 use Rattle.core_rule.proofs.spines.SpineFrames.{spine_away}
 use Rattle.core_rule.proofs.steps.Assemble.{present_at, seat_steps, step_space, StepKeeps, seat_fits}
@@ -36,6 +24,10 @@ use Rattle.core_rule.proofs.entries.OwnEntries.{own_grows, counts_own}
 use Rattle.core_rule.proofs.lists.Parts.{parts_length, first_some}
 use Rattle.core_rule.proofs.entries.SeatLists.{making_list, whole_list}
 use Rattle.core_rule.proofs.hand.StoredFrames.{stored_control}
+use Rattle.core_rule.proofs.steps.StepKinds.{StepKind, spares, shows_one, gives, from_usual, IsUsual, on_its_way, plain_words, born_bits}
+use Rattle.core_rule.proofs.words.WordBits.{untaken_born}
+use Rattle.core_machine.proofs.seat_lemmas.Fitting.{returning_cases}
+use Rattle.core_machine.proofs.table_lemmas.Masks.{mask-lt}
 
 -- what a hand has without a group, and what it has of the group
 left_of_hand : (reserve hand body : List ℕ) (g : ℕ) → body ≡ [] → length reserve + length (fragments_in_hand (part_out g hand) body) + length (part_in g hand) ≡ length reserve + length (fragments_in_hand hand body)
@@ -100,3 +92,21 @@ give_back_keeps heap state book number rule here place machine =
     (leaves_spines heap state book number rule here g part below held once)
     (unplaced_weights (spine_need seat) seat now (rw place refl) (λ half. rw place refl) (rw place refl) unplaced) (grants_given heap state book number rule here g part below held once) (λ f dark. dark))
     (owners_go heap state book later.history book.begun later.owner (give_goes (length book.made) book.owner part number held))
+
+-- all that is asked of it
+pub give_back_kind : StepKind (places.Making Returning)
+give_back_kind = record {
+  keeps = λ heap state book number rule here looks. give_back_keeps heap state book number rule here;
+  shows = λ heap state number. shows_one _ (gives _);
+  looks = on_its_way (places.Making Returning) (λ heap. give_back_move) (λ heap number seat. refl) record {
+    unnamed = λ e. cc e;
+    blind = λ heap number seat. tt;
+    mute = λ heap number seat words found r. refl;
+    stays = λ heap number seat found placed. record { looks = refl; elsewhere = tt };
+    comes = λ heap number seat found.
+        from_usual _ (after_give_back seat).place (returning_cases (λ place. IsUsual (places.Making place)) (after_give_back seat).hand (λ none. tt) (λ some. tt));
+  };
+  words = plain_words (places.Making Returning) (λ heap. give_back_move) (λ heap number seat. refl) (λ heap number seat is. is) (λ heap number seat low. low)
+      (λ heap state book rule number here. spares _ refl (λ word i above below. born_bits word _ (λ j small. untaken_born word j small _ (mask-lt _)) i above below));
+  found = λ heap state book number stands here placed. tt;
+}

@@ -3,49 +3,32 @@ use Rattle.std.specs.Prelude.{if◌then◌else◌}
 use Rattle.std.proofs.Common.{◌≡◌, ℕ, ◌+◌, ◌%◌, ◌^◌, ◌<◌, ◌≤◌, suc, Bool, nat_lt, inl, inr, List, [], length, drop, slice_set, refl, sym, ap, ◌∙◌, subst, arith}
 use Rattle.std.proofs.lemmas.Bool.Decides.{leb_tells}
 use Rattle.std.proofs.lemmas.List.{append-nil}
-use Rattle.heap_words.specs.Spot.{spot_in}
+use Rattle.core_rule.proofs.Terms.{spot_in, Heap, graph_of, phase, last_answer, has_left, Graph, Granting, Withdrawing, Budget, State, seat_at, IsMachine, grant_move, IsArrayCall}
+use Rattle.core_rule.proofs.Terms.{target_of, IsAtRest, MakesNext, gather_next, Seat, spine_need, with_entries, at, Book, BudgetsStand, UsedStands, GathersRight, Holding}
+use Rattle.core_rule.proofs.Terms.{fragments_in_hand, Rule, SeatStands, HasPlace, next_spine}
 use Rattle.heap_words.specs.declared.spot.Spot.{Spot}
-use Rattle.heap_model.specs.declared.heap.Heap.{Heap}
-use Rattle.heap_model.specs.account.Cycles.{graph_of}
-use Rattle.heap_model.specs.account.PhaseCounts.{phase, last_answer, has_left}
-use Rattle.heap_model.specs.graph.Graph.{Graph}
-use Rattle.core_machine.specs.declared.place.Making.TheVariants.{Granting, Withdrawing}
 use Rattle.core_machine.specs.declared.place.Place.TheVariants as places
-use Rattle.core_machine.specs.declared.table.address.Address.TheVariants.{Budget}
-use Rattle.core_machine.specs.machine.Machine.{State, seat_at}
-use Rattle.core_machine.specs.machine.Value.{IsMachine}
-use Rattle.core_machine.specs.Moves.{grant_move}
-use Rattle.core_machine.specs.seat.Commands.{IsArrayCall, target_of}
-use Rattle.core_machine.specs.seat.Fits.{IsAtRest, MakesNext}
-use Rattle.core_machine.specs.seat.Making.{gather_next}
-use Rattle.core_machine.specs.seat.Seat.{Seat, spine_need, with_entries}
-use Rattle.core_machine.specs.table.Layout.{at}
 use Rattle.core_machine.proofs.table_lemmas.Addresses.{at-put_same}
-use Rattle.core_rule.specs.Book.{Book}
-use Rattle.core_rule.specs.Budgets.{BudgetsStand, UsedStands}
-use Rattle.core_rule.specs.Gathers.{GathersRight}
-use Rattle.core_rule.specs.Holding.{Holding, fragments_in_hand}
-use Rattle.core_rule.specs.Rule.{Rule, SeatStands}
-use Rattle.core_rule.specs.Spines.{HasPlace, next_spine}
-use Rattle.core_rule.specs.Together.{AreTogether}
+use Rattle.core_rule.specs.hand.Together.{AreTogether}
 use Rattle.core_rule.proofs.spines.NoPlaces.{away_range}
-use Rattle.core_rule.proofs.spines.HalvesFrames.{halves_stay}
-use Rattle.core_rule.proofs.spines.BudgetFrames.{grants_same}
+use Rattle.core_rule.proofs.halves.HalvesFrames.{halves_stay}
+use Rattle.core_rule.proofs.budgets.BudgetFrames.{grants_same}
 use Rattle.core_rule.proofs.cycle.MakingCycle.{cycle_goes_on}
 use Rattle.core_rule.proofs.entries.InFlight.{awaits_none, began_on, is_busy}
 use Rattle.core_rule.proofs.entries.OwnEntries.{counts_same}
 use Rattle.core_rule.proofs.entries.SeatLists.{making_list, list_of_making}
-use Rattle.core_rule.proofs.footprint.BookGoing.{book_stays}
+use Rattle.core_rule.proofs.book.BookGoing.{book_stays}
 use Rattle.core_rule.proofs.hand.ClaimOrder.{together_goes_on}
 use Rattle.core_rule.proofs.hand.EmptyHand.{none_stored}
 use Rattle.core_rule.proofs.hand.GoesOn.{StaysMaking, holding_goes_on, length_goes_on, gathers_goes_on, same_goes_on, unplaced_goes_on}
 use Rattle.core_rule.proofs.marking.Marks.{leaves_words, marks_off_way}
-use Rattle.core_rule.proofs.spines.BudgetSteps.{HasWeights, budgets_change, budget_small, budget_grows}
+use Rattle.core_rule.proofs.budgets.BudgetSteps.{HasWeights, budgets_change, budget_small, budget_grows}
 use Rattle.core_rule.proofs.spines.SpineFrames.{spine_away}
-use Rattle.core_rule.proofs.spines.UsedFound.{finds_budget}
-use Rattle.core_rule.proofs.spines.WeightSums.{need_few}
+use Rattle.core_rule.proofs.budgets.UsedFound.{finds_budget}
+use Rattle.core_rule.proofs.budgets.WeightSums.{need_few}
 use Rattle.core_rule.proofs.frames.BudgetWritten.{budget_words, budget_places, budget_sources, heap_budget, seat_budget}
 use Rattle.core_rule.proofs.steps.Assemble.{Keeps, seat_steps, StepKeeps, seat_fits}
+use Rattle.core_rule.proofs.steps.StepKinds.{StepKind, beside, from_grant, stays_budget, way_kind, plain_words}
 
 module _ (heap : Heap) (state : State) (book : Book) (number : ℕ) (rule : Rule heap state book) (here : number < heap.seats) (place : (seat_at state number).place ≡ places.Making Granting) where
   abbrev seat : Seat
@@ -173,3 +156,14 @@ module _ (heap : Heap) (state : State) (book : Book) (number : ℕ) (rule : Rule
 
 pub grant_keeps : StepKeeps (places.Making Granting) grant_move
 grant_keeps heap state book number rule here place = answered heap state book number rule here place
+
+-- all that is asked of it
+pub grant_kind : StepKind (places.Making Granting)
+grant_kind = way_kind (places.Making Granting) grant_move (λ heap number seat. refl) (λ e. cc e) (λ heap number seat. tt) (λ heap number seat words found. refl) record {
+  keeps = grant_keeps;
+  stays = λ heap number seat found placed. stays_budget heap seat found;
+  comes = λ heap number seat found. from_grant heap seat found;
+  words = plain_words (places.Making Granting) grant_move (λ heap number seat. refl) (λ heap number seat is. is) (λ heap number seat low. low)
+      (λ heap state book rule number here. beside (λ g below e. omega (arith, e, below)));
+  found = λ heap state book number stands here placed. omega (arith, budget_small heap state book stands.rule.machine stands.rule.space.budgets);
+}

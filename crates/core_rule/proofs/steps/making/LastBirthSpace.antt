@@ -3,34 +3,14 @@ use Rattle.std.proofs.Common.{◌≡◌, ◌≢◌, ℕ, ◌+◌, ◌*◌, ◌<�
 use Rattle.std.specs.Prelude.{if◌then◌else◌}
 use Rattle.std.proofs.lemmas.List.{length-replicate}
 use Rattle.heap_words.specs.declared.spot.Spot.{Spot}
-use Rattle.heap_model.specs.declared.command.Command.{Command}
+use Rattle.core_rule.proofs.Terms.{Command, Entry, Heap, Id, array_words, graph_of, add, Graph, Node, fresh, unset, graph_seat, spine_words_of, Bearing, State, seat_at, made_entry}
+use Rattle.core_rule.proofs.Terms.{IsArrayCall, target_of, HasBody, SpineIsListed, next_object_id, next_name, newborn_word_of, last_group_of, Seat, spine_need, tally, Book}
+use Rattle.core_rule.proofs.Terms.{fragment_at, granted_at, placed_at, refused_at, nodes_in, words_of_object, words_in_half, Kept, Dead, IsNear, Rule, SeatStands, SpaceStands}
+use Rattle.core_rule.proofs.Terms.{HasPlace, next_spine}
 use Rattle.heap_model.specs.declared.command.Command.TheVariants as commands
-use Rattle.heap_model.specs.declared.entry.Entry.{Entry}
-use Rattle.heap_model.specs.declared.heap.Heap.{Heap}
-use Rattle.heap_model.specs.declared.id.Id.{Id}
-use Rattle.heap_model.specs.Needs.{array_words}
-use Rattle.heap_model.specs.account.Cycles.{graph_of}
 use Rattle.heap_model.specs.account.Sweep.{HasSwung}
-use Rattle.heap_model.specs.graph.Changes.{add}
-use Rattle.heap_model.specs.graph.Graph.{Graph, Node, fresh, unset}
-use Rattle.heap_model.specs.graph.Objects.{graph_seat}
-use Rattle.heap_model.specs.graph.Sizes.{spine_words_of}
 use Rattle.heap_model.proofs.Histories.{total-more}
-use Rattle.core_machine.specs.declared.place.Making.TheVariants.{Bearing}
 use Rattle.core_machine.specs.declared.place.Place.TheVariants as places
-use Rattle.core_machine.specs.machine.Machine.{State, seat_at}
-use Rattle.core_machine.specs.Moves.{made_entry}
-use Rattle.core_machine.specs.seat.Commands.{IsArrayCall, target_of}
-use Rattle.core_machine.specs.seat.Fits.{HasBody, SpineIsListed}
-use Rattle.core_machine.specs.seat.Making.{next_object_id, next_name, newborn_word_of, last_group_of}
-use Rattle.core_machine.specs.seat.Seat.{Seat, spine_need}
-use Rattle.core_machine.specs.table.Fragments.{tally}
-use Rattle.core_rule.specs.Book.{Book, fragment_at}
-use Rattle.core_rule.specs.Budgets.{granted_at, placed_at, refused_at, nodes_in, words_of_object, words_in_half}
-use Rattle.core_rule.specs.Owners.{Kept, Dead}
-use Rattle.core_rule.specs.Phases.{IsNear}
-use Rattle.core_rule.specs.Rule.{Rule, SeatStands, SpaceStands}
-use Rattle.core_rule.specs.Spines.{HasPlace, next_spine}
 use Rattle.core_rule.proofs.cycle.BirthCycle.{words_born, group_born, some_born, marks_born, words_listed}
 use Rattle.core_rule.proofs.entries.AtRest.{seat_fits}
 use Rattle.core_rule.proofs.entries.MadeEntry.{graph_grown}
@@ -50,10 +30,10 @@ use Rattle.core_rule.proofs.objects.ObjectsGrowth.{NewBody, node_old, node_new, 
 use Rattle.core_rule.proofs.owners.Keeping.{kept_was, kept_stays, object_old}
 use Rattle.core_rule.proofs.owners.OwnerLemmas.{IsOwn, own_keeps_none, own_undead}
 use Rattle.core_rule.proofs.spines.ArrayBirths.{kept_born, dead_born, counts_born}
-use Rattle.core_rule.proofs.spines.BudgetFrames.{stepped, none_returned_by}
-use Rattle.core_rule.proofs.spines.BudgetSteps.{KeepsBorn, budgets_born}
-use Rattle.core_rule.proofs.spines.CopiesGo.{HeadStays}
-use Rattle.core_rule.proofs.spines.HalvesBirths.{OneBorn, early_awaits, halves_born}
+use Rattle.core_rule.proofs.budgets.BudgetFrames.{stepped, none_returned_by}
+use Rattle.core_rule.proofs.budgets.BudgetSteps.{KeepsBorn, budgets_born}
+use Rattle.core_rule.proofs.halves.CopiesGo.{HeadStays}
+use Rattle.core_rule.proofs.halves.HalvesBirths.{OneBorn, early_awaits, halves_born}
 use Rattle.core_rule.proofs.spines.OtherWords.{places_of, spines_left_control}
 use Rattle.core_rule.proofs.steps.Assemble.{present_at}
 

@@ -1,32 +1,12 @@
 -- The last birth of an object keeps the rule.
 use Rattle.std.proofs.Common.{eq-eqb, ◌≡◌, ℕ, ◌*◌, ◌<◌, ◌≤◌, Bool, List, [], ◌∷◌, length, drop, bit_or, refl, sym, ap, subst, arith, true}
-use Rattle.heap_model.specs.declared.entry.Entry.{Entry}
-use Rattle.heap_model.specs.declared.heap.Heap.{Heap}
-use Rattle.heap_model.specs.declared.id.Id.{Id}
-use Rattle.heap_model.specs.declared.id.Id.TheVariants.{Made}
-use Rattle.heap_model.specs.graph.Changes.{add}
-use Rattle.heap_model.specs.account.Cycles.{graph_of}
-use Rattle.heap_model.specs.account.PhaseCounts.{phase, last_answer, has_left}
-use Rattle.heap_model.specs.graph.Graph.{Graph, fresh}
-use Rattle.core_machine.specs.declared.table.address.Address.TheVariants.{Control}
-use Rattle.core_machine.specs.declared.place.Making.TheVariants.{Bearing}
+use Rattle.core_rule.proofs.Terms.{Entry, Heap, Id, Made, add, graph_of, phase, last_answer, has_left, Graph, fresh, Control, Bearing, target_of, MakesObject, HasBody}
+use Rattle.core_rule.proofs.Terms.{SpineIsListed, IsSilent, part_in, mask_of, at, State, seat_at, last_group_of, next_object_id, after_last_birth, Move, last_birth_move}
+use Rattle.core_rule.proofs.Terms.{made_entry, is_last_birth, birth_bits_of, Seat, spine_need, Book, AreMade, nodes_in, Rule, HasPlace}
 use Rattle.core_machine.specs.declared.place.Place.TheVariants as places
-use Rattle.core_machine.specs.seat.Commands.{target_of, MakesObject}
-use Rattle.core_machine.specs.seat.Fits.{HasBody, SpineIsListed, IsSilent}
-use Rattle.core_machine.specs.table.Fragments.{part_in, mask_of}
-use Rattle.core_machine.specs.table.Layout.{at}
-use Rattle.core_machine.specs.machine.Machine.{State, seat_at}
-use Rattle.core_machine.specs.seat.Making.{last_group_of, next_object_id, after_last_birth}
-use Rattle.core_machine.specs.Moves.{Move, plain_move, bears_black_of, last_birth_move, made_entry, seat_after, is_last_birth}
+use Rattle.core_machine.specs.Moves.{plain_move, bears_black_of, seat_after}
 use Rattle.core_machine.specs.declared.step.Step.TheVariants as steps
 use Rattle.core_machine.specs.declared.step.MakingStep.TheVariants.{LastBirth}
-use Rattle.core_machine.specs.table.Operation.{birth_bits_of}
-use Rattle.core_machine.specs.seat.Seat.{Seat, spine_need}
-use Rattle.core_rule.specs.Book.{Book}
-use Rattle.core_rule.specs.Objects.{AreMade}
-use Rattle.core_rule.specs.Budgets.{nodes_in}
-use Rattle.core_rule.specs.Rule.{Rule}
-use Rattle.core_rule.specs.Spines.{HasPlace}
 use Rattle.core_rule.proofs.objects.ObjectsGrowth.{spine_old, NewBody, objects_grown}
 use Rattle.core_rule.proofs.spines.SpineBirths.{born_gone, spine_born, spines_born, born_leaves}
 use Rattle.core_rule.proofs.spines.SpineFrames.{PlacesStay, spine_stored}
@@ -46,8 +26,8 @@ use Rattle.core_rule.proofs.graph.GraphGrowth.{party_other}
 use Rattle.core_rule.proofs.graph.GraphRegisters.{registers_length}
 use Rattle.core_rule.proofs.graph.IdsGrowth.{OneMore, ids_grown, number_new}
 use Rattle.core_rule.proofs.entries.InFlight.{awaits_none, began_idle}
-use Rattle.core_rule.proofs.footprint.BirthsGo.{painted_goes}
-use Rattle.core_rule.proofs.footprint.OwnersGo.{parts_go}
+use Rattle.core_rule.proofs.book.BirthsGo.{painted_goes}
+use Rattle.core_rule.proofs.book.OwnersGo.{parts_go}
 use Rattle.core_rule.proofs.graph.Numbering.{id_at-append}
 use Rattle.core_rule.proofs.hand.HandMoves.{part_held}
 use Rattle.core_rule.proofs.hand.MakingSeats.{listed_within}
@@ -69,7 +49,7 @@ use Rattle.core_rule.proofs.entries.SeatLists.{making_list, whole_list}
 use Rattle.core_rule.proofs.spines.OtherWords.{spines_left_control}
 use Rattle.core_rule.proofs.hand.StoredFrames.{stored_control}
 use Rattle.core_rule.proofs.cycle.Unwatched.{cycle_apart}
-use Rattle.core_rule.proofs.spines.DeadWords.{dead_after_control}
+use Rattle.core_rule.proofs.dying.DeadWords.{dead_after_control}
 
 -- the step that bears this part of the hand, by which the object is made
 abbrev last_birth_of : ℕ → Seat → List ℕ → Move

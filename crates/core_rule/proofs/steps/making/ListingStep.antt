@@ -1,52 +1,39 @@
 -- A store of a spine word keeps the rule.
 use Rattle.std.specs.Prelude.{if◌then◌else◌}
-use Rattle.std.proofs.Common.{◌≡◌, ℕ, ◌+◌, ◌*◌, ◌<◌, ◌≤◌, Bool, true, false, nat_lt, List, [], length, refl, sym, ◌∙◌, arith}
+use Rattle.std.proofs.Common.{◌≡◌, ℕ, ◌+◌, ◌*◌, ◌<◌, ◌≤◌, Bool, true, false, nat_lt, List, [], length, refl, sym, ◌∙◌, arith, inr}
 use Rattle.std.proofs.lemmas.List.{append-nil}
 use Rattle.heap_words.specs.declared.spot.Spot.{Spot as SpinePlace}
-use Rattle.heap_model.specs.declared.command.Command.{Command}
+use Rattle.core_rule.proofs.Terms.{Command, Heap, spine_need_of, graph_of, phase, last_answer, has_left, Graph, Listing, Bearing, Place, seat_at, listing_move, IsArrayCall}
+use Rattle.core_rule.proofs.Terms.{target_of, FitsPlace, SpineIsListed, HasArrayBody, list_place, after_listing, Seat, spine_need, at, put, spine_place, spine_word, fragment_at}
+use Rattle.core_rule.proofs.Terms.{UsedStands, node_at, HasPlace, IsMarked}
 use Rattle.heap_model.specs.declared.command.Command.TheVariants as commands
-use Rattle.heap_model.specs.declared.heap.Heap.{Heap}
-use Rattle.heap_model.specs.Needs.{spine_need_of}
-use Rattle.heap_model.specs.account.Cycles.{graph_of}
-use Rattle.heap_model.specs.account.PhaseCounts.{phase, last_answer, has_left}
-use Rattle.heap_model.specs.graph.Graph.{Graph}
 use Rattle.core_machine.specs.declared.place.Making.{Making}
-use Rattle.core_machine.specs.declared.place.Making.TheVariants.{Listing, Storing, Bearing}
-use Rattle.core_machine.specs.declared.place.Place.{Place}
+use Rattle.core_machine.specs.declared.place.Making.TheVariants.{Storing}
 use Rattle.core_machine.specs.declared.place.Place.TheVariants as places
-use Rattle.core_machine.specs.machine.Machine.{seat_at}
-use Rattle.core_machine.specs.Moves.{listing_move, seat_after}
-use Rattle.core_machine.specs.seat.Commands.{IsArrayCall, target_of}
-use Rattle.core_machine.specs.seat.Fits.{FitsPlace, SpineIsListed, HasArrayBody}
-use Rattle.core_machine.specs.seat.Making.{list_place}
-use Rattle.core_machine.specs.seat.Seat.{Seat, spine_need}
-use Rattle.core_machine.specs.table.Layout.{at, put, spine_place}
-use Rattle.heap_words.specs.Newborn.{spine_word}
-use Rattle.core_rule.specs.Book.{fragment_at}
-use Rattle.core_rule.specs.Budgets.{UsedStands}
-use Rattle.core_rule.specs.Objects.{node_at}
-use Rattle.core_rule.specs.Spines.{HasPlace}
-use Rattle.core_rule.specs.Colours.{IsMarked}
+use Rattle.core_machine.specs.Moves.{seat_after}
 use Rattle.core_rule.proofs.cycle.MakingCycle.{cycle_goes_on}
 use Rattle.core_rule.proofs.entries.InFlight.{awaits_none, began_on, is_busy}
 use Rattle.core_rule.proofs.entries.OwnEntries.{counts_same}
 use Rattle.core_rule.proofs.entries.SeatLists.{making_list, list_of_making}
-use Rattle.core_rule.proofs.footprint.BookGoing.{book_stays}
+use Rattle.core_rule.proofs.book.BookGoing.{book_stays}
 use Rattle.core_rule.proofs.frames.BesideFrames.{heap_beside, seat_beside}
 use Rattle.core_rule.proofs.hand.EmptyHand.{none_stored}
 use Rattle.core_rule.proofs.marking.Marks.{leaves_alive, marks_off_way}
-use Rattle.core_rule.proofs.spines.BudgetFrames.{stepped, grants_same, budgets_stay}
-use Rattle.core_rule.proofs.spines.BudgetSteps.{budgets_words}
-use Rattle.core_rule.proofs.spines.HalvesFrames.{halves_stay}
-use Rattle.core_rule.proofs.spines.HalvesMoves.{halves_words}
-use Rattle.core_rule.proofs.spines.NoneMade.{SameWeights}
-use Rattle.core_rule.proofs.spines.OffsetWithin.{word_inside}
+use Rattle.core_rule.proofs.budgets.BudgetFrames.{stepped, grants_same, budgets_stay}
+use Rattle.core_rule.proofs.budgets.BudgetSteps.{budgets_words}
+use Rattle.core_rule.proofs.halves.HalvesFrames.{halves_stay}
+use Rattle.core_rule.proofs.halves.HalvesMoves.{halves_words}
+use Rattle.core_rule.proofs.budgets.NoneMade.{SameWeights}
+use Rattle.core_rule.proofs.budgets.OffsetWithin.{word_inside}
 use Rattle.core_rule.proofs.spines.OtherWords.{places_of, spines_left_none}
 use Rattle.core_rule.proofs.spines.ListedSources.{has, beside_listed, arrays_listed, places_listed, copy_listed, kept_listed, borne_listed, black_listed}
 use Rattle.core_rule.proofs.spines.SpineFrames.{same_kept, same_shapes, spines_at_spot, spines_left}
 use Rattle.core_rule.proofs.spines.SpineStores.{other_stored, spine_listed, spot_unlisted, budget_unlisted}
 use Rattle.core_rule.proofs.steps.Assemble.{seat_steps, StepKeeps, seat_fits}
-use Rattle.core_rule.proofs.spines.DeadWords.{dead_within}
+use Rattle.core_rule.proofs.dying.DeadWords.{dead_within}
+use Rattle.core_rule.proofs.steps.StepKinds.{StepKind, beside, from_usual, IsUsual, way_kind, bears_none}
+use Rattle.core_rule.proofs.held.SpineThere.{held_there, listed_held}
+use Rattle.core_machine.proofs.seat_lemmas.Fitting.{listing_cases}
 
 -- the next word's turn comes, or the object's words are stored
 list_cases : (P : Making → Type 0) (listed words : ℕ) → P Listing → P Storing → P (list_place listed words)
@@ -134,3 +121,19 @@ listing_keeps heap state book number rule here place machine =
           (halves_stay heap state book number state.words new book here rule.machine.seated (places_of heap state.words state.words same_words) weights.range grants marked rule.space.halves);
     }
     (book_stays heap state book book.history book.begun)
+
+-- all that is asked of it
+pub listing_kind : StepKind (places.Making Listing)
+listing_kind = way_kind (places.Making Listing) (λ heap number. listing_move) (λ heap number seat. refl) (λ e. cc e) (λ heap number seat. tt) (λ heap number seat words found. refl) record {
+  keeps = listing_keeps;
+  stays = λ heap number seat found placed. record { looks = refl; elsewhere = tt };
+  comes = λ heap number seat found.
+      from_usual _ (after_listing seat).place (listing_cases (λ place. IsUsual (places.Making place)) (seat.listed + 1) (spine_need seat) (λ more. tt) (λ all. tt));
+  words = record {
+    bears = λ heap state book rule number here f within unborn. bears_none (places.Making Listing) (λ heap number. listing_move) (λ heap number seat. refl) heap state book rule number f within unborn (beside (λ g below e. omega (arith, e, below)));
+    stores = λ heap number seat is. inr refl;
+    there = λ heap state book rule number here placed low.
+        held_there heap state book rule (seat_at state number).spine.half ((seat_at state number).spine.offset + (seat_at state number).listed) low (listed_held heap state book rule number here placed);
+  };
+  found = λ heap state book number stands here placed. tt;
+}

@@ -3,39 +3,29 @@ use Rattle.std.proofs.Common.{◌≡◌, ℕ, ◌+◌, ◌%◌, ◌^◌, ◌<◌
 use Rattle.std.proofs.lemmas.Bool.Decides.{nat_tests}
 use Rattle.std.proofs.lemmas.List.{append-nil}
 use Rattle.heap_words.specs.declared.spot.Spot.{Spot as SpinePlace}
-use Rattle.heap_model.specs.account.Cycles.{graph_of}
-use Rattle.heap_model.specs.account.PhaseCounts.{phase, last_answer, has_left}
-use Rattle.heap_model.specs.graph.Graph.{Graph}
-use Rattle.core_machine.specs.declared.place.Making.TheVariants.{Placing, Listing}
+use Rattle.core_rule.proofs.Terms.{graph_of, phase, last_answer, has_left, Graph, Placing, Listing, Budget, seat_at, placing_move, target_of, HasArrayBody, HasNoSpine, Seat}
+use Rattle.core_rule.proofs.Terms.{spine_need, at, Book, granted_at, placed_at, SpineOwner, next_spine}
 use Rattle.core_machine.specs.declared.place.Place.TheVariants as places
-use Rattle.core_machine.specs.declared.table.address.Address.TheVariants.{Budget, Spot}
-use Rattle.core_machine.specs.machine.Machine.{seat_at}
-use Rattle.core_machine.specs.Moves.{placing_move, seat_after}
-use Rattle.core_machine.specs.seat.Commands.{target_of}
-use Rattle.core_machine.specs.seat.Fits.{HasArrayBody, HasNoSpine}
-use Rattle.core_machine.specs.seat.Seat.{Seat, spine_need}
-use Rattle.core_machine.specs.table.Layout.{at}
-use Rattle.core_rule.specs.Book.{Book}
-use Rattle.core_rule.specs.Budgets.{granted_at, placed_at}
-use Rattle.core_rule.specs.Owners.{SpineOwner}
-use Rattle.core_rule.specs.Spines.{next_spine}
+use Rattle.core_machine.specs.declared.table.address.Address.TheVariants.{Spot}
+use Rattle.core_machine.specs.Moves.{seat_after}
 use Rattle.core_rule.proofs.colours.LeadsFrames.{leads_same, same_ahead}
 use Rattle.core_rule.proofs.cycle.MakingCycle.{cycle_goes_on}
 use Rattle.core_rule.proofs.entries.InFlight.{awaits_none, began_on, is_busy}
 use Rattle.core_rule.proofs.entries.OwnEntries.{counts_same}
 use Rattle.core_rule.proofs.entries.SeatLists.{making_list, list_of_making}
-use Rattle.core_rule.proofs.footprint.BookGoing.{spines_go}
+use Rattle.core_rule.proofs.book.BookGoing.{spines_go}
 use Rattle.core_rule.proofs.frames.BesideFrames.{beside_aside, arrays_stay, heap_beside, seat_beside}
 use Rattle.core_rule.proofs.hand.EmptyHand.{none_stored}
 use Rattle.core_rule.proofs.marking.Marks.{leaves_words, marks_off_way}
-use Rattle.core_rule.proofs.spines.BudgetFrames.{stepped, grants_same}
-use Rattle.core_rule.proofs.spines.BudgetSteps.{budgets_change, budgets_owners}
-use Rattle.core_rule.proofs.spines.HalvesMoves.{halves_seat}
-use Rattle.core_rule.proofs.spines.OffsetWithin.{offset_within}
+use Rattle.core_rule.proofs.budgets.BudgetFrames.{stepped, grants_same}
+use Rattle.core_rule.proofs.budgets.BudgetSteps.{budgets_change, budgets_owners}
+use Rattle.core_rule.proofs.halves.HalvesMoves.{halves_seat}
+use Rattle.core_rule.proofs.budgets.OffsetWithin.{offset_within}
 use Rattle.core_rule.proofs.spines.SpineFrames.{spine_words_stay}
 use Rattle.core_rule.proofs.spines.SpotClaims.{spot_after, words_claimed, owner_claimed, book_claimed, same_claimed, next_claimed, leaves_claimed, places_claimed, spines_claimed, spine_claimed, halves_claimed}
 use Rattle.core_rule.proofs.steps.Assemble.{seat_steps, StepKeeps, seat_fits}
 use Rattle.core_rule.proofs.words.Addresses.{at-put_apart}
+use Rattle.core_rule.proofs.steps.StepKinds.{StepKind, beside, way_kind, plain_words}
 
 -- a claim of a spine's place keeps the rule
 pub placing_keeps : StepKeeps (places.Making Placing) (λ heap number. placing_move)
@@ -100,3 +90,14 @@ placing_keeps heap state book number rule here place machine =
           (halves_claimed heap state book number needs table halves old few here);
     }
     (spines_go heap state book spine_owner)
+
+-- all that is asked of it
+pub placing_kind : StepKind (places.Making Placing)
+placing_kind = way_kind (places.Making Placing) (λ heap number. placing_move) (λ heap number seat. refl) (λ e. cc e) (λ heap number seat. tt) (λ heap number seat words found. refl) record {
+  keeps = placing_keeps;
+  stays = λ heap number seat found placed. record { looks = refl; elsewhere = tt };
+  comes = λ heap number seat found. tt;
+  words = plain_words (places.Making Placing) (λ heap number. placing_move) (λ heap number seat. refl) (λ heap number seat is. is) (λ heap number seat low. low)
+      (λ heap state book rule number here. beside (λ g below e. omega (arith, e, below)));
+  found = λ heap state book number stands here placed. tt;
+}

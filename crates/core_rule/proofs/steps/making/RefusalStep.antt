@@ -1,42 +1,23 @@
 -- A refusal that is told keeps the rule: of a record at a load, of an array where its spine words are taken back.
-use Rattle.std.proofs.Common.{◌≡◌, ℕ, ◌+◌, ◌-◌, ◌%◌, ◌^◌, ◌<◌, ◌≤◌, false, List, [], ◌∷◌, ◌++◌, length, drop, refl, sym, ◌∙◌, subst, arith, ap}
-use Rattle.heap_words.specs.Spot.{spot_in}
+use Rattle.std.proofs.Common.{◌≡◌, ℕ, ◌+◌, ◌-◌, ◌%◌, ◌^◌, ◌<◌, ◌≤◌, false, List, [], ◌∷◌, ◌++◌, length, drop, refl, sym, ◌∙◌, subst, arith, ap, Some}
+use Rattle.core_rule.proofs.Terms.{spot_in, Command, Entry, Heap, Reply, spine_need_of, KeepsSpace, Accepts, graph_of, taken_of, spent_of, opening, Budget, Refusing, MakesObject}
+use Rattle.core_rule.proofs.Terms.{SeatIsRefusing, at, put, InTable, HasWord, State, seat_at, Move, refusal_step, refusal_looks, refusal_move, full_entry, Seat, need, spine_need}
+use Rattle.core_rule.proofs.Terms.{after_call, seat_after_reply, IsMachine, Book, BudgetsStand, granted_at, GathersRight, Rule, HeapStands, SeatStands, HasPlace, next_spine}
+use Rattle.core_rule.proofs.Terms.{address_of}
 use Rattle.heap_words.specs.declared.spot.Spot.{Spot}
-use Rattle.heap_model.specs.declared.command.Command.{Command}
 use Rattle.heap_model.specs.declared.command.Command.TheVariants as commands
-use Rattle.heap_model.specs.declared.entry.Entry.{Entry}
-use Rattle.heap_model.specs.declared.heap.Heap.{Heap}
-use Rattle.heap_model.specs.declared.reply.Reply.{Reply}
 use Rattle.heap_model.specs.declared.reply.Reply.TheVariants.{Full}
-use Rattle.heap_model.specs.Needs.{spine_need_of}
-use Rattle.heap_model.specs.account.Account.{KeepsSpace}
-use Rattle.heap_model.specs.graph.Legal.{Accepts}
-use Rattle.heap_model.specs.account.Cycles.{graph_of}
 use Rattle.heap_model.specs.account.Refusals.{FindsSpace}
-use Rattle.heap_model.specs.account.Space.{taken_of, spent_of}
-use Rattle.heap_model.specs.graph.Graph.{opening}
 use Rattle.heap_model.proofs.Histories.{graph_after-more}
-use Rattle.core_machine.specs.declared.table.address.Address.TheVariants.{Phase, Budget}
-use Rattle.core_machine.specs.declared.place.Making.TheVariants.{Refusing}
+use Rattle.core_machine.specs.declared.table.address.Address.TheVariants.{Phase}
 use Rattle.core_machine.specs.declared.place.Place.TheVariants as places
 use Rattle.core_machine.specs.declared.step.Step.{Step}
 use Rattle.core_machine.specs.declared.step.Step.TheVariants as steps
 use Rattle.core_machine.specs.declared.step.SpineStep.TheVariants.{BudgetTakeBack}
-use Rattle.core_machine.specs.seat.Commands.{MakesObject}
-use Rattle.core_machine.specs.seat.Fits.{SeatIsRefusing}
-use Rattle.core_machine.specs.table.Layout.{at, put}
-use Rattle.core_machine.specs.machine.Machine.{State, seat_at}
-use Rattle.core_machine.specs.Moves.{Move, plain_move, refusal_step, refusal_looks, refusal_move, full_entry}
+use Rattle.core_machine.specs.Moves.{plain_move}
 use Rattle.core_machine.specs.declared.seat.looks.Looks.{Looks}
 use Rattle.core_machine.specs.seat.Looks.{forgotten, seen_phase}
-use Rattle.core_machine.specs.seat.Seat.{Seat, need, spine_need, after_call, seat_after_reply}
-use Rattle.core_machine.specs.machine.Value.{IsMachine}
 use Rattle.core_machine.proofs.table_lemmas.Addresses.{put-at, at-put_same}
-use Rattle.core_rule.specs.Book.{Book}
-use Rattle.core_rule.specs.Budgets.{BudgetsStand, granted_at}
-use Rattle.core_rule.specs.Gathers.{GathersRight}
-use Rattle.core_rule.specs.Rule.{Rule, HeapStands, SeatStands}
-use Rattle.core_rule.specs.Spines.{HasPlace, next_spine}
 use Rattle.core_rule.proofs.spines.NoPlaces.{away_range}
 use Rattle.core_rule.proofs.colours.LeadsFrames.{SameSources}
 use Rattle.core_rule.proofs.colours.SpineStays.{same_sources}
@@ -48,9 +29,10 @@ use Rattle.core_rule.proofs.hand.Bodies.{bare_hand}
 use Rattle.core_rule.proofs.entries.InFlight.{is_busy}
 use Rattle.core_rule.proofs.entries.MakingCommands.{graph_full, accepts_full, full_keeps}
 use Rattle.core_rule.proofs.gather.Refusals.{finds_in_run}
-use Rattle.core_rule.proofs.spines.BudgetFrames.{stepped, SameGrants, seats_change, budgets_stay}
-use Rattle.core_rule.proofs.spines.BudgetSteps.{budgets_change, budget_small, budget_falls}
+use Rattle.core_rule.proofs.budgets.BudgetFrames.{stepped, SameGrants, seats_change, budgets_stay}
+use Rattle.core_rule.proofs.budgets.BudgetSteps.{budgets_change, budget_small, budget_falls}
 use Rattle.core_rule.proofs.spines.OtherWords.{LeavesPlaces, places_of, spines_left_none}
+use Rattle.core_rule.proofs.steps.StepKinds.{StepKind, shows_one, refuses, refusal_follows, refusal_goes, refusal_finds, LeavesBits, only_loads, beside, plain_words, IsStore}
 
 -- a record's refusal is told at a load, an array's at the step that takes its spine words back
 refusal_cases : (P : Step → (ℕ → Looks → Looks) → Type 0) (command : Command) (words : ℕ) → MakesObject command → (spine_need_of command ≡ 0 → P steps.PollLoad seen_phase)
@@ -159,3 +141,31 @@ pub refusal_keeps : StepKeeps (places.Making Refusing) (λ heap. refusal_move)
 refusal_keeps heap state book number rule here place =
     refusal_cases (λ step sees. MoveKeeps heap state book number (refusal_at number (seat_at state number) step sees)) (seat_at state number).command (spine_need (seat_at state number))
     (makes heap state book number rule here place) (at_load heap state book number rule here place) (at_budget heap state book number rule here place)
+
+-- its step stores no word of an object, is on a word that the table has, and leaves the born bits
+refuses_none : (command : Command) (words : ℕ) → ¬ IsStore (Some (refusal_step command words))
+refuses_none (commands.Array d cells) words is = is
+refuses_none _ words is = is
+
+refusing_there : (heap : Heap) (command : Command) (words : ℕ) → InTable heap (address_of (refusal_step command words)) → HasWord heap (address_of (refusal_step command words))
+refusing_there heap (commands.Array d cells) words there = there
+refusing_there heap _ words there = there
+
+refusal_bits : (heap : Heap) (command : Command) (words : ℕ) → LeavesBits heap 16 32 (refusal_step command words)
+refusal_bits heap (commands.Array d cells) words = beside (λ g below e. omega (arith, e, below))
+refusal_bits heap _ words = only_loads (λ word. refl)
+
+-- all that is asked of it
+pub refusal_kind : StepKind (places.Making Refusing)
+refusal_kind = record {
+  keeps = λ heap state book number rule here looks. refusal_keeps heap state book number rule here;
+  shows = λ heap state number. shows_one _ (refuses refl);
+  looks = record {
+    follows = λ heap state number seat compares placed. refusal_follows heap state number seat seat.command (spine_need seat);
+    goes = λ heap state book rule number placed. refusal_goes heap state book rule number (seat_at state number).command (spine_need (seat_at state number)) _ _ placed;
+    comes = λ heap number seat found placed. tt;
+  };
+  words = plain_words (places.Making Refusing) (λ heap. refusal_move) (λ heap number seat. refl) (λ heap number seat. refuses_none seat.command (spine_need seat)) (λ heap number seat. refusing_there heap seat.command (spine_need seat))
+      (λ heap state book rule number here. refusal_bits heap (seat_at state number).command (spine_need (seat_at state number)));
+  found = λ heap state book number stands here placed. refusal_finds heap state book number stands here (λ idle. cc (placed, idle)) (seat_at state number).command;
+}

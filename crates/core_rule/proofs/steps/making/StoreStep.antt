@@ -2,33 +2,20 @@
 use Rattle.std.proofs.Common.{◌≡◌, ℕ, ◌+◌, ◌*◌, ◌/◌, ◌%◌, ◌<◌, ◌≤◌, inl, inr, List, [], length, refl, sym, ap, ◌∙◌, subst, arith}
 use Rattle.std.proofs.lemmas.Bool.Decides.{eqb_tells}
 use Rattle.std.proofs.lemmas.List.{append-nil}
-use Rattle.heap_model.specs.declared.entry.Entry.{Entry}
-use Rattle.heap_model.specs.declared.heap.Heap.{Heap}
-use Rattle.heap_model.specs.account.Cycles.{graph_of}
-use Rattle.heap_model.specs.account.PhaseCounts.{phase, last_answer, has_left}
-use Rattle.core_machine.specs.declared.table.address.Address.TheVariants.{Answer, Word}
+use Rattle.core_rule.proofs.Terms.{Entry, Heap, graph_of, phase, last_answer, has_left, Word, Bearing, target_of, HasBody, SpineIsListed, tally, at, put, seat_at, newborn_word_of}
+use Rattle.core_rule.proofs.Terms.{store_place, after_store, store_move, Seat, fragment_at, UsedStands, node_at, born_bit}
+use Rattle.core_machine.specs.declared.table.address.Address.TheVariants.{Answer}
 use Rattle.core_machine.specs.declared.place.Making.{Making}
-use Rattle.core_machine.specs.declared.place.Making.TheVariants.{Storing, Bearing}
+use Rattle.core_machine.specs.declared.place.Making.TheVariants.{Storing}
 use Rattle.core_machine.specs.declared.place.Place.TheVariants as places
-use Rattle.core_machine.specs.seat.Commands.{target_of}
-use Rattle.core_machine.specs.seat.Fits.{HasBody, SpineIsListed}
-use Rattle.core_machine.specs.table.Fragments.{tally}
-use Rattle.core_machine.specs.table.Layout.{at, put}
-use Rattle.core_machine.specs.machine.Machine.{seat_at}
-use Rattle.core_machine.specs.seat.Making.{newborn_word_of, store_place}
-use Rattle.core_machine.specs.Moves.{store_move, seat_after}
-use Rattle.core_machine.specs.seat.Seat.{Seat}
-use Rattle.core_rule.specs.Book.{fragment_at}
-use Rattle.core_rule.specs.Budgets.{UsedStands}
-use Rattle.core_rule.specs.Objects.{node_at}
-use Rattle.core_rule.specs.Owners.{born_bit}
-use Rattle.core_rule.proofs.spines.BudgetFrames.{grants_same}
+use Rattle.core_machine.specs.Moves.{seat_after}
+use Rattle.core_rule.proofs.budgets.BudgetFrames.{grants_same}
 use Rattle.core_rule.proofs.frames.SeatFrames.{names_words}
 use Rattle.core_rule.proofs.words.Addresses.{at-put_apart}
 use Rattle.core_rule.proofs.marking.MakingMarks.{leaves_stored}
 use Rattle.core_rule.proofs.marking.Marks.{marks_off_way}
-use Rattle.core_rule.proofs.footprint.BookGoing.{book_stays}
-use Rattle.core_rule.proofs.spines.NoneMade.{SameWeights}
+use Rattle.core_rule.proofs.book.BookGoing.{book_stays}
+use Rattle.core_rule.proofs.budgets.NoneMade.{SameWeights}
 use Rattle.core_rule.proofs.spines.OtherWords.{spines_left_word}
 use Rattle.core_rule.proofs.spines.SpineFrames.{SameSpine, spines_words, spine_goes_on, spine_after}
 use Rattle.core_rule.proofs.steps.Assemble.{seat_steps, step_space, StepKeeps, seat_fits}
@@ -45,7 +32,8 @@ use Rattle.core_rule.proofs.owners.OwnerLemmas.{IsOwn, own_keeps_none, own_not_o
 use Rattle.core_rule.proofs.entries.SeatLists.{making_list, whole_list}
 use Rattle.core_rule.proofs.hand.StoredFrames.{stored_store}
 use Rattle.core_rule.proofs.hand.StoreLemmas.{bits_store, store_next}
-use Rattle.core_rule.proofs.spines.DeadWords.{dead_after_word}
+use Rattle.core_rule.proofs.dying.DeadWords.{dead_after_word}
+use Rattle.core_rule.proofs.steps.StepKinds.{StepKind, beside, from_usual, store_usual, way_kind, bears_none}
 
 -- what comes next is the next store, or the object's birth
 store_cases : (P : Making → Type 0) (stored : ℕ) (body : List ℕ) → P Storing → P Bearing → P (store_place stored body)
@@ -142,3 +130,17 @@ store_keeps heap state book number rule here place machine =
     (marks_off_way heap state book rule number here words book (seat_after (store_move number seat) found) (leaves_stored heap state book rule f part word within fits_part unborn) refl refl tt)
     (step_space heap state book number rule here words (seat_after (store_move number seat) found) book leaves stays.weights (grants_same heap book book.colour book.begun) (λ x dark. dark))
     (book_stays heap state book book.history book.begun)
+
+-- all that is asked of it
+pub store_kind : StepKind (places.Making Storing)
+store_kind = way_kind (places.Making Storing) (λ heap. store_move) (λ heap number seat. refl) (λ e. cc e) (λ heap number seat. tt) (λ heap number seat words found. refl) record {
+  keeps = store_keeps;
+  stays = λ heap number seat found placed. record { looks = refl; elsewhere = tt };
+  comes = λ heap number seat found. from_usual _ (after_store seat).place (store_usual (seat.stored + 1) seat.body);
+  words = record {
+    bears = λ heap state book rule number here f within unborn. bears_none (places.Making Storing) (λ heap. store_move) (λ heap number seat. refl) heap state book rule number f within unborn (beside (λ g below e. omega (arith, e, below)));
+    stores = λ heap number seat is. inl refl;
+    there = λ heap state book rule number here placed low. low;
+  };
+  found = λ heap state book number stands here placed. tt;
+}

@@ -1,33 +1,15 @@
 -- A call that makes an object is refused and over: that keeps the rule where the heap and each seat stand after the word that its last step changed.
 use Rattle.std.proofs.Common.{◌≡◌, ◌≢◌, false, ℕ, ◌<◌, List, [], ◌∷◌, ◌++◌, length, drop, refl, sym, subst, arith, ap}
 use Rattle.std.proofs.lemmas.Bool.{eq-eqb}
-use Rattle.heap_model.specs.declared.entry.Entry.{Entry}
-use Rattle.heap_model.specs.declared.entry.Entry.TheVariants.{Said}
-use Rattle.heap_model.specs.declared.heap.Heap.{Heap}
-use Rattle.heap_model.specs.declared.reply.Reply.{Reply}
-use Rattle.heap_model.specs.account.Account.{KeepsSpace}
-use Rattle.heap_model.specs.account.Cycles.{graph_of}
-use Rattle.heap_model.specs.account.Effects.{effect_of, no_effect}
-use Rattle.heap_model.specs.graph.Legal.{Accepts}
-use Rattle.heap_model.specs.graph.Objects.{graph_seat}
-use Rattle.heap_model.specs.account.PhaseCounts.{phase, last_answer, has_left}
-use Rattle.heap_model.specs.graph.Graph.{Graph}
+use Rattle.core_rule.proofs.Terms.{Entry, Said, Heap, Reply, KeepsSpace, graph_of, effect_of, no_effect, Accepts, graph_seat, phase, last_answer, has_left, Graph, MakesObject}
+use Rattle.core_rule.proofs.Terms.{target_of, IsSilent, State, seat_at, IsMachine, Seat, seat_after_reply, Book, BudgetsStand, fragments_in_hand, Rule, HeapStands, SeatStands}
+use Rattle.core_rule.proofs.Terms.{HasPlace}
 use Rattle.core_machine.specs.declared.place.Making.{Making}
 use Rattle.core_machine.specs.declared.place.Place.TheVariants as places
-use Rattle.core_machine.specs.seat.Commands.{MakesObject, target_of}
-use Rattle.core_machine.specs.seat.Fits.{IsSilent}
-use Rattle.core_machine.specs.machine.Machine.{State, seat_at}
-use Rattle.core_machine.specs.machine.Value.{IsMachine}
 use Rattle.core_machine.specs.declared.seat.looks.Looks.{Looks}
-use Rattle.core_machine.specs.seat.Seat.{Seat, seat_after_reply}
-use Rattle.core_rule.specs.Book.{Book}
-use Rattle.core_rule.specs.Budgets.{BudgetsStand}
-use Rattle.core_rule.specs.Holding.{fragments_in_hand}
-use Rattle.core_rule.specs.Rule.{Rule, HeapStands, SeatStands}
-use Rattle.core_rule.specs.Spines.{HasPlace}
 use Rattle.core_rule.proofs.spines.OtherWords.{LeavesPlaces}
 use Rattle.core_rule.proofs.spines.NoPlaces.{away_range}
-use Rattle.core_rule.proofs.spines.HalvesFrames.{halves_stay}
+use Rattle.core_rule.proofs.halves.HalvesFrames.{halves_stay}
 use Rattle.core_rule.proofs.colours.LeadsFrames.{SameSources}
 use Rattle.core_rule.proofs.cycle.CycleHistory.{cycle_own}
 use Rattle.core_rule.proofs.cycle.MakingCycle.{cycle_goes_on}
@@ -36,14 +18,14 @@ use Rattle.core_rule.proofs.entries.Others.{of_other}
 use Rattle.core_rule.proofs.entries.OwnEntries.{own_grows, counts_own}
 use Rattle.core_rule.proofs.entries.PhaseEntries.{no_leave_told}
 use Rattle.core_rule.proofs.entries.SeatLists.{making_list, whole_list}
-use Rattle.core_rule.proofs.footprint.BookGoing.{book_stays}
+use Rattle.core_rule.proofs.book.BookGoing.{book_stays}
 use Rattle.core_rule.proofs.frames.Replying.{no_part, heap_told, grants_told, other_told}
 use Rattle.core_rule.proofs.frames.SeatFrames.{with_entry}
 use Rattle.core_rule.proofs.gather.GatherMoves.{nothing_tried}
 use Rattle.core_rule.proofs.graph.SameNodes.{SameNodes, nodes_same}
 use Rattle.core_rule.proofs.hand.EmptyHand.{nothing_together, none_stored, holding_as}
 use Rattle.core_rule.proofs.marking.Marks.{leaves_words, marks_off_way}
-use Rattle.core_rule.proofs.spines.BudgetFrames.{stepped, SameGrants}
+use Rattle.core_rule.proofs.budgets.BudgetFrames.{stepped, SameGrants}
 use Rattle.core_rule.proofs.spines.SpineFrames.{spine_away}
 use Rattle.core_rule.proofs.steps.Assemble.{Keeps, seat_steps, seat_fits}
 

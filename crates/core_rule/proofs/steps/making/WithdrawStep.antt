@@ -1,38 +1,24 @@
 -- A step that takes refused spine words back, and tells the refusal, keeps the rule.
 use Rattle.std.proofs.Common.{◌≡◌, ℕ, ◌+◌, ◌-◌, ◌%◌, ◌^◌, ◌<◌, false, List, length, refl, sym, ap, ◌∙◌, subst, arith}
-use Rattle.heap_words.specs.Spot.{spot_in}
+use Rattle.core_rule.proofs.Terms.{spot_in, Entry, Heap, KeepsSpace, Accepts, graph_of, taken_of, spent_of, Graph, opening, Withdrawing, Budget, State, seat_at, withdraw_move}
+use Rattle.core_rule.proofs.Terms.{spine_full_entry, SeatIsWithdrawing, Seat, spine_need, at, Book, UsedStands, Rule, SeatStands, next_spine}
 use Rattle.heap_words.specs.declared.spot.Spot.{Spot}
-use Rattle.heap_model.specs.declared.entry.Entry.{Entry}
-use Rattle.heap_model.specs.declared.heap.Heap.{Heap}
 use Rattle.heap_model.specs.declared.reply.Reply.TheVariants.{SpineFull}
-use Rattle.heap_model.specs.account.Account.{KeepsSpace}
-use Rattle.heap_model.specs.graph.Legal.{Accepts}
-use Rattle.heap_model.specs.account.Cycles.{graph_of}
 use Rattle.heap_model.specs.account.Refusals.{FindsSpine}
-use Rattle.heap_model.specs.account.Space.{taken_of, spent_of}
-use Rattle.heap_model.specs.graph.Graph.{Graph, opening}
 use Rattle.heap_model.proofs.Histories.{graph_after-more}
-use Rattle.core_machine.specs.declared.place.Making.TheVariants.{Withdrawing}
 use Rattle.core_machine.specs.declared.place.Place.TheVariants as places
-use Rattle.core_machine.specs.declared.table.address.Address.TheVariants.{Budget}
-use Rattle.core_machine.specs.machine.Machine.{State, seat_at}
-use Rattle.core_machine.specs.Moves.{withdraw_move, spine_full_entry, seat_after}
-use Rattle.core_machine.specs.seat.Fits.{SeatIsWithdrawing}
+use Rattle.core_machine.specs.Moves.{seat_after}
 use Rattle.core_machine.specs.seat.Looks.{forgotten}
-use Rattle.core_machine.specs.seat.Seat.{Seat, spine_need}
-use Rattle.core_machine.specs.table.Layout.{at}
 use Rattle.core_machine.proofs.table_lemmas.Addresses.{at-put_same}
-use Rattle.core_rule.specs.Book.{Book}
-use Rattle.core_rule.specs.Budgets.{UsedStands}
-use Rattle.core_rule.specs.Rule.{Rule, SeatStands}
-use Rattle.core_rule.specs.Spines.{next_spine}
 use Rattle.core_rule.proofs.entries.MakingCommands.{graph_spine_full, accepts_spine_full, spine_full_keeps}
 use Rattle.core_rule.proofs.frames.SeatFrames.{with_entry}
 use Rattle.core_rule.proofs.hand.Bodies.{bare_hand}
-use Rattle.core_rule.proofs.spines.BudgetSteps.{HasWeights, refused_change, budgets_change, budget_small, budget_falls}
+use Rattle.core_rule.proofs.budgets.BudgetSteps.{HasWeights, refused_change, budgets_change, budget_small, budget_falls}
 use Rattle.core_rule.proofs.frames.BudgetWritten.{budget_words, budget_places, budget_sources, heap_budget, seat_budget}
 use Rattle.core_rule.proofs.steps.Assemble.{present_at, MoveKeeps, StepKeeps, seat_fits}
 use Rattle.core_rule.proofs.steps.making.ToldRefusal.{grants_refused, told_refusal}
+use Rattle.core_rule.proofs.steps.StepKinds.{StepKind, beside, shows_one, refuses_words, reply_ends, plain_words}
+use Rattle.heap_model.specs.declared.reply.Reply.TheVariants as replies
 
 module _ (heap : Heap) (state : State) (book : Book) (number : ℕ) (rule : Rule heap state book) (here : number < heap.seats) (place : (seat_at state number).place ≡ places.Making Withdrawing) where
   abbrev seat : Seat
@@ -117,3 +103,15 @@ module _ (heap : Heap) (state : State) (book : Book) (number : ℕ) (rule : Rule
 
 pub withdraw_keeps : StepKeeps (places.Making Withdrawing) (λ heap. withdraw_move)
 withdraw_keeps heap state book number rule here place = withdraws heap state book number rule here place
+
+-- all that is asked of it
+pub withdraw_kind : StepKind (places.Making Withdrawing)
+withdraw_kind = record {
+  keeps = λ heap state book number rule here looks. withdraw_keeps heap state book number rule here;
+  shows = λ heap state number. shows_one _ (refuses_words refl);
+  looks = reply_ends (places.Making Withdrawing) (λ heap. withdraw_move) (λ seat found. replies.SpineFull (spine_need seat) (seat.used % 2 ^ 32)) (λ heap number seat. refl) (λ heap number seat. tt)
+      (λ heap number seat found. refl) (λ heap number seat found. refl) (λ heap number seat words found. refl);
+  words = plain_words (places.Making Withdrawing) (λ heap. withdraw_move) (λ heap number seat. refl) (λ heap number seat is. is) (λ heap number seat low. low)
+      (λ heap state book rule number here. beside (λ g below e. omega (arith, e, below)));
+  found = λ heap state book number stands here placed. tt;
+}

@@ -7,17 +7,10 @@ pub loop-step-init : goal.loop-step-init
 loop-step-init g c = returns_begin c.args.holder.now c.requires.returning c.requires.room
 
 pub loop-step-preserved : goal.loop-step-preserved
-loop-step-preserved g c =
-    (returns_on c.args.holder.now c.loop-step.holder c.step.new.self c.in-Some.step c.step.result c.due_of_returns.ensures.sound c.loop-step.invariant (sym c.due_of_returns.ensures.due ∙ c.in-Some.is)
-    c.step.ensures.stepped c.step.ensures.told).0
+loop-step-preserved g c = (returns_on _ _ _ _ _ c.due_of_returns.ensures.sound c.loop-step.invariant (sym c.due_of_returns.ensures.due ∙ c.in-Some.is) c.step.ensures.stepped c.step.ensures.told).0
 
 pub loop-step-smaller : goal.loop-step-smaller
-loop-step-smaller g c =
-    (returns_on c.args.holder.now c.loop-step.holder c.step.new.self c.in-Some.step c.step.result c.due_of_returns.ensures.sound c.loop-step.invariant (sym c.due_of_returns.ensures.due ∙ c.in-Some.is)
-    c.step.ensures.stepped c.step.ensures.told).1
-
-pub returns-clause-steps : goal.returns-clause-steps
-returns-clause-steps g c = (c.loop-step.invariant.made, c.loop-step.invariant.makes)
+loop-step-smaller g c = (returns_on _ _ _ _ _ c.due_of_returns.ensures.sound c.loop-step.invariant (sym c.due_of_returns.ensures.due ∙ c.in-Some.is) c.step.ensures.stepped c.step.ensures.told).1
 
 pub returns-clause-place : goal.returns-clause-place
 returns-clause-place g c =

@@ -5,23 +5,23 @@ use Rattle.heap_record.proofs.TurnsInRoom.{made_none, made_more, made_all}
 use Rattle.heap_record.proofs.last_cycle.end_whole_cycle.Goals as goal
 
 pub loop-init : goal.loop-init
-loop-init g c = made_none _ g.C.CollectorCalls.state g.C.RoomCalls.roomed g.C.CollectorCalls.turned c.args.collector.now
+loop-init g c = made_none _ g.C.CollectorCalls.state g.C.CollectorCalls.roomed g.C.CollectorCalls.turned c.args.collector.now
 
 pub loop-preserved : goal.loop-preserved
 loop-preserved g c =
-    made_more _ g.C.CollectorCalls.state g.C.RoomCalls.roomed g.C.CollectorCalls.turned c.args.collector.now c.loop.collector c.make_room.new.self c.turn.new.self c.loop.invariant c.make_room.ensures.same c.make_room.ensures.roomed
+    made_more _ g.C.CollectorCalls.state g.C.CollectorCalls.roomed g.C.CollectorCalls.turned c.args.collector.now c.loop.collector c.room.new.self c.turn.new.self c.loop.invariant c.room.ensures.same c.room.ensures.stays
     c.turn.result c.turn.ensures.turns c.turn.ensures.turned
 
 pub loop-preserved-else-cycle-target : goal.loop-preserved-else-cycle-target
 loop-preserved-else-cycle-target g c =
-    made_more _ g.C.CollectorCalls.state g.C.RoomCalls.roomed g.C.CollectorCalls.turned c.args.collector.now c.loop.collector c.make_room.new.self c.turn.new.self c.loop.invariant c.make_room.ensures.same c.make_room.ensures.roomed
+    made_more _ g.C.CollectorCalls.state g.C.CollectorCalls.roomed g.C.CollectorCalls.turned c.args.collector.now c.loop.collector c.room.new.self c.turn.new.self c.loop.invariant c.room.ensures.same c.room.ensures.stays
     c.turn.result c.turn.ensures.turns c.turn.ensures.turned
 
 pub returns-then-cycle-target : goal.returns-then-cycle-target
 returns-then-cycle-target g c =
-    made_all _ g.C.CollectorCalls.state g.C.RoomCalls.roomed g.C.CollectorCalls.turned c.args.collector.now c.loop.collector c.make_room.new.self c.turn.new.self c.loop.invariant c.make_room.ensures.same c.make_room.ensures.roomed
+    made_all _ g.C.CollectorCalls.state g.C.CollectorCalls.roomed g.C.CollectorCalls.turned c.args.collector.now c.loop.collector c.room.new.self c.turn.new.self c.loop.invariant c.room.ensures.same c.room.ensures.stays
     c.in-Ended.cycle c.in-Ended.kept
-    (subst (λ (turn : Turn). Turns (g.C.CollectorCalls.state c.make_room.new.self) (g.C.CollectorCalls.state c.turn.new.self) turn) c.in-Ended.is c.turn.ensures.turns)
-    (subst (λ (turn : Turn). g.C.CollectorCalls.turned c.make_room.new.self c.turn.new.self turn) c.in-Ended.is c.turn.ensures.turned)
+    (subst (λ (turn : Turn). Turns (g.C.CollectorCalls.state c.room.new.self) (g.C.CollectorCalls.state c.turn.new.self) turn) c.in-Ended.is c.turn.ensures.turns)
+    (subst (λ (turn : Turn). g.C.CollectorCalls.turned c.room.new.self c.turn.new.self turn) c.in-Ended.is c.turn.ensures.turned)
     (omega (arith, c.phase.ensures.phase, c.next_whole_cycle-target.ensures.behind, c.if-cycle-target.true))
     (omega (arith, c.phase.ensures.phase, c.next_whole_cycle-target.ensures.first, c.if-cycle-target.true))

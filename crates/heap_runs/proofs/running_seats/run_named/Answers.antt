@@ -14,15 +14,15 @@ pub finish-requires-clause-gone : goal.finish-requires-clause-gone
 finish-requires-clause-gone g c =
     let scripts : List (List Command) = map (λ (script : Vec Command Global). script.items) c.args.scripts.now in
     let run = c.into_inner-collector.result.of_run in
-    let gone = all_gone c.args.patience scripts c.args.collector.holder.table c.args.collector.holder.heap c.args.seats.items c.in_ok-seats.seats.items c.requires.may.ready c.in_ok-seats.ensures in
+    let gone = all_gone c.args.patience scripts c.args.paced.collector.holder.table c.args.paced.collector.holder.heap c.args.seats.items c.in_ok-seats.seats.items c.requires.may.ready c.in_ok-seats.ensures in
     subst (λ (h : Heap). All (HasGone c.into_inner-collector.result.collector.holder.table h) c.in_ok-seats.seats.items) (c.requires.heap ∙ sym run.heap_is)
-    (subst (λ (t : TableId). All (HasGone t c.args.collector.holder.heap) c.in_ok-seats.seats.items) (c.requires.table ∙ sym run.table_is) gone)
+    (subst (λ (t : TableId). All (HasGone t c.args.paced.collector.holder.heap) c.in_ok-seats.seats.items) (c.requires.table ∙ sym run.table_is) gone)
 
 pub finish-requires-clause-numbers : goal.finish-requires-clause-numbers
 finish-requires-clause-numbers g c =
     let scripts : List (List Command) = map (λ (script : Vec Command Global). script.items) c.args.scripts.now in
     let run = c.into_inner-collector.result.of_run in
-    numbers_stay c.args.patience scripts c.args.collector.holder.table c.args.collector.holder.heap c.args.seats.items c.in_ok-seats.seats.items c.requires.may.ready c.in_ok-seats.ensures
+    numbers_stay c.args.patience scripts c.args.paced.collector.holder.table c.args.paced.collector.holder.heap c.args.seats.items c.in_ok-seats.seats.items c.requires.may.ready c.in_ok-seats.ensures
     ∙ c.requires.may.numbers ∙ ap (λ (h : Heap). range_with_len 0 h.seats) (c.requires.heap ∙ sym run.heap_is)
 
 pub returns : goal.returns

@@ -1,16 +1,14 @@
-ghost use Rattle.std.specs.Prelude.{◌≡◌, ◌≤◌, All, IfOk};
+ghost use Rattle.std.specs.Prelude.{◌≤◌};
 ghost use Rattle.heap_model.specs.Heap.{IsHeap};
-ghost use Rattle.mutator_seat.specs.Resting.{IsBetweenCalls};
 ghost use Rattle.script_text.specs.Made.{most_start};
 
 use super::scripts::{MOST_COMMANDS, scripts_from};
 use super::together::Together;
-use crate::{Ran, run_seats};
+use crate::{run_seats, seats_of};
 use collector_turns::Collector;
 use core_machine::Log;
 use heap_model::{Command, Entry, Heap, Memory};
-use heap_table::{Closed, HeapTable, Holder};
-use mutator_seat::Seat;
+use heap_table::{Closed, HeapTable};
 use slack_pace::Steady;
 use std::alloc::Global;
 use std::sync::Wait;
@@ -56,18 +54,6 @@ fn answers(log: &[Entry], script: &[Command]) -> bool {
     false
 }
 
-/// The seats of these holders, in their order.
-fn seats_of(alloc: Global, holders: Vec<Holder>) -> Result<Vec<Seat>, Memory>
-    requires { All IsBetweenCalls holders.items }
-    ensures { IfOk result (λ seats. seats.items ≡ holders.items) }
-{
-    let mut seats = Vec::new(alloc);
-    for holder in holders {
-        seats.push(Seat::make(holder))?;
-    }
-    Ok(seats)
-}
-
 /// Runs the scripts from this start on a shared table of the heap.
 pub(super) fn run_from<R: Threads + Wait + Sync>(
     rt: &R,
@@ -85,19 +71,11 @@ pub(super) fn run_from<R: Threads + Wait + Sync>(
     let gate = Together::new(alloc, start % 2 == 1, 1 + start % 4, MOST_COMMANDS)?;
     let pace = Box::new(alloc, Steady)?;
     let patience = 1 + start % 50;
-    let Ran { closed, .. } = run_seats(
-        rt,
-        alloc,
-        seats,
-        collector,
-        scripts.as_slice(),
-        pace,
-        patience,
-        &gate,
-    )?;
+    let commands = scripts.as_slice();
+    let ran = run_seats(rt, alloc, seats, collector, commands, pace, patience, &gate)?;
     let begun = gate.order(alloc)?;
     Ok(Run {
-        closed,
+        closed: ran.closed,
         begun,
         scripts,
     })

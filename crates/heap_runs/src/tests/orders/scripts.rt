@@ -24,8 +24,8 @@ fn register(r: u8) -> u8 {
     r % 4
 }
 
-/// The command on few registers and fields, so that these hold objects, and are shared. Of those on numbers and registers alone half become commands on the board's fields, a length, or
-/// a collect.
+/// The command on few registers and fields, so that these hold objects, and are shared.
+/// Of those on numbers and registers alone half become commands on the board's fields, a length, or a collect.
 fn on_few(command: Command) -> Command {
     match command {
         Command::New { d, fields } => Command::New {

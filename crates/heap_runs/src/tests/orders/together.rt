@@ -6,8 +6,8 @@ use std::thread::yield_now;
 /// The most turns of a wait at the gate.
 const MOST_TURNS: u32 = 100;
 
-/// A gate of two seats, which notes the order in which they pass. Where it yields a seat lets other threads go on before each command; and before each of which the number is a multiple
-/// of `every` it waits a while for the other one to come to its own.
+/// A gate of two seats, which notes the order in which they pass. Where it yields a seat lets other threads go on before each command.
+/// Before each command whose number is a multiple of `every` it waits a while for the other seat to come to its own.
 #[derive(Drop)]
 pub(super) struct Together {
     yields: bool,

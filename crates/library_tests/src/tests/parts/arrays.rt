@@ -6,7 +6,7 @@ ghost use Rattle.heap_model.specs.Needs.{spine_need_of};
 ghost use Rattle.core_machine.specs.declared.place.Making.TheVariants.{Refusing};
 ghost use Rattle.core_machine.specs.declared.place.Place.TheVariants.{Making};
 
-use super::{has, is_the_first, kept, lone_seat, no_fragments, tells};
+use super::{has, is_the_first, kept, lone_seat, no_fragments, takes_in_vain, tells};
 use crate::tests::comparing::{holds, same};
 use array_spine::{Budget, SpineFull, bear_array, cell_at, drop_budget, take_budget};
 use core_machine::{Access, AccessStep, Step};
@@ -151,15 +151,11 @@ fn an_array_without_fragments_gives_its_words_back(rt: HostRuntime) -> Result<()
     let mut hand = no_fragments();
     let made = make_array(&mut holder, &mut hand, 20, 5)?;
     same(&rt, &made, &None, &"the refusal");
-    tells(
+    takes_in_vain(
         &rt,
         rt.alloc(),
         &holder,
-        &[
-            "0 takes 5",
-            "0 gives back 5",
-            "0 array 1 20 = full need 6 found 5",
-        ],
+        "0 array 1 20 = full need 6 found 5",
     )?;
     let again = make_array(&mut holder, &mut no_fragments(), 16, 4)?;
     is_the_first(&rt, &again);

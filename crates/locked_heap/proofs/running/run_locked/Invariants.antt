@@ -4,9 +4,9 @@ use Rattle.locked_heap.proofs.running.run_locked.Given as goal
 abbrev pub ghosts-run_named : goal.ghosts-run_named
 ghosts-run_named g a = record {
   given = record {
-    heap = a.machine.heap;
-    opening = a.machine.state;
+    heap = a.on.machine.heap;
+    opening = a.on.machine.state;
     scripts = map (λ script. script.items) a.scripts.now;
-    patience = a.patience;
+    patience = a.on.patience;
   };
 }

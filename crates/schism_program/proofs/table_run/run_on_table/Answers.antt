@@ -11,10 +11,10 @@ use Rattle.locked_heap.specs.Given.{IsSeatScript}
 use Rattle.collector_turns.specs.Collector.{CollectorValue}
 use Rattle.heap_runs.specs.Finishing.{HasLogs}
 use Rattle.heap_runs.specs.SeatWork.{HaveWorked}
+use Rattle.heap_runs.proofs.OpenedSeats.{many_seats, may_run}
 use Rattle.schism_program.specs.Running.{IsRunOf, IsOfTable}
-use Rattle.schism_program.proofs.OpenedSeats.{many_seats, may_run, told_none}
 use Rattle.schism_program.proofs.SeatScripts.{items, handed_script, seat_script, seated}
-use Rattle.schism_program.proofs.TableRuns.{run_of_table, table_of_run}
+use Rattle.schism_program.proofs.TableRuns.{run_of_table, table_of_run, told_none}
 use Rattle.schism_program.proofs.table_run.run_on_table.Goals as goal
 
 pub run_seats-requires-clause-may : goal.run_seats-requires-clause-may
@@ -23,9 +23,11 @@ run_seats-requires-clause-may g c κs within =
     let made = c.in_ok-holders in
     let scripts = c.as_slice.result.now in
     let handed = ap (map items) c.as_slice.ensures.value ∙ c.in_ok-scripts.ensures in
-    may_run script (map items scripts) made.collector made.holders.items made.ensures.heap made.ensures.numbers made.ensures.each c.in_ok-seats.seats.items c.make-collector.result c.in_ok-seats.ensures c.make-collector.ensures
+    may_run script.heap (map items scripts) made.collector made.holders.items made.ensures.heap made.ensures.numbers made.ensures.each c.in_ok-seats.seats.items c.make-collector.result c.in_ok-seats.ensures c.make-collector.ensures
     (length-map scripts items ∙ seated scripts script handed)
-    (λ number below. subst IsSeatScript (sym (handed_script scripts script number below handed)) (seat_script number script c.in_ok-script.ensures.form))
+    (λ number below.
+    let short = subst IsSeatScript (sym (handed_script scripts script number below handed)) (seat_script number script c.in_ok-script.ensures.form) in
+    (short.few, short.each))
 
 pub merge-requires-clause-order : goal.merge-requires-clause-order
 merge-requires-clause-order g c =
@@ -51,8 +53,8 @@ returns-clause-ok g c =
     let no_log = ap (λ (v : CollectorValue). v.holder.known.collector.log) c.make-collector.ensures ∙ ap (λ (k : CollectorKnown). k.collector.log) made.ensures.known in
     let logs = subst (λ (l : List Entry). HasLogs ran.worked l closed) no_log ran.logs in
     let worked = subst (λ (l : List SeatHeld). HaveWorked c.args.patience (map items scripts) l ran.worked) c.in_ok-seats.ensures ran.have_worked in
-    let many = many_seats script (map items scripts) made.collector made.holders.items made.ensures.heap made.ensures.numbers made.ensures.each in
-    let none = told_none script (map items scripts) made.collector made.holders.items made.ensures.heap made.ensures.numbers made.ensures.each in
+    let many = many_seats script.heap (map items scripts) made.collector made.holders.items made.ensures.heap made.ensures.numbers made.ensures.each in
+    let none = told_none made.collector.table script.heap made.holders.items made.ensures.each in
     record {
       script = script;
       history = c.history_of-history.result;

@@ -1,20 +1,25 @@
-use Rattle.std.proofs.Common.{◌∙◌, ◌^◌, ℕ, List, decimal, sym, IsUtf8, subst, rules}
+use Rattle.std.proofs.Common.{◌≡◌, ◌∙◌, ◌^◌, ℕ, List, Some, length, decimal, sym, ap, IsUtf8, subst, rules, arith}
 use Rattle.std.specs.Str.Parse.{ParsesUnsigned}
 use Rattle.std.proofs.lemmas.Fmt.{IsAscii-decimal}
 use Rattle.std.proofs.lemmas.Str.{IsUtf8-from_ascii}
 use Rattle.script_text.specs.Numbers.{BeginsNumber}
-use Rattle.script_text.proofs.Numbers.{number_below-None, decimal-BeginsNumber, parsed-number_below}
+use Rattle.script_text.proofs.Numbers.{number_below-None, number_below-digit, decimal-BeginsNumber, parsed-number_below}
 use Rattle.script_text.proofs.number.read_number.Goals as goal
+
+pub returns-in-48-to-57 : goal.returns-in-48-to-57
+returns-in-48-to-57 c =
+    let one : length c.args.word.now ≡ 1 = omega (arith, c.in-48-to-57.len_at_least, c.in-48-to-57.len_below) in
+    ap Some c.from.ensures ∙ sym (number_below-digit c.args.word.now one (omega arith) (omega arith))
 
 pub returns-then-not-begins_number : goal.returns-then-not-begins_number
 returns-then-not-begins_number c = sym (number_below-None (2 ^ 64) c.args.word.now (λ n small e.
     let begins : BeginsNumber c.args.word.now = rw e (decimal-BeginsNumber n small) in
     search rules))
 
-pub returns-in_default : goal.returns-in_default
-returns-in_default c = sym (number_below-None (2 ^ 64) c.args.word.now (λ n small e.
+pub returns-in_default-from_utf8 : goal.returns-in_default-from_utf8
+returns-in_default-from_utf8 c = sym (number_below-None (2 ^ 64) c.args.word.now (λ n small e.
     let text : IsUtf8 c.args.word.now = rw e (IsUtf8-from_ascii (decimal n) (IsAscii-decimal n small)) in
-    c.in_default.ensures.cases.0 text))
+    c.in_default-from_utf8.ensures.cases.0 text))
 
 pub returns : goal.returns
 returns c =

@@ -1,7 +1,5 @@
 use Rattle.std.proofs.Common.{◌≡◌, sym, ◌∙◌, ap, subst}
-use Rattle.core_machine.specs.machine.Machine.{State, state_after, Begins}
-use Rattle.core_machine.specs.machine.Value.{MachineValue, IsMachine}
-use Rattle.core_machine.specs.machine.Calls.{last_reply_of}
+use Rattle.core_machine.proofs.Terms.{State, state_after, Begins, MachineValue, IsMachine, last_reply_of}
 use Rattle.core_machine.proofs.table_lemmas.Addresses.{at-lt}
 use Rattle.core_machine.proofs.call_lemmas.Calling.{Playing, playing_begun}
 use Rattle.core_machine.proofs.call_lemmas.CallRoom.{spends_begun, room_for}
@@ -17,6 +15,7 @@ loop-step-init c =
       heap = ap (λ (v : MachineValue). v.heap) c.begin.ensures;
       goes = record {
         small = λ a within. at-lt old.heap old.state.words a start.wide;
+        gone = c.recent.ensures.within;
         playing = subst (λ (s : State). Playing old.heap old.state s c.args.seat c.args.command.now) (sym begun_)
             (playing_begun old.heap old.state c.args.seat c.args.command.now start c.requires.can);
         room = room_for old c.begin.new.self c.args.seat c.args.command.now start c.requires.can c.begin.ensures c.requires.room;
@@ -37,29 +36,29 @@ loop-step-preserved c =
 
 pub returns-clause-steps : goal.returns-clause-steps
 returns-clause-steps c =
-    (call_ends c.loop-step.self c.loop-step.invariant.goes.playing c.loop-step.invariant.heap c.due_of_seat.ensures c.in_default.not-Some c.log.ensures c.last_reply.ensures c.in-Some-last_reply.is).steps
+    (call_ends c.loop-step.invariant.goes c.loop-step.invariant.spent c.loop-step.invariant.heap c.due_of_seat.ensures c.in_default.not-Some c.recent-2.ensures.recent c.last_reply.ensures c.in-Some-last_reply.is).steps
 
 pub returns-clause-answer : goal.returns-clause-answer
 returns-clause-answer c =
-    (call_ends c.loop-step.self c.loop-step.invariant.goes.playing c.loop-step.invariant.heap c.due_of_seat.ensures c.in_default.not-Some c.log.ensures c.last_reply.ensures c.in-Some-last_reply.is).answer
+    (call_ends c.loop-step.invariant.goes c.loop-step.invariant.spent c.loop-step.invariant.heap c.due_of_seat.ensures c.in_default.not-Some c.recent-2.ensures.recent c.last_reply.ensures c.in-Some-last_reply.is).answer
 
 pub unreachable-requires : goal.unreachable-requires
 unreachable-requires c =
-    call_replies c.loop-step.self c.loop-step.invariant.goes.playing (none_left c.loop-step.self c.args.seat c.loop-step.invariant.heap c.due_of_seat.ensures c.in_default.not-Some)
-    (ap last_reply_of (sym c.log.ensures) ∙ sym c.last_reply.ensures ∙ c.in-None.is)
+    call_replies c.loop-step.invariant.goes c.loop-step.invariant.spent (none_left c.loop-step.self c.args.seat c.loop-step.invariant.heap c.due_of_seat.ensures c.in_default.not-Some)
+    (ap last_reply_of (sym c.recent-2.ensures.recent) ∙ sym c.last_reply.ensures ∙ c.in-None.is)
 
 pub returns-clause-array : goal.returns-clause-array
 returns-clause-array c =
-    (call_ends c.loop-step.self c.loop-step.invariant.goes.playing c.loop-step.invariant.heap c.due_of_seat.ensures c.in_default.not-Some c.log.ensures c.last_reply.ensures c.in-Some-last_reply.is).array
+    (call_ends c.loop-step.invariant.goes c.loop-step.invariant.spent c.loop-step.invariant.heap c.due_of_seat.ensures c.in_default.not-Some c.recent-2.ensures.recent c.last_reply.ensures c.in-Some-last_reply.is).array
 
 pub returns-clause-refused : goal.returns-clause-refused
 returns-clause-refused c =
-    (call_ends c.loop-step.self c.loop-step.invariant.goes.playing c.loop-step.invariant.heap c.due_of_seat.ensures c.in_default.not-Some c.log.ensures c.last_reply.ensures c.in-Some-last_reply.is).refused
+    (call_ends c.loop-step.invariant.goes c.loop-step.invariant.spent c.loop-step.invariant.heap c.due_of_seat.ensures c.in_default.not-Some c.recent-2.ensures.recent c.last_reply.ensures c.in-Some-last_reply.is).refused
 
 pub returns-clause-counts : goal.returns-clause-counts
 returns-clause-counts c =
-    (call_ends c.loop-step.self c.loop-step.invariant.goes.playing c.loop-step.invariant.heap c.due_of_seat.ensures c.in_default.not-Some c.log.ensures c.last_reply.ensures c.in-Some-last_reply.is).counts
+    (call_ends c.loop-step.invariant.goes c.loop-step.invariant.spent c.loop-step.invariant.heap c.due_of_seat.ensures c.in_default.not-Some c.recent-2.ensures.recent c.last_reply.ensures c.in-Some-last_reply.is).counts
 
 pub returns-clause-leave : goal.returns-clause-leave
 returns-clause-leave c =
-    (call_ends c.loop-step.self c.loop-step.invariant.goes.playing c.loop-step.invariant.heap c.due_of_seat.ensures c.in_default.not-Some c.log.ensures c.last_reply.ensures c.in-Some-last_reply.is).leave
+    (call_ends c.loop-step.invariant.goes c.loop-step.invariant.spent c.loop-step.invariant.heap c.due_of_seat.ensures c.in_default.not-Some c.recent-2.ensures.recent c.last_reply.ensures c.in-Some-last_reply.is).leave

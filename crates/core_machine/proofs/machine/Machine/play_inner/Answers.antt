@@ -1,6 +1,5 @@
 use Rattle.std.proofs.Common.{◌≡◌, sym, ◌∙◌, ap, subst}
-use Rattle.core_machine.specs.machine.Machine.{State, state_after, BeginsInner}
-use Rattle.core_machine.specs.machine.Value.{MachineValue, IsMachine}
+use Rattle.core_machine.proofs.Terms.{State, state_after, BeginsInner, MachineValue, IsMachine}
 use Rattle.core_machine.proofs.call_lemmas.PlayingInner.{PlayingInner, inner_begun, inner_steps, inner_over, inner_spends, inner_room}
 use Rattle.core_machine.proofs.call_lemmas.CallEnd.{none_left}
 use Rattle.core_machine.proofs.machine.Machine.play_inner.Goals as goal

@@ -1,8 +1,6 @@
 use Rattle.std.proofs.Common.{◌≡◌}
-use Rattle.core_machine.specs.machine.Machine.{seat_at}
-use Rattle.core_machine.specs.machine.Value.{SpendsRoom}
+use Rattle.core_machine.proofs.Terms.{seat_at, SpendsRoom, steps_left}
 use Rattle.core_machine.proofs.call_lemmas.PlayingInner.{InnerGoes}
-use Rattle.core_machine.specs.calls.Owes.{steps_left}
 use Rattle.core_machine.proofs.machine.Machine.play_inner.Given as goal
 
 abbrev pub invariant-loop-step : goal.invariant-loop-step

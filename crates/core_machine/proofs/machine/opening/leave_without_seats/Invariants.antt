@@ -1,6 +1,5 @@
 use Rattle.std.proofs.Common.{◌≡◌, length}
-use Rattle.core_machine.specs.declared.table.address.Address.{Address}
-use Rattle.core_machine.specs.table.Layout.{table_length, InTable, at}
+use Rattle.core_machine.proofs.Terms.{Address, table_length, InTable, at}
 use Rattle.core_machine.specs.machine.Opening.{with_left}
 use Rattle.core_machine.proofs.machine.opening.leave_without_seats.Given as goal
 

@@ -1,9 +1,8 @@
 use Rattle.std.proofs.Common.{arith, sym, ◌∙◌, ap, map, ◌++◌, ◌∷◌, [], List}
 use Rattle.std.specs.List.{range_with_len}
-use Rattle.core_machine.specs.seat.Seat.{Seat}
+use Rattle.core_machine.proofs.Terms.{Seat, SeatWithRoom}
 use Rattle.std.proofs.lemmas.List.{map-append}
 use Rattle.std.proofs.lemmas.List.FromFn.{map-range_with_len_more}
-use Rattle.core_machine.specs.machine.Value.{SeatWithRoom}
 use Rattle.core_machine.specs.machine.Opening.{opening_seat}
 use Rattle.core_machine.proofs.machine.opening.opening_seats.Goals as goal
 

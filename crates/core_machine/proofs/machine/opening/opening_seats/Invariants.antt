@@ -1,6 +1,6 @@
 use Rattle.std.proofs.Common.{◌≡◌, map}
 use Rattle.std.specs.List.{range_with_len}
-use Rattle.core_machine.specs.machine.Value.{SeatWithRoom}
+use Rattle.core_machine.proofs.Terms.{SeatWithRoom}
 use Rattle.core_machine.specs.machine.Opening.{opening_seat}
 use Rattle.core_machine.proofs.machine.opening.opening_seats.Given as goal
 

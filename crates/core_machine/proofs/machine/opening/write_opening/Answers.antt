@@ -1,6 +1,6 @@
 use Rattle.std.proofs.Common.{◌≡◌, ℕ, List, refl, ◌∙◌, ap}
-use Rattle.core_machine.specs.declared.table.address.Address.TheVariants.{Spot, Control}
-use Rattle.core_machine.specs.table.Layout.{at, put}
+use Rattle.core_machine.proofs.Terms.{Control, at, put}
+use Rattle.core_machine.specs.declared.table.address.Address.TheVariants.{Spot}
 use Rattle.core_machine.specs.machine.Opening.{board_group, with_board}
 use Rattle.core_machine.proofs.machine_lemmas.Opens.{opens, at-zeros, spot_word_of}
 use Rattle.core_machine.proofs.machine.opening.write_opening.Goals as goal

@@ -1,7 +1,5 @@
 use Rattle.std.proofs.Common.{◌≡◌, ℕ, ◌+◌, length, sym, ap, ◌∙◌, arith}
-use Rattle.core_machine.specs.declared.table.address.Address.TheVariants.{Control}
-use Rattle.core_machine.specs.table.Fragments.{clear_in}
-use Rattle.core_machine.specs.table.Layout.{at}
+use Rattle.core_machine.proofs.Terms.{Control, clear_in, at}
 use Rattle.core_machine.specs.machine.Sums.{sum_upto}
 use Rattle.core_machine.proofs.table_lemmas.Free.{sum_upto-none, sum_upto-more}
 use Rattle.core_machine.proofs.machine.space.free_in.Goals as goal

@@ -3,7 +3,7 @@ use Rattle.std.specs.Prelude.{slice_get, option_map, unwrap_or}
 use Rattle.std.proofs.lemmas.Option.{unwrap_or-slice_get}
 use Rattle.std.proofs.lemmas.Iterator.{YieldsList-from_slice}
 use Rattle.std.proofs.lemmas.Iterator.Consumers.{YieldsList-from_filter_map, nth_from_yields_List}
-use Rattle.core_machine.specs.seat.Registers.{register_head, heads_of}
+use Rattle.core_machine.proofs.Terms.{register_head, heads_of}
 use Rattle.core_machine.proofs.seat.handshake.head_at.Goals as goal
 
 -- the item of this number, where there may be none

@@ -1,5 +1,5 @@
 use Rattle.std.proofs.Common.{arith, ◌≡◌, true, false, sym, append-nil, append_assoc, ◌+◌, ◌*◌, [], ◌∷◌, lit<, refl, length, length-append, ap, ◌∙◌}
-use Rattle.core_machine.specs.table.Fragments.{is_clear, clear_among}
+use Rattle.core_machine.proofs.Terms.{is_clear, clear_among}
 use Rattle.core_machine.proofs.table_lemmas.Clear.{clear_among-zero, clear_among-clear, clear_among-taken, length-clear_among}
 use Rattle.core_machine.proofs.table.fragments.add_clear.Goals as goal
 use Rattle.core_machine.proofs.table.fragments.add_clear.Goals.{then-is_clear, else-is_clear}

@@ -1,5 +1,5 @@
 use Rattle.std.proofs.Common.{◌≡◌, ◌++◌}
-use Rattle.core_machine.specs.table.Fragments.{clear_among}
+use Rattle.core_machine.proofs.Terms.{clear_among}
 use Rattle.core_machine.proofs.table.fragments.add_clear.Given as goal
 
 abbrev pub invariant-loop-place : goal.invariant-loop-place

@@ -3,7 +3,7 @@ use Rattle.std.proofs.lemmas.Bool.{ne_eqb}
 use Rattle.std.proofs.lemmas.Grind.{get_or_default_zero}
 use Rattle.std.proofs.lemmas.List.{length-set, take_all, drop_all}
 use Rattle.std.proofs.lemmas.List.Filters.{FiltersInPlace-more_no, FiltersInPlace-more_set}
-use Rattle.core_machine.specs.table.Fragments.{out_of_group}
+use Rattle.core_machine.proofs.Terms.{out_of_group}
 use Rattle.core_machine.proofs.table.fragments.leave_out.Goals as goal
 use Rattle.core_machine.proofs.table.fragments.leave_out.Goals.{then-fragment-group, else-fragment-group}
 

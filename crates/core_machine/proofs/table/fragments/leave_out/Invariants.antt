@@ -1,5 +1,5 @@
 use Rattle.std.proofs.lemmas.List.Filters.{FiltersInPlace}
-use Rattle.core_machine.specs.table.Fragments.{out_of_group}
+use Rattle.core_machine.proofs.Terms.{out_of_group}
 use Rattle.core_machine.proofs.table.fragments.leave_out.Given as goal
 
 abbrev pub invariant-loop-place : goal.invariant-loop-place

@@ -1,10 +1,10 @@
-use Rattle.std.proofs.Common.{◌-◌, List, length, drop, refl, ap, subst, ◌∙◌, arith}
+use Rattle.std.proofs.Common.{◌-◌, List, length, refl, ap, subst, ◌∙◌, arith}
 use Rattle.heap_model.specs.account.Turned.{without_turned}
 use Rattle.heap_model.specs.declared.entry.Entry.{Entry}
-use Rattle.core_machine.specs.machine.Value.{MachineValue, log_of}
+use Rattle.core_machine.specs.machine.Value.{MachineValue}
 use Rattle.heap_record.specs.contracts.recorder.Recorder.{the_view}
 use Rattle.heap_record.specs.Recorded.{Recorded, AnyEvents, MakesCall}
-use Rattle.heap_record.proofs.Calls.{since, AddsTold, noted_since, history_since, made_of_heap, CallFacts, call_facts, makes_call}
+use Rattle.heap_record.proofs.Calls.{since, AddsTold, Remembers, recent_since, recent_longer, noted_since, history_since, kept_room, made_of_heap, CallFacts, call_facts, makes_call}
 use Rattle.heap_record.proofs.Leading.{led_call}
 use Rattle.heap_record.proofs.recorder.Recorder.call.Goals as goal
 use Rattle.heap_record.proofs.recorder.Recorder.call.Goals.{After-play_call-reply, After-note_since}
@@ -16,49 +16,59 @@ facts c =
     call_facts c.law_every_run.ensures.run c.seat_laws.ensures.short (the_view c.self.inside) c.room.new.self c.play_call-reply.new.self c.args.seat c.args.command.now c.play_call-reply.result c.self.invariant.0
     c.room.ensures.same c.room.ensures.others calls.steps calls.counts calls.answer calls.array calls.leave calls.refused calls.spent
 
+-- what the machine showed before
+remembers : (c : After-play_call-reply) → Remembers c.room.new.self c.play_call-reply.new.self c.args.seat c.recent-before.result.now
+remembers c = record { recent = c.recent-before.ensures.recent; within = c.recent-before.ensures.within; same = c.play_call-reply.ensures.spent.forgotten }
+
 -- what contracts see once it was noted
 abbrev after : After-note_since → Recorded
-after c = record (the_view c.self.inside) { machine = c.play_call-reply.new.self; history = without_turned c.note_since.new.list.items; listed = c.note_since.new.list.items; spare = c.note_since.new.spare }
+after c = record (the_view c.self.inside) { machine = c.note_since.new.machine; history = without_turned c.note_since.new.list.items; listed = c.note_since.new.list.items; spare = c.note_since.new.spare }
 
 -- it was noted
-noted : (c : After-note_since) → CallFacts (the_view c.self.inside) c.room.new.self c.play_call-reply.new.self c.args.seat c.args.command.now c.play_call-reply.result
+noted : (c : After-note_since) → Remembers c.room.new.self c.play_call-reply.new.self c.args.seat c.recent-before.result.now → CallFacts (the_view c.self.inside) c.room.new.self c.play_call-reply.new.self c.args.seat c.args.command.now c.play_call-reply.result
     → AddsTold (the_view c.self.inside) (after c) (since c.room.new.self c.play_call-reply.new.self c.args.seat)
-noted c made =
+noted c before made =
     let old : Recorded = the_view c.self.inside in
     let one = c.room.new.self in
     let two = c.play_call-reply.new.self in
-    let listed = noted_since old one two c.args.seat c.log-before.result.now c.reserve.new.self.items c.note_since.new.list.items c.note_since.ensures.items c.reserve.ensures.items c.log-before.ensures in
+    let listed = noted_since old one two c.args.seat c.recent-before.result.now c.reserve.new.self.items c.note_since.new.list.items before c.note_since.ensures.items c.reserve.ensures.items in
     record {
-      same_heap = c.play_call-reply.ensures.heap ∙ ap (λ (m : MachineValue). m.heap) c.room.ensures.same;
+      same_heap = ap (λ (m : MachineValue). m.heap) c.note_since.ensures.same ∙ c.play_call-reply.ensures.heap ∙ ap (λ (m : MachineValue). m.heap) c.room.ensures.same;
       noted = history_since old c.note_since.new.list.items (since one two c.args.seat) refl listed (made_of_heap old.machine.heap old.machine.state two.state (since one two c.args.seat) c.args.seat c.args.command.now c.play_call-reply.result made.made);
       listed = listed;
-      left = c.note_since.ensures.left ∙ ap (λ (l : List Entry). old.spare - length (drop (length l) (log_of two c.args.seat))) c.log-before.ensures;
+      left = c.note_since.ensures.left ∙ ap (λ (l : List Entry). old.spare - length l) (recent_since one two c.args.seat c.recent-before.result.now before);
       turns_stay = refl;
       last_stays = refl;
     }
 
 -- so it is what contracts say of it
-makes : (c : After-note_since) → CallFacts (the_view c.self.inside) c.room.new.self c.play_call-reply.new.self c.args.seat c.args.command.now c.play_call-reply.result
+makes : (c : After-note_since) → Remembers c.room.new.self c.play_call-reply.new.self c.args.seat c.recent-before.result.now → CallFacts (the_view c.self.inside) c.room.new.self c.play_call-reply.new.self c.args.seat c.args.command.now c.play_call-reply.result
     → MakesCall (the_view c.self.inside) (after c) c.args.seat c.args.command.now c.play_call-reply.result
-makes c made = makes_call (the_view c.self.inside) (after c) c.room.new.self c.args.seat c.args.command.now c.play_call-reply.result made (noted c made)
+makes c before made =
+    makes_call (the_view c.self.inside) (after c) c.room.new.self c.play_call-reply.new.self c.args.seat c.args.command.now c.play_call-reply.result made (noted c before made)
+    (ap (λ (m : MachineValue). m.state) c.note_since.ensures.same)
 
 pub note_since-requires-clause-longer : goal.note_since-requires-clause-longer
-note_since-requires-clause-longer c = rw c.log-before.ensures (facts (goal.at.note_since-requires-clause-longer c).After-play_call-reply).longer
+note_since-requires-clause-longer c =
+    let here = (goal.at.note_since-requires-clause-longer c).After-play_call-reply in
+    recent_longer c.room.new.self c.play_call-reply.new.self c.args.seat c.recent-before.result.now (remembers here) (facts here).longer
 
 pub note_since-requires-clause-room : goal.note_since-requires-clause-room
 note_since-requires-clause-room c =
-    let made = facts (goal.at.note_since-requires-clause-room c).After-play_call-reply in
-    rw c.log-before.ensures (omega (arith, made.short, c.need.ensures, c.in_ok-reserve.ensures.ok, c.in_ok-reserve.ensures.len))
+    let here = (goal.at.note_since-requires-clause-room c).After-play_call-reply in
+    rw (recent_since c.room.new.self c.play_call-reply.new.self c.args.seat c.recent-before.result.now (remembers here))
+    (omega (arith, (facts here).short, c.need.ensures, c.in_ok-reserve.ensures.ok, c.in_ok-reserve.ensures.len))
 
 pub invariant_of-self-2 : goal.invariant_of-self-2
 invariant_of-self-2 c =
     let here = goal.at.invariant_of-self-2 c in
     let made = facts here.After-play_call-reply in
     let after_note = here.After-note_since in
-    let told = c.note_since.ensures in (
-      led_call AnyEvents (the_view c.self.inside) (after after_note) c.self.invariant.0 c.args.seat c.args.command.now c.play_call-reply.result (makes after_note made) tt,
+    let told = c.note_since.ensures in
+    let own = kept_room (the_view c.self.inside) c.play_call-reply.new.self c.note_since.new.machine c.args.seat made.within made.own_room told.same told.others in (
+      led_call AnyEvents (the_view c.self.inside) (after after_note) c.self.invariant.0 c.args.seat c.args.command.now c.play_call-reply.result (makes after_note (remembers here.After-play_call-reply) made) tt,
       record {
-        own_room = omega (arith, made.own_room, c.self.invariant.1.own_room, told.left);
+        own_room = omega (arith, own, c.self.invariant.1.own_room, told.left);
         listed_room = omega (arith, c.self.invariant.1.listed_room, told.left, told.capacity, told.len, c.in_ok-reserve.ensures.capacity, c.in_ok-reserve.ensures.len);
       },
     )
@@ -66,4 +76,4 @@ invariant_of-self-2 c =
 pub returns-clause-makes : goal.returns-clause-makes
 returns-clause-makes c =
     let here = goal.at.returns-clause-makes c in
-    subst (λ (v : Recorded). MakesCall v (after here.After-note_since) c.args.seat c.args.command.now c.play_call-reply.result) c.self.view_is (makes here.After-note_since (facts here.After-play_call-reply))
+    subst (λ (v : Recorded). MakesCall v (after here.After-note_since) c.args.seat c.args.command.now c.play_call-reply.result) c.self.view_is (makes here.After-note_since (remembers here.After-play_call-reply) (facts here.After-play_call-reply))

@@ -1,11 +1,11 @@
-use Rattle.std.proofs.Common.{◌-◌, List, length, drop, refl, sym, ap, subst, ◌∙◌, arith}
+use Rattle.std.proofs.Common.{◌-◌, List, length, refl, sym, ap, subst, ◌∙◌, arith}
 use Rattle.heap_model.specs.account.Turned.{without_turned}
 use Rattle.heap_model.specs.declared.entry.Entry.{Entry}
 use Rattle.core_machine.specs.machine.Machine.{BeginsInner, Can}
-use Rattle.core_machine.specs.machine.Value.{MachineValue, log_of}
+use Rattle.core_machine.specs.machine.Value.{MachineValue}
 use Rattle.heap_record.specs.contracts.recorder.Recorder.{the_view}
 use Rattle.heap_record.specs.Recorded.{Recorded, AnyEvents, MakesInner}
-use Rattle.heap_record.proofs.Calls.{since, noted_since, history_since}
+use Rattle.heap_record.proofs.Calls.{since, Remembers, recent_since, recent_longer, noted_since, history_since, kept_room}
 use Rattle.heap_record.proofs.Inners.{InnerFacts, inner_facts, facts_of_heap, makes_inner}
 use Rattle.heap_record.proofs.Leading.{led_inner}
 use Rattle.heap_record.proofs.recorder.Recorder.inner.Goals as goal
@@ -15,44 +15,52 @@ use Rattle.heap_record.proofs.recorder.Recorder.inner.Goals.{After-play_inner, A
 facts : (c : After-play_inner) → InnerFacts (the_view c.self.inside) c.room.new.self c.play_inner.new.self c.args.seat c.args.inner
 facts c = inner_facts (the_view c.self.inside) c.room.new.self c.play_inner.new.self c.args.seat c.args.inner c.room.ensures.same c.room.ensures.others c.play_inner.ensures.plays c.play_inner.ensures.spent
 
+-- what the machine showed before
+remembers : (c : After-play_inner) → Remembers c.room.new.self c.play_inner.new.self c.args.seat c.recent-before.result.now
+remembers c = record { recent = c.recent-before.ensures.recent; within = c.recent-before.ensures.within; same = c.play_inner.ensures.spent.forgotten }
+
 -- what contracts see once it was noted
 abbrev after : After-note_since → Recorded
-after c = record (the_view c.self.inside) { machine = c.play_inner.new.self; history = without_turned c.note_since.new.list.items; listed = c.note_since.new.list.items; spare = c.note_since.new.spare }
+after c = record (the_view c.self.inside) { machine = c.note_since.new.machine; history = without_turned c.note_since.new.list.items; listed = c.note_since.new.list.items; spare = c.note_since.new.spare }
 
 -- so it is what contracts say of it
-makes : (c : After-note_since) → InnerFacts (the_view c.self.inside) c.room.new.self c.play_inner.new.self c.args.seat c.args.inner → MakesInner (the_view c.self.inside) (after c) c.args.seat c.args.inner
-makes c made =
+makes : (c : After-note_since) → Remembers c.room.new.self c.play_inner.new.self c.args.seat c.recent-before.result.now → InnerFacts (the_view c.self.inside) c.room.new.self c.play_inner.new.self c.args.seat c.args.inner → MakesInner (the_view c.self.inside) (after c) c.args.seat c.args.inner
+makes c before made =
     let old : Recorded = the_view c.self.inside in
-    let listed = noted_since old c.room.new.self c.play_inner.new.self c.args.seat c.log-before.result.now c.reserve.new.self.items c.note_since.new.list.items c.note_since.ensures.items c.reserve.ensures.items c.log-before.ensures in
-    makes_inner old (after c) c.room.new.self c.args.seat c.args.inner made (record {
-      same_heap = c.play_inner.ensures.heap ∙ ap (λ (m : MachineValue). m.heap) c.room.ensures.same;
+    let listed = noted_since old c.room.new.self c.play_inner.new.self c.args.seat c.recent-before.result.now c.reserve.new.self.items c.note_since.new.list.items before c.note_since.ensures.items c.reserve.ensures.items in
+    makes_inner old (after c) c.room.new.self c.play_inner.new.self c.args.seat c.args.inner made (record {
+      same_heap = ap (λ (m : MachineValue). m.heap) c.note_since.ensures.same ∙ c.play_inner.ensures.heap ∙ ap (λ (m : MachineValue). m.heap) c.room.ensures.same;
       noted = history_since old c.note_since.new.list.items (since c.room.new.self c.play_inner.new.self c.args.seat) refl listed (facts_of_heap old c.room.new.self c.play_inner.new.self c.args.seat c.args.inner made);
       listed = listed;
-      left = c.note_since.ensures.left ∙ ap (λ (l : List Entry). old.spare - length (drop (length l) (log_of c.play_inner.new.self c.args.seat))) c.log-before.ensures;
+      left = c.note_since.ensures.left ∙ ap (λ (l : List Entry). old.spare - length l) (recent_since c.room.new.self c.play_inner.new.self c.args.seat c.recent-before.result.now before);
       turns_stay = refl;
       last_stays = refl;
-    })
+    }) (ap (λ (m : MachineValue). m.state) c.note_since.ensures.same)
 
 pub play_inner-requires-clause-can : goal.play_inner-requires-clause-can
 play_inner-requires-clause-can c =
     rw c.room.ensures.same (subst (λ (v : Recorded). Can v.machine.heap v.machine.state (BeginsInner c.args.seat c.args.inner)) (sym c.self.view_is) c.requires.can)
 
 pub note_since-requires-clause-longer : goal.note_since-requires-clause-longer
-note_since-requires-clause-longer c = rw c.log-before.ensures (facts (goal.at.note_since-requires-clause-longer c).After-play_inner).longer
+note_since-requires-clause-longer c =
+    let here = (goal.at.note_since-requires-clause-longer c).After-play_inner in
+    recent_longer c.room.new.self c.play_inner.new.self c.args.seat c.recent-before.result.now (remembers here) (facts here).longer
 
 pub note_since-requires-clause-room : goal.note_since-requires-clause-room
 note_since-requires-clause-room c =
-    let made = facts (goal.at.note_since-requires-clause-room c).After-play_inner in
-    rw c.log-before.ensures (omega (arith, made.few, c.in_ok-reserve.ensures.ok, c.in_ok-reserve.ensures.len))
+    let here = (goal.at.note_since-requires-clause-room c).After-play_inner in
+    rw (recent_since c.room.new.self c.play_inner.new.self c.args.seat c.recent-before.result.now (remembers here))
+    (omega (arith, (facts here).few, c.in_ok-reserve.ensures.ok, c.in_ok-reserve.ensures.len))
 
 pub invariant_of-self-2 : goal.invariant_of-self-2
 invariant_of-self-2 c =
     let here = goal.at.invariant_of-self-2 c in
     let made = facts here.After-play_inner in
-    let told = c.note_since.ensures in (
-      led_inner AnyEvents (the_view c.self.inside) (after here.After-note_since) c.self.invariant.0 c.args.seat c.args.inner (makes here.After-note_since made) tt,
+    let told = c.note_since.ensures in
+    let own = kept_room (the_view c.self.inside) c.play_inner.new.self c.note_since.new.machine c.args.seat made.within made.own_room told.same told.others in (
+      led_inner AnyEvents (the_view c.self.inside) (after here.After-note_since) c.self.invariant.0 c.args.seat c.args.inner (makes here.After-note_since (remembers here.After-play_inner) made) tt,
       record {
-        own_room = omega (arith, made.own_room, c.self.invariant.1.own_room, told.left);
+        own_room = omega (arith, own, c.self.invariant.1.own_room, told.left);
         listed_room = omega (arith, c.self.invariant.1.listed_room, told.left, told.capacity, told.len, c.in_ok-reserve.ensures.capacity, c.in_ok-reserve.ensures.len);
       },
     )
@@ -60,4 +68,4 @@ invariant_of-self-2 c =
 pub returns-clause-makes : goal.returns-clause-makes
 returns-clause-makes c =
     let here = goal.at.returns-clause-makes c in
-    subst (λ (v : Recorded). MakesInner v (after here.After-note_since) c.args.seat c.args.inner) c.self.view_is (makes here.After-note_since (facts here.After-play_inner))
+    subst (λ (v : Recorded). MakesInner v (after here.After-note_since) c.args.seat c.args.inner) c.self.view_is (makes here.After-note_since (remembers here.After-play_inner) (facts here.After-play_inner))

@@ -2,7 +2,7 @@ use Rattle.std.proofs.Common.{refl, sym, subst}
 use Rattle.heap_model.specs.declared.heap.Heap.{Heap}
 use Rattle.heap_model.specs.Heap.{IsHeap}
 use Rattle.core_machine.specs.machine.Opening.{IsOpening}
-use Rattle.core_rule.specs.Laws.{OneCallAtATime}
+use Rattle.core_rule.specs.runs.Laws.{OneCallAtATime}
 use Rattle.heap_record.proofs.Leading.{led_none}
 use Rattle.heap_runs.proofs.machine_heap.MachineHeap.make.Goals as goal
 

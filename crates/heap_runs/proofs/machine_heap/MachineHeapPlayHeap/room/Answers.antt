@@ -1,6 +1,6 @@
 use Rattle.heap_runs.proofs.Noting.{notes_still}
 use Rattle.heap_record.proofs.Leading.{led_still}
-use Rattle.core_rule.specs.Laws.{OneCallAtATime}
+use Rattle.core_rule.specs.runs.Laws.{OneCallAtATime}
 use Rattle.heap_runs.proofs.machine_heap.MachineHeapPlayHeap.room.Goals as goal
 
 pub invariant_of-self : goal.invariant_of-self

@@ -6,5 +6,4 @@ pub returns : goal.returns
 returns g c =
     let old : PlayState = g.H.PlayHeap.state c.args.whole.now in
     let new : PlayState = g.H.PlayHeap.state c.end_cycle.new.whole in
-    let ends = unhindered old new c.in_ok-end_cycle.field-0 c.requires.gone c.in_ok-end_cycle.ensures in
-    record { notes = record { same_heap = ends.same_heap; turned = ends.turned; told = ends.told; ended = ends.ended; at_rest = ends.at_rest } }
+    record { notes = unhindered old new c.in_ok-end_cycle.field-0 c.requires.gone c.in_ok-end_cycle.ensures }

@@ -8,11 +8,11 @@ use Rattle.heap_table.proofs.collector.CollectorHolder.fold_in.Goals as goal
 pub join_seat-requires : goal.join_seat-requires
 join_seat-requires g c =
     let i = c.self.invariant in
-    let same = i.token.table ∙ ap (λ t. t.shared.table_id) (sym c.deref.ensures) in (
+    let same = i.token.of.table ∙ ap (λ t. t.shared.table_id) (sym c.deref.ensures) in (
       same,
       c.into_parts-token.ensures.table ∙ c.requires.table.0 ∙ ap (λ (v : CollectorHeld). v.table) (sym c.self.view_is) ∙ same,
       ap (λ m. m.1) c.into_parts-token.ensures.knows,
-      some_words c.self.inside.heap _ (ap (λ (z : TableId). z.words) (sym same) ∙ i.token.size),
+      some_words c.self.inside.heap _ (ap (λ (z : TableId). z.words) (sym same) ∙ i.token.of.size),
       fold_allowed _ _ _ c.self.inside.token.me c.self.inside.heap c.self.inside.party.collector _ _ i _ _ c.args.from.number c.args.from.seat _ _ c.requires.left (ap (λ t. t.shared.key) c.deref.ensures) (ap (λ m. m.0) c.into_parts-token.ensures.knows),
     )
 

@@ -1,6 +1,7 @@
 use Rattle.std.proofs.Common.{[], sym, ap, ◌∙◌}
 use Rattle.atomic_table.specs.Seated.{TableId}
 use Rattle.core_machine.specs.machine.Opening.{opening_seat}
+use Rattle.heap_table.specs.TokenOf.{IsTokenOf}
 use Rattle.heap_table.specs.Views.{seat_view}
 use Rattle.heap_table.proofs.OpeningHolders.{handing_as, keeps_handed, few_of, opens_of, next_of, within_of}
 use Rattle.heap_table.proofs.collector.CollectorHolder.next_seat.Goals as goal
@@ -8,17 +9,20 @@ use Rattle.heap_table.proofs.collector.CollectorHolder.next_seat.Goals as goal
 pub hand_out-token-requires-clause-rule : goal.hand_out-token-requires-clause-rule
 hand_out-token-requires-clause-rule g c =
     let i = c.self.invariant in
-    handing_as c.self.inside.heap _ _ c.self.inside.token.me.0 (ap (λ t. t.shared.key) c.deref.ensures ∙ i.token.key_is) (ap (λ m. m.0) i.token.knows)
+    handing_as c.self.inside.heap _ _ c.self.inside.token.me.0 (ap (λ t. t.shared.key) c.deref.ensures ∙ i.token.of.key_is) (ap (λ m. m.0) i.token.knows)
     (few_of _ _ c.args.number c.self.view_is c.requires.next.0 c.requires.next.1) i.unread
 
-pub of-requires : goal.of-requires
-of-requires g c =
+pub invariant_of-result : goal.invariant_of-result
+invariant_of-result g c =
     let i = c.self.invariant in
     let its = c.hand_out-token.ensures.handed in
     let table = c.in_ok-table.ensures.cases in
     let number = next_of _ _ c.args.number c.self.view_is c.requires.next.0 in
-    record {
-      keeps = keeps_handed c.self.inside.heap _ _ _ _ c.args.number _ (opens_of _ _ c.self.view_is c.requires.opens) i.token.limits (its.0 ∙ i.token.table ∙ ap (λ t. t.shared.table_id) (sym table))
-          (ap (λ (z : TableId). z.words) its.0 ∙ i.token.size) (ap (λ (z : TableId). z.slots) its.0 ∙ i.token.slots) (ap (λ t. t.shared.key) table ∙ i.token.key_is) (within_of _ _ c.args.number c.self.view_is c.requires.next.1)
-          (its.1 ∙ ap (λ n. (seat_view n (opening_seat c.self.inside.heap n), [])) (sym number)) c.opening-party.ensures;
-    }
+    let of : IsTokenOf _ _ _ c.self.inside.heap = record {
+      table = its.0 ∙ i.token.of.table ∙ ap (λ t. t.shared.table_id) (sym table);
+      size = ap (λ (z : TableId). z.words) its.0 ∙ i.token.of.size;
+      slots = ap (λ (z : TableId). z.slots) its.0 ∙ i.token.of.slots;
+      key_is = ap (λ t. t.shared.key) table ∙ i.token.of.key_is;
+    } in
+    keeps_handed c.self.inside.heap _ _ _ _ c.args.number _ (opens_of _ _ c.self.view_is c.requires.opens) i.token.limits of (within_of _ _ c.args.number c.self.view_is c.requires.next.1)
+    (its.1 ∙ ap (λ n. (seat_view n (opening_seat c.self.inside.heap n), [])) (sym number)) c.opening-party.ensures

@@ -1,12 +1,12 @@
-use Rattle.std.proofs.Common.{◌-◌, List, Some, length, drop, refl, sym, ap, subst, ◌∙◌, arith}
+use Rattle.std.proofs.Common.{◌-◌, ◌≡◌, List, Some, length, refl, sym, ap, subst, ◌∙◌, arith}
 use Rattle.heap_model.specs.account.Turned.{without_turned}
 use Rattle.heap_model.specs.declared.entry.Entry.{Entry}
 use Rattle.core_machine.specs.machine.Machine.{State, Turns}
-use Rattle.core_machine.specs.machine.Value.{log_of, spare_of}
+use Rattle.core_machine.specs.machine.Value.{MachineValue, spare_of}
 use Rattle.core_rule.proofs.parties.TurnLogs.{TurnFacts}
 use Rattle.heap_record.specs.contracts.recorder.Recorder.{the_view}
 use Rattle.heap_record.specs.Recorded.{Recorded, AnyEvents, MakesTurn}
-use Rattle.heap_record.proofs.Calls.{since, noted_since, history_since}
+use Rattle.heap_record.proofs.Calls.{since, Remembers, recent_since, recent_longer, noted_since, history_since}
 use Rattle.heap_record.proofs.HeapEntries.{AreOfHeap, event_of_heap}
 use Rattle.heap_record.proofs.Leading.{led_turn}
 use Rattle.heap_record.proofs.MachineTurns.{noted_turn, makes_turn}
@@ -19,35 +19,42 @@ facts c =
     let law = c.law_every_run.ensures in
     noted_turn law.run law.step law.turns (the_view c.self.inside) c.play_turn-turn.new.self c.heap-collector.result c.self.invariant.0 c.play_turn-turn.ensures.can c.play_turn-turn.ensures.state c.heap-collector.ensures.heap
 
+-- what the machine showed before
+remembers : (c : After-play_turn-turn) → Remembers c.self.inside.machine c.play_turn-turn.new.self c.heap-collector.result.seats c.recent-before.result.now
+remembers c = record { recent = c.recent-before.ensures.recent; within = c.recent-before.ensures.within; same = c.play_turn-turn.ensures.spent.forgotten }
+
 -- what contracts see once it was noted
 abbrev after : After-saturating_add-self-inside → Recorded
-after c = record { machine = c.play_turn-turn.new.self; history = without_turned c.note_since.new.list.items; listed = c.note_since.new.list.items; spare = c.note_since.new.spare; turns = c.saturating_add-self-inside.result; last_turn = Some c.play_turn-turn.result }
+after c = record { machine = c.note_since.new.machine; history = without_turned c.note_since.new.list.items; listed = c.note_since.new.list.items; spare = c.note_since.new.spare; turns = c.saturating_add-self-inside.result; last_turn = Some c.play_turn-turn.result }
 
 -- so it is what contracts say of it
-makes : (c : After-saturating_add-self-inside) → TurnFacts c.self.inside.machine c.play_turn-turn.new.self c.heap-collector.result.seats → MakesTurn (the_view c.self.inside) (after c) c.play_turn-turn.result
-makes c made =
+makes : (c : After-saturating_add-self-inside) → Remembers c.self.inside.machine c.play_turn-turn.new.self c.heap-collector.result.seats c.recent-before.result.now → TurnFacts c.self.inside.machine c.play_turn-turn.new.self c.heap-collector.result.seats → MakesTurn (the_view c.self.inside) (after c) c.play_turn-turn.result
+makes c before made =
     let law = c.law_every_run.ensures in
     let turn = c.play_turn-turn.ensures in
     let old : Recorded = the_view c.self.inside in
     let two = c.play_turn-turn.new.self in
     let party = c.heap-collector.result.seats in
-    let listed = noted_since old old.machine two party c.log-before.result.now old.listed c.note_since.new.list.items c.note_since.ensures.items refl c.log-before.ensures in
+    let listed = noted_since old old.machine two party c.recent-before.result.now old.listed c.note_since.new.list.items before c.note_since.ensures.items refl in
     makes_turn law.run law.turns old (after c) c.play_turn-turn.result (since old.machine two party) c.self.invariant.0 (record {
-      same_heap = turn.heap;
+      same_heap = ap (λ (m : MachineValue). m.heap) c.note_since.ensures.same ∙ turn.heap;
       noted = history_since old c.note_since.new.list.items (since old.machine two party) refl listed (subst AreOfHeap (sym made.told) (event_of_heap old.machine.heap old.machine.state Turns));
       listed = listed;
-      left = c.note_since.ensures.left ∙ ap (λ (l : List Entry). old.spare - length (drop (length l) (log_of two party))) c.log-before.ensures;
+      left = c.note_since.ensures.left ∙ ap (λ (l : List Entry). old.spare - length l) (recent_since old.machine two party c.recent-before.result.now before);
       turns_stay = refl;
       last_stays = refl;
-    }) made.told turn.can turn.state turn.answer c.saturating_add-self-inside.ensures refl
+    }) made.told turn.can (ap (λ (m : MachineValue). m.state) c.note_since.ensures.same ∙ turn.state) turn.answer c.saturating_add-self-inside.ensures refl
 
 pub note_since-requires-clause-longer : goal.note_since-requires-clause-longer
-note_since-requires-clause-longer c = rw c.log-before.ensures (facts (goal.at.note_since-requires-clause-longer c).After-play_turn-turn).longer
+note_since-requires-clause-longer c =
+    let here = (goal.at.note_since-requires-clause-longer c).After-play_turn-turn in
+    recent_longer c.self.inside.machine c.play_turn-turn.new.self c.heap-collector.result.seats c.recent-before.result.now (remembers here) (facts here).longer
 
 pub note_since-requires-clause-room : goal.note_since-requires-clause-room
 note_since-requires-clause-room c =
-    let made = facts (goal.at.note_since-requires-clause-room c).After-play_turn-turn in
-    rw (c.log-before.ensures, made.told) (omega (arith, made.few, c.self.invariant.1.listed_room, ap (λ (v : Recorded). v.spare) c.self.view_is, c.requires))
+    let here = (goal.at.note_since-requires-clause-room c).After-play_turn-turn in
+    let made = facts here in
+    rw (recent_since c.self.inside.machine c.play_turn-turn.new.self c.heap-collector.result.seats c.recent-before.result.now (remembers here), made.told) (omega (arith, made.few, c.self.invariant.1.listed_room, ap (λ (v : Recorded). v.spare) c.self.view_is, c.requires))
 
 pub invariant_of-self : goal.invariant_of-self
 invariant_of-self c =
@@ -55,11 +62,16 @@ invariant_of-self c =
     let made = facts here.After-play_turn-turn in
     let old : Recorded = the_view c.self.inside in
     let told = c.note_since.ensures in
-    let many = ap (λ (l : List Entry). length (drop (length l) (log_of c.play_turn-turn.new.self c.heap-collector.result.seats))) c.log-before.ensures ∙ ap (length {A = Entry}) made.told in
-    let seats = ap (λ (t : State). spare_of c.play_turn-turn.new.self (length t.seats)) c.play_turn-turn.ensures.state in (
-      led_turn AnyEvents old (after here.After-saturating_add-self-inside) c.self.invariant.0 c.play_turn-turn.result (makes here.After-saturating_add-self-inside made) tt,
+    let before = remembers here.After-play_turn-turn in
+    let two = c.play_turn-turn.new.self in
+    let party = c.heap-collector.result.seats in
+    let many = ap (length {A = Entry}) (recent_since c.self.inside.machine two party c.recent-before.result.now before ∙ made.told) in
+    let now : length c.note_since.new.machine.state.seats ≡ party = ap (λ (m : MachineValue). length m.state.seats) told.same ∙ ap (λ (t : State). length t.seats) c.play_turn-turn.ensures.state ∙ made.last in
+    let seats = ap (spare_of c.note_since.new.machine) now in
+    let last = ap (spare_of two) made.last in (
+      led_turn AnyEvents old (after here.After-saturating_add-self-inside) c.self.invariant.0 c.play_turn-turn.result (makes here.After-saturating_add-self-inside before made) tt,
       record {
-        own_room = omega (arith, seats, c.play_turn-turn.ensures.spent.own, made.many, many, c.self.invariant.1.own_room, told.left);
+        own_room = omega (arith, seats, last, told.more, c.play_turn-turn.ensures.spent.own, made.many, many, c.self.invariant.1.own_room, told.left);
         listed_room = omega (arith, c.self.invariant.1.listed_room, told.left, told.capacity, told.len);
       },
     )
@@ -68,5 +80,5 @@ pub returns : goal.returns
 returns c =
     let here = goal.at.returns c in
     let made : MakesTurn c.args.self.now (after here.After-saturating_add-self-inside) c.play_turn-turn.result
-    = subst (λ (v : Recorded). MakesTurn v (after here.After-saturating_add-self-inside) c.play_turn-turn.result) c.self.view_is (makes here.After-saturating_add-self-inside (facts here.After-play_turn-turn)) in
+    = subst (λ (v : Recorded). MakesTurn v (after here.After-saturating_add-self-inside) c.play_turn-turn.result) c.self.view_is (makes here.After-saturating_add-self-inside (remembers here.After-play_turn-turn) (facts here.After-play_turn-turn)) in
     record { turns = made.turned; turned = made }

@@ -4,20 +4,16 @@ use Rattle.heap_model.specs.calls.SeatReplies.{len_reply}
 use Rattle.mutator_seat.specs.Calls.{MakesCall}
 use Rattle.mutator_seat.proofs.Entries.{call_adds}
 use Rattle.mutator_seat.proofs.Fields.{len_none, len_own}
-use Rattle.mutator_seat.proofs.Replied.{replies_to}
 use Rattle.mutator_seat.proofs.seat.commands.SeatSeatCalls.len.Goals as goal
 
-pub length_of-requires : goal.length_of-requires
-length_of-requires g c = replies_to c.args.self.now c.call.new.self (Len c.args.r) c.call.result c.call.ensures
-
 pub returns-clause-added : goal.returns-clause-added
-returns-clause-added g c = call_adds c.args.self.now c.call.new.self (Len c.args.r) (len_reply c.length_of.result) (subst (MakesCall c.args.self.now c.call.new.self (Len c.args.r)) (sym c.length_of.ensures) c.call.ensures)
+returns-clause-added g c = call_adds c.args.self.now c.reply_to.new.self (Len c.args.r) (len_reply c.length_of.result) (subst (MakesCall c.args.self.now c.reply_to.new.self (Len c.args.r)) (sym c.length_of.ensures) c.reply_to.ensures.call)
 
 pub returns-clause-no_object : goal.returns-clause-no_object
-returns-clause-no_object g c = len_none c.args.self.now c.call.new.self c.args.r c.length_of.result (subst (MakesCall c.args.self.now c.call.new.self (Len c.args.r)) (sym c.length_of.ensures) c.call.ensures)
+returns-clause-no_object g c = len_none c.args.self.now c.reply_to.new.self c.args.r c.length_of.result (subst (MakesCall c.args.self.now c.reply_to.new.self (Len c.args.r)) (sym c.length_of.ensures) c.reply_to.ensures.call)
 
 pub returns-clause-own : goal.returns-clause-own
-returns-clause-own g c = len_own c.args.self.now c.call.new.self c.args.r c.length_of.result (subst (MakesCall c.args.self.now c.call.new.self (Len c.args.r)) (sym c.length_of.ensures) c.call.ensures)
+returns-clause-own g c = len_own c.args.self.now c.reply_to.new.self c.args.r c.length_of.result (subst (MakesCall c.args.self.now c.reply_to.new.self (Len c.args.r)) (sym c.length_of.ensures) c.reply_to.ensures.call)
 
 pub returns-clause-call : goal.returns-clause-call
-returns-clause-call g c = subst (MakesCall c.args.self.now c.call.new.self (Len c.args.r)) (sym c.length_of.ensures) c.call.ensures
+returns-clause-call g c = subst (MakesCall c.args.self.now c.reply_to.new.self (Len c.args.r)) (sym c.length_of.ensures) c.reply_to.ensures.call

@@ -3,20 +3,16 @@ use Rattle.heap_model.specs.declared.command.Command.TheVariants.{Array}
 use Rattle.heap_model.specs.calls.SeatReplies.{array_reply}
 use Rattle.mutator_seat.specs.Calls.{MakesCall}
 use Rattle.mutator_seat.proofs.Entries.{call_adds, array_made, array_lacks}
-use Rattle.mutator_seat.proofs.Replied.{replies_to}
 use Rattle.mutator_seat.proofs.seat.commands.SeatSeatCalls.new_array.Goals as goal
 
-pub array_of-requires : goal.array_of-requires
-array_of-requires g c = replies_to c.args.self.now c.call.new.self (Array c.args.d c.args.cells) c.call.result c.call.ensures
-
 pub returns-clause-added : goal.returns-clause-added
-returns-clause-added g c = call_adds c.args.self.now c.call.new.self (Array c.args.d c.args.cells) (array_reply c.array_of.result) (subst (MakesCall c.args.self.now c.call.new.self (Array c.args.d c.args.cells)) (sym c.array_of.ensures) c.call.ensures)
+returns-clause-added g c = call_adds c.args.self.now c.reply_to.new.self (Array c.args.d c.args.cells) (array_reply c.array_of.result) (subst (MakesCall c.args.self.now c.reply_to.new.self (Array c.args.d c.args.cells)) (sym c.array_of.ensures) c.reply_to.ensures.call)
 
 pub returns-clause-made : goal.returns-clause-made
-returns-clause-made g c = array_made c.args.self.now c.call.new.self c.args.d c.args.cells c.array_of.result (subst (MakesCall c.args.self.now c.call.new.self (Array c.args.d c.args.cells)) (sym c.array_of.ensures) c.call.ensures)
+returns-clause-made g c = array_made c.args.self.now c.reply_to.new.self c.args.d c.args.cells c.array_of.result (subst (MakesCall c.args.self.now c.reply_to.new.self (Array c.args.d c.args.cells)) (sym c.array_of.ensures) c.reply_to.ensures.call)
 
 pub returns-clause-full : goal.returns-clause-full
-returns-clause-full g c = array_lacks c.args.self.now c.call.new.self c.args.d c.args.cells c.array_of.result (subst (MakesCall c.args.self.now c.call.new.self (Array c.args.d c.args.cells)) (sym c.array_of.ensures) c.call.ensures)
+returns-clause-full g c = array_lacks c.args.self.now c.reply_to.new.self c.args.d c.args.cells c.array_of.result (subst (MakesCall c.args.self.now c.reply_to.new.self (Array c.args.d c.args.cells)) (sym c.array_of.ensures) c.reply_to.ensures.call)
 
 pub returns-clause-call : goal.returns-clause-call
-returns-clause-call g c = subst (MakesCall c.args.self.now c.call.new.self (Array c.args.d c.args.cells)) (sym c.array_of.ensures) c.call.ensures
+returns-clause-call g c = subst (MakesCall c.args.self.now c.reply_to.new.self (Array c.args.d c.args.cells)) (sym c.array_of.ensures) c.reply_to.ensures.call

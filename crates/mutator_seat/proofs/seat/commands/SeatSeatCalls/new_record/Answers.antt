@@ -3,20 +3,16 @@ use Rattle.heap_model.specs.declared.command.Command.TheVariants.{New}
 use Rattle.heap_model.specs.calls.SeatReplies.{record_reply}
 use Rattle.mutator_seat.specs.Calls.{MakesCall}
 use Rattle.mutator_seat.proofs.Entries.{call_adds, record_made, record_lacks}
-use Rattle.mutator_seat.proofs.Replied.{replies_to}
 use Rattle.mutator_seat.proofs.seat.commands.SeatSeatCalls.new_record.Goals as goal
 
-pub record_of-requires : goal.record_of-requires
-record_of-requires g c = replies_to c.args.self.now c.call.new.self (New c.args.d c.args.fields) c.call.result c.call.ensures
-
 pub returns-clause-added : goal.returns-clause-added
-returns-clause-added g c = call_adds c.args.self.now c.call.new.self (New c.args.d c.args.fields) (record_reply c.record_of.result) (subst (MakesCall c.args.self.now c.call.new.self (New c.args.d c.args.fields)) (sym c.record_of.ensures) c.call.ensures)
+returns-clause-added g c = call_adds c.args.self.now c.reply_to.new.self (New c.args.d c.args.fields) (record_reply c.record_of.result) (subst (MakesCall c.args.self.now c.reply_to.new.self (New c.args.d c.args.fields)) (sym c.record_of.ensures) c.reply_to.ensures.call)
 
 pub returns-clause-made : goal.returns-clause-made
-returns-clause-made g c = record_made c.args.self.now c.call.new.self c.args.d c.args.fields c.record_of.result (subst (MakesCall c.args.self.now c.call.new.self (New c.args.d c.args.fields)) (sym c.record_of.ensures) c.call.ensures)
+returns-clause-made g c = record_made c.args.self.now c.reply_to.new.self c.args.d c.args.fields c.record_of.result (subst (MakesCall c.args.self.now c.reply_to.new.self (New c.args.d c.args.fields)) (sym c.record_of.ensures) c.reply_to.ensures.call)
 
 pub returns-clause-full : goal.returns-clause-full
-returns-clause-full g c = record_lacks c.args.self.now c.call.new.self c.args.d c.args.fields c.record_of.result (subst (MakesCall c.args.self.now c.call.new.self (New c.args.d c.args.fields)) (sym c.record_of.ensures) c.call.ensures)
+returns-clause-full g c = record_lacks c.args.self.now c.reply_to.new.self c.args.d c.args.fields c.record_of.result (subst (MakesCall c.args.self.now c.reply_to.new.self (New c.args.d c.args.fields)) (sym c.record_of.ensures) c.reply_to.ensures.call)
 
 pub returns-clause-call : goal.returns-clause-call
-returns-clause-call g c = subst (MakesCall c.args.self.now c.call.new.self (New c.args.d c.args.fields)) (sym c.record_of.ensures) c.call.ensures
+returns-clause-call g c = subst (MakesCall c.args.self.now c.reply_to.new.self (New c.args.d c.args.fields)) (sym c.record_of.ensures) c.reply_to.ensures.call

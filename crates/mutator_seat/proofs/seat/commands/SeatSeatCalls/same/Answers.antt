@@ -4,17 +4,13 @@ use Rattle.heap_model.specs.calls.SeatReplies.{same_reply}
 use Rattle.mutator_seat.specs.Calls.{MakesCall}
 use Rattle.mutator_seat.proofs.Entries.{call_adds}
 use Rattle.mutator_seat.proofs.Fields.{same_exactly}
-use Rattle.mutator_seat.proofs.Replied.{replies_to}
 use Rattle.mutator_seat.proofs.seat.commands.SeatSeatCalls.same.Goals as goal
 
-pub equal_of-requires : goal.equal_of-requires
-equal_of-requires g c = replies_to c.args.self.now c.call.new.self (Same c.args.a c.args.b) c.call.result c.call.ensures
-
 pub returns-clause-added : goal.returns-clause-added
-returns-clause-added g c = call_adds c.args.self.now c.call.new.self (Same c.args.a c.args.b) (same_reply c.equal_of.result) (subst (MakesCall c.args.self.now c.call.new.self (Same c.args.a c.args.b)) (sym c.equal_of.ensures) c.call.ensures)
+returns-clause-added g c = call_adds c.args.self.now c.reply_to.new.self (Same c.args.a c.args.b) (same_reply c.equal_of.result) (subst (MakesCall c.args.self.now c.reply_to.new.self (Same c.args.a c.args.b)) (sym c.equal_of.ensures) c.reply_to.ensures.call)
 
 pub returns-clause-same : goal.returns-clause-same
-returns-clause-same g c = same_exactly c.args.self.now c.call.new.self c.args.a c.args.b c.equal_of.result (subst (MakesCall c.args.self.now c.call.new.self (Same c.args.a c.args.b)) (sym c.equal_of.ensures) c.call.ensures)
+returns-clause-same g c = same_exactly c.args.self.now c.reply_to.new.self c.args.a c.args.b c.equal_of.result (subst (MakesCall c.args.self.now c.reply_to.new.self (Same c.args.a c.args.b)) (sym c.equal_of.ensures) c.reply_to.ensures.call)
 
 pub returns-clause-call : goal.returns-clause-call
-returns-clause-call g c = subst (MakesCall c.args.self.now c.call.new.self (Same c.args.a c.args.b)) (sym c.equal_of.ensures) c.call.ensures
+returns-clause-call g c = subst (MakesCall c.args.self.now c.reply_to.new.self (Same c.args.a c.args.b)) (sym c.equal_of.ensures) c.reply_to.ensures.call

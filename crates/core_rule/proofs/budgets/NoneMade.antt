@@ -1,0 +1,72 @@
+-- A seat that makes no object has no spine words, and none granted.
+use Rattle.std.proofs.Common.{◌≡◌, ℕ, List, refl, sym, ◌∙◌, arith}
+use Rattle.core_rule.proofs.Terms.{Entry, Command, Reply, need_of, made_by, words_by, spine_need_of, Heap, Place, Seat, granted_at, placed_at, refused_at, UsedStands, HasPlace}
+use Rattle.heap_model.specs.declared.command.Command.TheVariants as commands
+use Rattle.heap_model.specs.declared.reply.Reply.TheVariants as replies
+use Rattle.core_machine.specs.declared.place.Place.TheVariants as places
+
+-- no object is made at the place
+abbrev pub MakesNone : Place → Type 0
+MakesNone (places.Making place) = ⊥
+MakesNone _ = Unit {0}
+
+-- a seat there has no spine
+pub none_has_place : (seat : Seat) (place : Place) → MakesNone place → ¬ HasPlace seat place
+none_has_place seat (places.Making place) none has = none
+none_has_place seat _ none has = has
+
+-- and has found no words to be in use
+pub none_used : (heap : Heap) (history : List Entry) (number : ℕ) (seat : Seat) (place : Place) → MakesNone place → UsedStands heap history number seat place
+none_used heap history number seat (places.Making place) none = absurd none
+none_used heap history number seat _ none = tt
+
+-- a reply that makes no object grants no words
+pub none_made_words : (command : Command) (reply : Reply) → made_by command reply ≡ 0 → words_by command reply ≡ 0
+none_made_words command (replies.Made id) none = no_need command none
+  where
+    no_need : (c : Command) → need_of c ≡ 0 → spine_need_of c ≡ 0
+    no_need (commands.Array d cells) needs = absurd (omega (arith, needs))
+    no_need _ needs = refl
+none_made_words command _ none = refl
+
+-- where a seat has the place of a spine it had it, and its last answer is the one that it was
+pub record SameRange (old now : Seat) : Type 0 where
+  pub had : HasPlace now now.place → HasPlace old old.place
+  pub spine : HasPlace now now.place → now.spine ≡ old.spine
+  pub answered : HasPlace now now.place → now.answered ≡ old.answered
+
+-- a seat has as many words granted, placed and refused as it had
+pub record SameWeights (old now : Seat) : Type 0 where
+  pub granted : granted_at now now.place ≡ granted_at old old.place
+  pub placed : (half : ℕ) → placed_at half now now.place ≡ placed_at half old old.place
+  pub refused : refused_at now now.place ≡ refused_at old old.place
+  pub range : SameRange old now
+
+pub none_granted : (seat : Seat) (place : Place) → MakesNone place → granted_at seat place ≡ 0
+none_granted seat (places.Making place) none = absurd none
+none_granted seat _ none = refl
+
+pub none_placed : (half : ℕ) (seat : Seat) (place : Place) → MakesNone place → placed_at half seat place ≡ 0
+none_placed half seat (places.Making place) none = absurd none
+none_placed half seat _ none = refl
+
+-- a seat that makes no object has no range
+pub none_range : (old now : Seat) → MakesNone now.place → SameRange old now
+none_range old now after = record {
+  had = λ has. absurd (none_has_place now now.place after has);
+  spine = λ has. absurd (none_has_place now now.place after has);
+  answered = λ has. absurd (none_has_place now now.place after has);
+}
+
+pub none_refused : (seat : Seat) (place : Place) → MakesNone place → refused_at seat place ≡ 0
+none_refused seat (places.Making place) none = absurd none
+none_refused seat _ none = refl
+
+-- so it is where it makes no object before and after
+pub none_weights : (old now : Seat) → MakesNone old.place → MakesNone now.place → SameWeights old now
+none_weights old now before after = record {
+  granted = none_granted now now.place after ∙ sym (none_granted old old.place before);
+  placed = λ half. none_placed half now now.place after ∙ sym (none_placed half old old.place before);
+  refused = none_refused now now.place after ∙ sym (none_refused old old.place before);
+  range = none_range old now after;
+}

@@ -1,0 +1,149 @@
+-- The flip: the next spine's place is the first word of the other half, and all that stands is left behind.
+use Rattle.std.proofs.Common.{◌≡◌, ◌≢◌, ℕ, ◌*◌, ◌/◌, ◌%◌, ◌<◌, ◌==◌, ◌⊎◌, if◌then◌else◌, true, List, length, inl, inr, refl, sym, ap, ◌∙◌, subst, arith}
+use Rattle.std.proofs.lemmas.Bool.Decides.{nat_tests}
+use Rattle.core_rule.proofs.Terms.{cycle_phases, spot_in, spot_word, Command, Heap, spine_need_of, IsMarking, Listing, Bearing, Place, State, seat_at, IsArrayCall, Seat, Book}
+use Rattle.core_rule.proofs.Terms.{BudgetsStand, of_seats, placed_at, placed_words, kept_weight, kept_sum, words_in_half, nodes_in, returning, HalvesStand, AwaitsCopy}
+use Rattle.core_rule.proofs.Terms.{IsBeforeNext, IsLeaving, IsLeftBehind, IsKept, Owner, Kept, Rule, SpaceStands, HasPlace, next_spine}
+use Rattle.heap_model.specs.PhasePlan.{marking as marking_phase}
+use Rattle.heap_words.specs.declared.spot.Spot.{Spot}
+use Rattle.heap_model.specs.declared.command.Command.TheVariants.{Array}
+use Rattle.core_machine.specs.collector.Collector.{next_half}
+use Rattle.core_machine.specs.collector.FitsTurns.{FitsStage}
+use Rattle.core_machine.specs.declared.collector.stage.Stage.TheVariants as stages
+use Rattle.core_machine.specs.declared.place.Making.TheVariants.{Storing}
+use Rattle.core_machine.specs.declared.place.Place.TheVariants as places
+use Rattle.core_machine.proofs.table_lemmas.Free.{sum_zero}
+use Rattle.core_rule.proofs.entries.AtRest.{seat_fits}
+use Rattle.core_rule.proofs.marking.Marks.{all_answered}
+use Rattle.core_rule.proofs.halves.HalfSums.{words_away}
+use Rattle.core_rule.proofs.halves.Leaving.{not_leaving, has_place_present, arrays_here, hands_here}
+use Rattle.core_rule.proofs.budgets.OffsetWithin.{offset_low}
+use Rattle.core_rule.proofs.spines.SpotWritten.{spot_words, spot_spines, spot_budget, next_written}
+use Rattle.core_rule.proofs.halves.StagesOn.{copy_moves}
+use Rattle.core_rule.proofs.steps.TurnSteps.{after_turn, quiet}
+use Rattle.core_rule.proofs.ways.ArrayWords.{spot_in-word}
+
+-- a call whose spine stands in another half has no words in this one
+command_away : (command : Command) (half other : ℕ) → (IsArrayCall command → half ≢ other) → (if half == other then spine_need_of command else 0) ≡ 0
+command_away (Array d cells) half other away = grind (arith, nat_tests, away tt)
+command_away _ half other away = grind (arith, nat_tests)
+
+placed_away : (half : ℕ) (seat : Seat) (place : Place) → (HasPlace seat place → seat.spine.half ≢ half) → placed_at half seat place ≡ 0
+placed_away half seat (places.Making Listing) away = command_away seat.command seat.spine.half half away
+placed_away half seat (places.Making Storing) away = command_away seat.command seat.spine.half half away
+placed_away half seat (places.Making Bearing) away = command_away seat.command seat.spine.half half away
+placed_away half seat _ away = refl
+
+-- what is kept has no words in a half in which none of it stands
+weight_away : (weight : ℕ → ℕ) (o : Owner) → ((i k : ℕ) → o ≡ Kept i k → weight i ≡ 0) → kept_weight weight o ≡ 0
+weight_away weight (Kept i k) none = let nothing : weight i ≡ 0 = none i k refl in grind (arith, nat_tests, nothing)
+weight_away weight _ none = refl
+
+module _ (heap : Heap) (state : State) (book : Book) (rule : Rule heap state book) (flipping : state.collector.stage ≡ stages.Flipping) where
+  abbrev p : ℕ
+  p = state.collector.phase
+
+  -- the place of the next spine behind the flip, and the word that tells it
+  abbrev other : Spot
+  other = record { half = next_half p; offset = 0 }
+
+  abbrev next : Spot
+  next = next_spine heap state.words
+
+  abbrev pub flip_words : List ℕ
+  flip_words = spot_words heap state book rule (spot_word other)
+
+  abbrev flipped : State
+  flipped = after_turn state flip_words (quiet (record state.collector { stage = stages.Advancing }))
+
+  fits : IsMarking heap.seats p state.collector.looked
+  fits = subst (FitsStage heap p state.collector.looked) flipping rule.machine.collector_fit.at_stage
+
+  pub third : p % cycle_phases ≡ marking_phase
+  third = fits.for_marking
+
+  before_flip : ¬ IsLeaving p state.collector.stage
+  before_flip = not_leaving p state.collector.stage third (λ advances. absurd (cc (flipping, advances)))
+
+  leaves : IsLeaving p stages.Advancing
+  leaves = inl (third, refl)
+
+  -- the word tells the place
+  pub other_told : spot_in (spot_word other) ≡ other
+  other_told = spot_in-word other record { half_within = omega arith; offset_within = omega arith }
+
+  next_flipped : next_spine heap flip_words ≡ other
+  next_flipped = next_written heap state book rule (spot_word other) ∙ other_told
+
+  -- so far spines had their places in the half that is left
+  half_before : next.half ≡ p / 7 % 2
+  half_before = rule.space.halves.half ∙ rw (flipping, third) (omega arith)
+
+  half_apart : (half : ℕ) → half ≡ next.half → half ≢ next_half p
+  half_apart half same now = absurd (omega (arith, same, now, half_before))
+
+  stand_before : (i : ℕ) → i < length book.made → IsKept book.owner book.fragments i → (nodes_in heap book i).array ≡ true → (book.spines i).half ≡ next.half
+  stand_before = arrays_here heap state book rule.space.halves (λ f waits. subst (λ stage. AwaitsCopy p stage f) flipping waits)
+
+  hand_before : (r : ℕ) → r < heap.seats → HasPlace (seat_at state r) (seat_at state r).place → (seat_at state r).spine.half ≡ next.half
+  hand_before r below = hands_here heap state book rule.space.halves r below (λ early. before_flip early.leaving)
+
+  -- in the other half nothing stands
+  none_placed : of_seats heap state (placed_at (next_half p)) ≡ 0
+  none_placed = sum_zero heap.seats (λ r. placed_at (next_half p) (seat_at state r) (seat_at state r).place)
+      (λ r below. placed_away (next_half p) (seat_at state r) (seat_at state r).place (λ has. half_apart (seat_at state r).spine.half (hand_before r below has)))
+
+  none_kept : kept_sum heap (words_in_half (next_half p) (nodes_in heap book) book.spines) book.owner ≡ 0
+  none_kept = sum_zero (16 * heap.groups) (λ f. kept_weight (words_in_half (next_half p) (nodes_in heap book) book.spines) (book.owner f))
+      (λ f below. weight_away (words_in_half (next_half p) (nodes_in heap book) book.spines) (book.owner f)
+      (λ i k kept. let one = rule.heap_stands.objects.back f i k kept in words_away (next_half p) (nodes_in heap book) book.spines i (λ kind. half_apart (book.spines i).half (stand_before i one.0 one.1 kind))))
+
+  budgets_flip : BudgetsStand heap flipped book
+  budgets_flip =
+      let old = rule.space.budgets in
+      let nothing : returning state.collector.stage ≡ 0 = rw flipping refl in
+      record {
+        level = λ unleft. absurd (unleft leaves);
+        leaving = λ leaving. subst (λ (s : Spot). s.offset ≡ placed_words heap flipped book s.half) (sym next_flipped) (omega (arith, none_placed, none_kept));
+        word = omega (arith, spot_budget heap state book rule (spot_word other), old.word, nothing);
+        told = omega (arith, old.told, nothing);
+        low = omega (arith, old.low, nothing);
+        returned = omega (arith, old.returned, nothing);
+        early = old.early;
+        counts = tt;
+      }
+
+  -- a seat that has the place of a spine has answered the phase of marking
+  has_answered : (r : ℕ) → r < heap.seats → HasPlace (seat_at state r) (seat_at state r).place → (seat_at state r).answered % cycle_phases ≡ marking_phase
+  has_answered r below has = ap (λ n. n % cycle_phases) (all_answered heap state book rule fits.all r below (has_place_present heap (seat_at state r) (seat_fits rule r below) has)) ∙ third
+
+  -- what stood before the next spine is left behind
+  left_behind : (half offset : ℕ) → IsBeforeNext next half offset → IsLeftBehind heap other p stages.Advancing half offset
+  left_behind half offset here =
+      let low = offset_low heap state book rule in
+      record {
+        leaving = leaves;
+        a_half = omega (arith, here.here, half_before);
+        other = half_apart half here.here;
+        before = omega (arith, here.before, low, rule.space.budgets.low);
+      }
+
+  halves_flip : HalvesStand heap flipped book
+  halves_flip =
+      let old = rule.space.halves in
+      record {
+        half = ap (λ (s : Spot). s.half) next_flipped ∙ rw third refl;
+        before = λ half offset some. subst (λ (s : Spot). IsBeforeNext s half offset ⊎ IsLeftBehind heap s p stages.Advancing half offset) (sym next_flipped)
+            (inr (elim (old.before half offset some) as (λ _. IsLeftBehind heap other p stages.Advancing half offset) [
+              | inl here ↦ left_behind half offset here
+              | inr behind ↦ absurd (before_flip behind.leaving)
+            ]));
+        arrays = λ i below kept kind. inr third;
+        hands = λ r below has. inr record { leaving = leaves; behind = has_answered r below has };
+        swung = λ copies. absurd (omega (arith, copies, third));
+        copies = tt;
+        copy = copy_moves heap state.words flip_words book.spine_owner state.collector.stage stages.Advancing (spot_spines heap state book rule (spot_word other)) (rw flipping refl) old.copy;
+      }
+
+  pub space_flips : SpaceStands heap flipped book
+  space_flips = record { budgets = budgets_flip; halves = halves_flip }

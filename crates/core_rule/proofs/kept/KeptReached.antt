@@ -1,0 +1,75 @@
+-- What is reached is kept.
+use Rattle.std.specs.Option.{IsSomeAnd}
+use Rattle.std.proofs.Common.{◌≡◌, ℕ, ◌<◌, inl, inr, slice_get, Option, Some, None, refl, sym, ap, ◌∙◌, subst}
+use Rattle.std.proofs.lemmas.Bool.{cases_lt}
+use Rattle.std.proofs.lemmas.Bool.Decides.{eqb_tells}
+use Rattle.std.proofs.lemmas.Option.{slice_get-get_or}
+use Rattle.core_rule.proofs.Terms.{Heap, Id, Value, graph_of, Graph, Node, opening, node, register_value, IsRoot, PointsTo, Points, Reaches, from_register, from_cell, Place}
+use Rattle.core_rule.proofs.Terms.{Register, State, seat_at, target_of, register_in, Seat, Book, id_at, object_number, IsAwaitingName, NamesKept, node_in, HoldsValue, IsAwaited}
+use Rattle.core_rule.proofs.Terms.{Rule}
+use Rattle.heap_model.specs.declared.id.Value.TheVariants as values
+use Rattle.heap_model.specs.declared.graph.cell.Cell.{Cell}
+use Rattle.core_machine.specs.declared.place.Access.TheVariants.{Naming}
+use Rattle.core_machine.specs.declared.place.Place.TheVariants as places
+use Rattle.core_machine.specs.declared.seat.register.Register.TheVariants as registers
+use Rattle.core_rule.proofs.sweep_exact.GoneSeats.{gone_after_all, gone_opens}
+use Rattle.core_rule.proofs.graph.LeftSeats.{left_empty}
+use Rattle.core_rule.proofs.graph.Numbering.{id_at-number_of}
+use Rattle.core_rule.proofs.growth.RegisterIds.{RegisterHolds, holding_register}
+
+-- a cell of an object holds what the object points to
+pointing_cell : (o : Option Node) (id : Id) → IsSomeAnd o (λ object. PointsTo object id) → (j : ℕ) × (cell : Cell) × (slice_get (node_in o).cells j ≡ Some cell) × (cell.value ≡ values.Object id)
+pointing_cell None id points = absurd points
+pointing_cell (Some object) id points = (points.0, points.1, slice_get-get_or object.cells points.0 points.1 points.2 ∙ ap Some (points.3), points.4)
+
+module _ (heap : Heap) (state : State) (book : Book) (rule : Rule heap state book) where
+  abbrev g : Graph
+  g = graph_of heap book.history
+
+  abbrev IsNamedKept : Id → Type 0
+  IsNamedKept id = NamesKept book.made book.owner book.fragments (values.Object id)
+
+  -- what a register with its value holds is kept
+  holds_kept : (held : Register) (value : Value) (id : Id) → HoldsValue book.made book.owner book.fragments held value → value ≡ values.Object id → IsNamedKept id
+  holds_kept registers.Nil value id holds is = absurd (cc (holds, is))
+  holds_kept (registers.Number n) value id holds is = absurd (let number = holds.0 in cc (number, is))
+  holds_kept (registers.Object head other) value id holds is = let same : other ≡ id = (let its = holds.0 in cc (its, is)) in subst IsNamedKept same holds.1
+
+  module _ (number r : ℕ) (id : Id) (here : number < heap.seats) (holds : register_value g number r ≡ values.Object id) where
+    abbrev seat : Seat
+    seat = seat_at state number
+
+    -- and so is what one holds that awaits its object's name
+    register_kept : (place : Place) → seat.place ≡ place → IsNamedKept id
+    register_kept (places.Access Naming) placed = elim (eqb_tells r (target_of seat.command)) [
+      | inl same ↦
+          let list = (rule.seats_stand number here).told.list in
+          let awaits : IsAwaitingName g book.made book.owner book.fragments number seat list.awaited = rw placed at list.awaits in
+          let both : values.Object awaits.id ≡ values.Object id = sym awaits.held ∙ ap (register_value g number) (sym same.1) ∙ holds in
+          let its : awaits.id ≡ id = cc in
+          subst IsNamedKept its awaits.kept
+      | inr apart ↦ holds_kept (register_in seat.registers r) (register_value g number r) id
+          ((rule.seats_stand number here).names.registers r (λ awaited. apart.1 (subst (λ p. IsAwaited p (target_of seat.command) r) placed awaited))) holds
+    ]
+    register_kept _ placed = holds_kept (register_in seat.registers r) (register_value g number r) id
+        ((rule.seats_stand number here).names.registers r (λ awaited. subst (λ p. IsAwaited p (target_of seat.command) r) placed awaited)) holds
+
+  -- what a root is
+  root_kept : (id : Id) → IsRoot g id → IsNamedKept id
+  root_kept id root =
+      let its : RegisterHolds g id = holding_register g id root in
+      elim (cases_lt its.number heap.seats) [
+        | inl here ↦ register_kept its.number its.register id here its.holds (seat_at state its.number).place refl
+        | inr past ↦
+            let nil = left_empty heap book.history its.number rule.heap_stands.legal.objects
+            (gone_after_all (opening heap) its.number book.history rule.heap_stands.legal.objects (gone_opens heap its.number past)) its.register in
+            absurd (let held = its.holds in cc (nil, held))
+      ]
+
+  pub reached_kept : (id : Id) → Reaches g id → IsNamedKept id
+  reached_kept _ (from_register id made root) = root_kept id root
+  reached_kept _ (from_cell id made holder reached points) =
+      let kept = reached_kept holder reached in
+      let i : ℕ = object_number book.made holder in
+      let there = pointing_cell (node g (id_at book.made i)) id (subst (λ x. Points g x id) (sym (id_at-number_of book.made holder kept.0)) points) in
+      subst (NamesKept book.made book.owner book.fragments) there.3 (rule.heap_stands.objects.named i there.0 kept.0 kept.1 there.1 there.2).0

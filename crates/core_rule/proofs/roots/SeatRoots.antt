@@ -1,0 +1,71 @@
+-- Where nothing is grey, each seat's roots are marked: those of a seat that has answered the phase, and one that has left has none.
+use Rattle.std.proofs.Common.{◌≡◌, ◌≢◌, ℕ, ◌<◌, Bool, true, false, IfSome, refl, sym, ◌∙◌, subst, arith}
+use Rattle.core_rule.proofs.Terms.{Heap, phase, IsMarking, LoadingMeta, Walking, Indexing, Getting, LoadingOld, ShadingOld, ShadingNew, Swapping, Place, State, seat_at, FitsWay}
+use Rattle.core_rule.proofs.Terms.{Seat, head_of, Book, Grey, IsMarked, ShadedStands, WhileAccess, IsReached, Rule, HasMarked}
+use Rattle.core_machine.specs.declared.place.Access.TheVariants.{Locating, Naming}
+use Rattle.core_machine.specs.declared.place.Place.TheVariants as places
+use Rattle.core_rule.specs.roots.Roots.{AtCall, OfRoots}
+use Rattle.core_rule.proofs.entries.AtRest.{seat_fits, in_flight}
+use Rattle.core_rule.proofs.marking.Ended.{reached_marked}
+use Rattle.core_rule.proofs.roots.GoneRoots.{gone_roots}
+use Rattle.core_rule.proofs.marking.Marks.{roots_more}
+
+module _ (heap : Heap) (state : State) (book : Book) (rule : Rule heap state book) (marks : IsMarking heap.seats state.collector.phase state.collector.looked)
+    (goes_on : ¬ HasMarked state.collector.stage) (none : (f : ℕ) → book.colour f ≢ Grey) (number : ℕ) (here : number < heap.seats) where
+  abbrev seat : Seat
+  seat = seat_at state number
+
+  abbrev Marked : ℕ → Type 0
+  Marked = IsMarked book.colour
+
+  -- a seat that is there has answered the phase
+  pub answered_marking : seat.left ≡ false → seat.answered ≡ phase book.history
+  answered_marking present =
+      let told = (rule.seats_stand number here).cycle.answers_told in
+      sym told.told ∙ rule.collector_stands.looked number (omega (arith, here, marks.all)) here (told.leaves ∙ present)
+
+  roots_there : seat.left ≡ false → OfRoots Marked seat
+  roots_there present =
+      roots_more (IsReached heap state.words book.owner book.colour) Marked (reached_marked heap state.words book.owner book.colour none) seat
+      (rule.marks_stand.roots number here (record { phase = marks.for_marking; goes_on = goes_on }) (answered_marking present ∙ sym rule.collector_stands.phase_told))
+
+  -- its roots are marked
+  pub all_roots_marked : OfRoots Marked seat
+  all_roots_marked = by seat.left refl
+    where
+      by : (left : Bool) → seat.left ≡ left → OfRoots Marked seat
+      by true left = gone_roots heap state book number rule here left Marked
+      by false present = roots_there present
+
+  -- and so is what it has loaded
+  nothing_loaded : seat.loaded ≡ 0 → IfSome (head_of seat.loaded) Marked
+  nothing_loaded zero = subst (λ word. IfSome (head_of word) Marked) (sym zero) tt
+
+  loaded_by_place : (place : Place) → seat.place ≡ place → FitsWay seat place → WhileAccess (AtCall Marked seat) place → WhileAccess (ShadedStands book.colour seat) place → IfSome (head_of seat.loaded) Marked
+  loaded_by_place (places.Access LoadingMeta) is fits call shaded = nothing_loaded fits.none_loaded
+  loaded_by_place (places.Access Walking) is fits call shaded = nothing_loaded fits.none_loaded
+  loaded_by_place (places.Access Locating) is fits call shaded = nothing_loaded fits.none_loaded
+  loaded_by_place (places.Access Indexing) is fits call shaded = nothing_loaded fits.none_loaded
+  loaded_by_place (places.Access Getting) is fits call shaded = nothing_loaded fits.1
+  loaded_by_place (places.Access Naming) is fits call shaded = call
+  loaded_by_place (places.Access LoadingOld) is fits call shaded = nothing_loaded fits.2
+  loaded_by_place (places.Access ShadingOld) is fits call shaded = call.1
+  loaded_by_place (places.Access ShadingNew) is fits call shaded = shaded
+  loaded_by_place (places.Access Swapping) is fits call shaded =
+      let answered = answered_marking (in_flight rule number here (λ idle. absurd (cc (idle, is)))) in
+      let third = marks.for_marking in
+      let same = rule.collector_stands.phase_told in
+      (shaded (record { from = omega (arith, answered, third, same); upto = omega (arith, answered, third, same) })).0
+  loaded_by_place places.Idle is fits call shaded = nothing_loaded fits.none_loaded
+  loaded_by_place (places.Making place) is fits call shaded = nothing_loaded fits.none_loaded
+  loaded_by_place places.Local is fits call shaded = nothing_loaded fits.none_loaded
+  loaded_by_place (places.Polling place) is fits call shaded = nothing_loaded fits.none_loaded
+  loaded_by_place (places.Collecting place) is fits call shaded = nothing_loaded fits.none_loaded
+  loaded_by_place (places.Leaving place) is fits call shaded = nothing_loaded fits.none_loaded
+
+  pub loaded_marked : IfSome (head_of seat.loaded) Marked
+  loaded_marked =
+      let third = marks.for_marking in
+      let same = rule.collector_stands.phase_told in
+      loaded_by_place seat.place refl (seat_fits rule number here).way_at_place all_roots_marked.call
+      ((rule.seats_stand number here).cycle.flight.shaded (record { from = omega (arith, third, same); upto = omega (arith, third, same) }))

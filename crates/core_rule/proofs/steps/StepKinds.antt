@@ -1,0 +1,178 @@
+-- All that is asked of a kind of step of a seat, in one record for its place.
+use Rattle.std.specs.Int.{bit_at}
+use Rattle.std.specs.Prelude.{IfSome, option_map}
+use Rattle.std.proofs.Common.{◌≡◌, ◌≢◌, ℕ, ◌+◌, ◌*◌, ◌-◌, ◌%◌, ◌<◌, ◌≤◌, ◌⊎◌, List, Option, Some, sym, ◌∙◌, subst, arith, [], ◌∷◌, ap}
+use Rattle.core_rule.proofs.Terms.{born_at, Heap, last_answer, Listing, Place, State, seat_at, state_after_due, entries_shown, found_by, IsMachine, Move, move_at, seat_after_due}
+use Rattle.core_rule.proofs.Terms.{Said, Reply, Seat, InTable, HasWord, address_of, Book, HasBirthColour, IsBorn, Rule}
+use Rattle.core_machine.specs.declared.place.Access.TheVariants.{Naming}
+use Rattle.core_machine.specs.declared.place.Collecting.TheVariants.{Comparing}
+use Rattle.core_machine.specs.declared.place.Making.TheVariants.{Storing}
+use Rattle.core_machine.specs.declared.place.Place.TheVariants as places
+use Rattle.core_machine.specs.declared.step.MakingStep.TheVariants.{NewbornStore}
+use Rattle.core_machine.specs.declared.step.SpineStep.TheVariants.{SpineStore}
+use Rattle.core_machine.specs.declared.step.Step.{Step}
+use Rattle.core_machine.specs.declared.step.Step.TheVariants as steps
+use Rattle.core_machine.specs.Moves.{seat_after}
+use Rattle.core_machine.specs.declared.seat.looks.Looks.{Looks}
+use Rattle.core_machine.specs.seat.Looks.{forgotten}
+use Rattle.core_rule.specs.told.Found.{TellsWord}
+use Rattle.core_rule.specs.looks.Looks.{LooksStand}
+use Rattle.core_rule.specs.Stands.{Stands}
+pub use Rattle.core_rule.proofs.entries.StepTells.{shows_none, shows_plain, local_plain, shows_get, shows_some, meta_plain, shows_claim, shows_one, gives, SeatShows, refuses, refuses_words, shows_answer, shows_poll, shows_note}
+use Rattle.core_rule.proofs.looks.Follows.{IsBlind, MoveFollows, follows_way}
+pub use Rattle.core_rule.proofs.looks.Follows.{blind_follows, load_follows, get_follows, old_follows, meta_follows, birth_follows, refusal_follows, answer_follows, poll_follows, compare_follows}
+use Rattle.core_rule.proofs.looks.Moves.{Goes, GoesBy, NoReplies, quiet, no_entries}
+pub use Rattle.core_rule.proofs.looks.Moves.{ends, seen_first, one_own, reply_goes, get_goes, old_goes, meta_goes, none_claimed, birth_goes, refusal_goes, answer_goes, polling_goes, find_goes}
+pub use Rattle.core_rule.proofs.looks.Origins.{from_usual, new_usual, field_usual, get_usual, from_load, walk_usual, meta_usual, from_grant, claim_usual, IsUsual, ComesFrom, store_usual, over_usual, phase_usual}
+use Rattle.core_rule.proofs.looks.Ways.{StaysFound}
+pub use Rattle.core_rule.proofs.looks.Ways.{stays_walk, stays_budget, stays_claim}
+use Rattle.core_rule.proofs.steps.Assemble.{Keeps, StepKeeps}
+use Rattle.core_rule.proofs.words.BitsLeft.{bits_left}
+pub use Rattle.core_rule.proofs.words.BitsLeft.{spares, only_loads, beside, LeavesBits}
+pub use Rattle.core_rule.proofs.told.StepsFind.{poll_finds, meta_finds, birth_finds, refusal_finds, comparing_finds}
+
+-- the step that is due at the place keeps the rule
+abbrev pub PlaceKeeps : Place → Type 0
+PlaceKeeps place = (heap : Heap) (state : State) (book : Book) (number : ℕ) → Rule heap state book → number < heap.seats
+    → LooksStand heap book.history number (seat_at state number).place (seat_at state number).looks → (seat_at state number).place ≡ place
+    → IsMachine heap (state_after_due heap state number (move_at heap number (seat_at state number) place))
+    → Keeps heap state (state_after_due heap state number (move_at heap number (seat_at state number) place)) book book.begun (entries_shown heap state (move_at heap number (seat_at state number) place))
+
+-- what it tells
+abbrev pub PlaceShows : Place → Type 0
+PlaceShows place = (heap : Heap) (state : State) (number : ℕ) → SeatShows number (seat_at state number) place (entries_shown heap state (move_at heap number (seat_at state number) place))
+
+-- what it makes of that which the seat has found out, and where the seat comes to
+pub record OnLooks (place : Place) : Type 0 where
+  pub follows : (heap : Heap) (state : State) (number : ℕ) (seat : Seat) → ((other p : ℕ) → seat.place ≡ places.Collecting (Comparing other p) → p ≡ seat.looks.seen) → seat.place ≡ place
+      → MoveFollows heap state seat (move_at heap number seat place)
+  pub goes : (heap : Heap) (state : State) (book : Book) (rule : Rule heap state book) (number : ℕ) → (seat_at state number).place ≡ place
+      → GoesBy heap state book rule number (move_at heap number (seat_at state number) place)
+  pub comes : (heap : Heap) (number : ℕ) (seat : Seat) (found : ℕ) → seat.place ≡ place → ComesFrom place (seat_after_due seat (move_at heap number seat place) found).place
+
+-- the step stores a newborn word, or a spine word of a seat
+abbrev pub IsStore : Option Step → Type 0
+IsStore (Some (steps.Making (NewbornStore fragment part word))) = Unit {0}
+IsStore (Some (steps.Spine (SpineStore half offset fragment))) = Unit {0}
+IsStore _ = ⊥
+
+-- what it does to its word: it bears with the seat's colour, it stores while the seat stores and lists alone, and the table has its word
+pub record OnWords (place : Place) : Type 0 where
+  pub bears : (heap : Heap) (state : State) (book : Book) → Rule heap state book → (number : ℕ) → number < heap.seats → (f : ℕ) → f < 16 * heap.groups → ¬ IsBorn heap state.words f
+      → IsBorn heap (state_after_due heap state number (move_at heap number (seat_at state number) place)).words f
+      → HasBirthColour heap (state_after_due heap state number (move_at heap number (seat_at state number) place)).words f (last_answer number book.history)
+  pub stores : (heap : Heap) (number : ℕ) (seat : Seat) → IsStore (option_map (λ (m : Move). m.step) (move_at heap number seat place)) → (place ≡ places.Making Storing) ⊎ (place ≡ places.Making Listing)
+  pub there : (heap : Heap) (state : State) (book : Book) → Rule heap state book → (number : ℕ) → number < heap.seats → (seat_at state number).place ≡ place
+      → IfSome (move_at heap number (seat_at state number) place) (λ move. InTable heap (address_of move.step))
+      → IfSome (option_map (λ (m : Move). m.step) (move_at heap number (seat_at state number) place)) (λ step. HasWord heap (address_of step))
+
+-- what is told of the word that it finds
+abbrev pub PlaceFinds : Place → Type 0
+PlaceFinds place = (heap : Heap) (state : State) (book : Book) (number : ℕ) (stands : Stands heap state book) → number < heap.seats → (seat_at state number).place ≡ place
+    → IfSome (option_map (λ (m : Move). m.step) (move_at heap number (seat_at state number) place)) (λ step. TellsWord heap number (seat_at state number) step (found_by heap state step))
+
+-- all of it
+pub record StepKind (place : Place) : Type 0 where
+  pub keeps : PlaceKeeps place
+  pub shows : PlaceShows place
+  pub looks : OnLooks place
+  pub words : OnWords place
+  pub found : PlaceFinds place
+
+-- the move that is due at the place
+abbrev pub IsDue : Place → (Heap → ℕ → Seat → Move) → Type 0
+IsDue place move = (heap : Heap) (number : ℕ) (seat : Seat) → move_at heap number seat place ≡ Some (move heap number seat)
+
+-- a step on the way, which looks at nothing, tells no reply, and leads to no place of a shade or of a taking back
+pub record OnItsWay (place : Place) (move : Heap → ℕ → Seat → Move) : Type 0 where
+  pub unnamed : place ≢ places.Access Naming
+  pub blind : (heap : Heap) (number : ℕ) (seat : Seat) → IsBlind (Some (move heap number seat).step)
+  pub mute : (heap : Heap) (number : ℕ) (seat : Seat) (words : List ℕ) (found : ℕ) → NoReplies ((move heap number seat).shows words found)
+  pub stays : (heap : Heap) (number : ℕ) (seat : Seat) (found : ℕ) → seat.place ≡ place → StaysFound seat ((move heap number seat).told found)
+  pub comes : (heap : Heap) (number : ℕ) (seat : Seat) (found : ℕ) → ComesFrom place ((move heap number seat).told found).place
+
+pub on_its_way : (place : Place) (move : Heap → ℕ → Seat → Move) → IsDue place move → OnItsWay place move → OnLooks place
+on_its_way place move due way = record {
+  follows = λ heap state number seat compares placed. subst (MoveFollows heap state seat) (sym (due heap number seat))
+      (follows_way heap state number seat (move heap number seat).step ((move heap number seat).told (found_by heap state (move heap number seat).step)) (way.blind heap number seat)
+      (way.stays heap number seat (found_by heap state (move heap number seat).step) placed));
+  goes = λ heap state book rule number placed. subst (GoesBy heap state book rule number) (sym (due heap number (seat_at state number)))
+      (let stays = way.stays heap number (seat_at state number) (found_by heap state (move heap number (seat_at state number)).step) placed in
+      quiet heap number book.history (seat_at state number) _ _ (λ named. way.unnamed (sym placed ∙ named))
+      (way.mute heap number (seat_at state number) state.words (found_by heap state (move heap number (seat_at state number)).step)) record { looks = stays.looks; elsewhere = stays.elsewhere });
+  comes = λ heap number seat found placed. subst (λ o. ComesFrom place (seat_after_due seat o found).place) (sym (due heap number seat)) (way.comes heap number seat found);
+}
+
+-- what a kind of step on the way that tells nothing has still to say
+pub record WayKind (place : Place) (move : Heap → ℕ → Seat → Move) : Type 0 where
+  pub keeps : StepKeeps place move
+  pub stays : (heap : Heap) (number : ℕ) (seat : Seat) (found : ℕ) → seat.place ≡ place → StaysFound seat ((move heap number seat).told found)
+  pub comes : (heap : Heap) (number : ℕ) (seat : Seat) (found : ℕ) → ComesFrom place ((move heap number seat).told found).place
+  pub words : OnWords place
+  pub found : PlaceFinds place
+
+pub way_kind : (place : Place) (move : Heap → ℕ → Seat → Move) → IsDue place move → place ≢ places.Access Naming → ((heap : Heap) (number : ℕ) (seat : Seat) → IsBlind (Some (move heap number seat).step))
+    → ((heap : Heap) (number : ℕ) (seat : Seat) (words : List ℕ) (found : ℕ) → (move heap number seat).shows words found ≡ []) → WayKind place move → StepKind place
+way_kind place move due unnamed blind silent kind = record {
+  keeps = λ heap state book number rule here looks placed.
+      subst (λ o. IsMachine heap (state_after_due heap state number o) → Keeps heap state (state_after_due heap state number o) book book.begun (entries_shown heap state o)) (sym (due heap number (seat_at state number)))
+      (kind.keeps heap state book number rule here placed);
+  shows = λ heap state number. subst (λ o. SeatShows number (seat_at state number) place (entries_shown heap state o)) (sym (due heap number (seat_at state number)))
+      (subst (SeatShows number (seat_at state number) place) (sym (silent heap number (seat_at state number) state.words (found_by heap state (move heap number (seat_at state number)).step))) shows_none);
+  looks = on_its_way place move due record {
+    unnamed = unnamed;
+    blind = blind;
+    mute = λ heap number seat words found. subst NoReplies (sym (silent heap number seat words found)) no_entries;
+    stays = kind.stays;
+    comes = kind.comes;
+  };
+  words = kind.words;
+  found = kind.found;
+}
+
+-- a step that looks at nothing, tells a reply, and ends the call
+pub reply_ends : (place : Place) (move : Heap → ℕ → Seat → Move) (reply : Seat → ℕ → Reply) → IsDue place move → ((heap : Heap) (number : ℕ) (seat : Seat) → IsBlind (Some (move heap number seat).step))
+    → ((heap : Heap) (number : ℕ) (seat : Seat) (found : ℕ) → ((move heap number seat).told found).looks ≡ forgotten seat.looks)
+    → ((heap : Heap) (number : ℕ) (seat : Seat) (found : ℕ) → ((move heap number seat).told found).place ≡ places.Idle)
+    → ((heap : Heap) (number : ℕ) (seat : Seat) (words : List ℕ) (found : ℕ) → (move heap number seat).shows words found ≡ Said number seat.command (reply seat found) ∷ []) → OnLooks place
+reply_ends place move reply due blind looks idle tells = record {
+  follows = λ heap state number seat compares placed. subst (MoveFollows heap state seat) (sym (due heap number seat))
+      (blind_follows heap state (Some (move heap number seat).step) seat.looks ((move heap number seat).told (found_by heap state (move heap number seat).step)).looks (blind heap number seat)
+      (ap (λ (l : Looks). l.waits) (looks heap number seat (found_by heap state (move heap number seat).step))) (ap (λ (l : Looks). l.seen) (looks heap number seat (found_by heap state (move heap number seat).step))));
+  goes = λ heap state book rule number placed. subst (GoesBy heap state book rule number) (sym (due heap number (seat_at state number)))
+      (let seat : Seat = seat_at state number in
+      let found : ℕ = found_by heap state (move heap number seat).step in
+      subst (Goes heap state book rule number (seat_after (move heap number seat) found)) (sym (tells heap number seat state.words found))
+      (reply_goes heap state book rule number (seat_after (move heap number seat) found) (reply seat found) (looks heap number seat found) (idle heap number seat found)));
+  comes = λ heap number seat found placed. subst (λ o. ComesFrom place (seat_after_due seat o found).place) (sym (due heap number seat))
+      (subst (ComesFrom place) (sym (idle heap number seat found)) tt);
+}
+
+-- a step that leaves the born bits bears nothing
+pub bears_none : (place : Place) (move : Heap → ℕ → Seat → Move) → IsDue place move → (heap : Heap) (state : State) (book : Book) → Rule heap state book → (number f : ℕ) → f < 16 * heap.groups
+    → ¬ IsBorn heap state.words f → LeavesBits heap 16 32 (move heap number (seat_at state number)).step
+    → IsBorn heap (state_after_due heap state number (move_at heap number (seat_at state number) place)).words f
+    → HasBirthColour heap (state_after_due heap state number (move_at heap number (seat_at state number) place)).words f (last_answer number book.history)
+bears_none place move due heap state book rule number f within unborn bits =
+    subst (λ o. IsBorn heap (state_after_due heap state number o).words f → HasBirthColour heap (state_after_due heap state number o).words f (last_answer number book.history)) (sym (due heap number (seat_at state number)))
+    (λ born. absurd (unborn (sym (bits_left heap state.words (move heap number (seat_at state number)).step rule.machine.table f within 16 32 bits (born_at f) (omega arith) (omega arith)) ∙ born)))
+
+-- a step that bears nothing, stores no word of a new object, and is on a word that the table has
+pub plain_words : (place : Place) (move : Heap → ℕ → Seat → Move) → IsDue place move
+    → ((heap : Heap) (number : ℕ) (seat : Seat) → ¬ IsStore (Some (move heap number seat).step))
+    → ((heap : Heap) (number : ℕ) (seat : Seat) → InTable heap (address_of (move heap number seat).step) → HasWord heap (address_of (move heap number seat).step))
+    → ((heap : Heap) (state : State) (book : Book) → Rule heap state book → (number : ℕ) → number < heap.seats → LeavesBits heap 16 32 (move heap number (seat_at state number)).step) → OnWords place
+plain_words place move due unstored there bits = record {
+  bears = λ heap state book rule number here f within unborn.
+      bears_none place move due heap state book rule number f within unborn (bits heap state book rule number here);
+  stores = λ heap number seat is. absurd (unstored heap number seat (subst (λ o. IsStore (option_map (λ (m : Move). m.step) o)) (due heap number seat) is));
+  there = λ heap state book rule number here placed low.
+      subst (λ o. IfSome (option_map (λ (m : Move). m.step) o) (λ step. HasWord heap (address_of step))) (sym (due heap number (seat_at state number)))
+      (there heap number (seat_at state number) (subst (λ o. IfSome o (λ m. InTable heap (address_of m.step))) (due heap number (seat_at state number)) low));
+}
+
+-- the born bits are those from the sixteenth on
+pub born_bits : (word now : ℕ) → ((j : ℕ) → j < 16 → bit_at now (16 + j) ≡ bit_at word (16 + j)) → (i : ℕ) → 16 ≤ i → i < 32 → bit_at now i ≡ bit_at word i
+born_bits word now same i above below =
+    let is : 16 + (i - 16) ≡ i = omega (arith, above) in
+    subst (λ n. bit_at now n ≡ bit_at word n) is (same (i - 16) (omega (arith, above, below)))

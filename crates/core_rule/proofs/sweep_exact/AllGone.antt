@@ -1,0 +1,128 @@
+-- Where all seats have left before a cycle begins, its bound is nothing.
+use Rattle.std.proofs.Common.{◌≡◌, ℕ, ◌<◌, ◌==◌, Bool, true, inl, inr, List, [], ◌∷◌, ◌++◌, refl, sym, ◌∙◌, subst, append_assoc, arith}
+use Rattle.std.proofs.lemmas.Bool.{cases_lt, or_cases, eqb-true, eq-eqb}
+use Rattle.std.proofs.lemmas.List.{append-nil}
+use Rattle.core_rule.proofs.Terms.{KeepsSpace, KeepsSpaceAfter, IsLegal, graph_of, brings, all_bring, bound, has_left, is_leave_of, total, begins_cycle, is_reply_to, up_to_cycle}
+use Rattle.core_rule.proofs.Terms.{since_cycle, Entry, Heap, Id, Reply, Graph, opening, after_entry, Accepts, AcceptsAll, IsObjectLegal, Reaches, from_register, from_cell, IsRoot}
+use Rattle.core_rule.proofs.Terms.{IsReach}
+use Rattle.heap_model.specs.declared.command.Command.TheVariants as commands
+use Rattle.heap_model.specs.declared.entry.Entry.TheVariants as entries
+use Rattle.heap_model.proofs.Histories.{graph_after-more, total_of-more}
+use Rattle.heap_model.proofs.account_lemmas.Windows.{parts, any-more, up_to_last-yes, after_last-yes}
+use Rattle.core_machine.proofs.table_lemmas.Free.{sum_zero}
+use Rattle.core_rule.proofs.footprint.Bounds.{brings-other}
+use Rattle.core_rule.proofs.footprint.Brought.{sum_counted}
+use Rattle.core_rule.proofs.sweep_exact.GoneSeats.{IsGone, gone_after, leaves_gone, not_of_gone, gone_after_all, gone_opens, none_taken, none_made}
+use Rattle.core_rule.proofs.graph.LeftSeats.{left_empty}
+use Rattle.core_rule.proofs.growth.LaterGraphs.{accepts_later}
+use Rattle.core_rule.proofs.growth.RegisterIds.{holding_register}
+
+-- a seat that has left is gone, and brings nothing
+record IsThrough (heap : Heap) (number : ℕ) (history : List Entry) : Type 0 where
+  pub gone : IsGone (graph_of heap history) number
+  pub none : brings number history ≡ 0
+
+-- it has given all back when it leaves
+leave_brings : (heap : Heap) (play : Bool) (history : List Entry) (number : ℕ) (reply : Reply) → KeepsSpace heap play history (entries.Said number commands.Leave reply)
+    → brings number (history ++ entries.Said number commands.Leave reply ∷ []) ≡ 0
+leave_brings heap play history number reply keeps =
+    let leave : Entry = entries.Said number commands.Leave reply in
+    let own : (number == number) ≡ true = eq-eqb number number refl in
+    rw (
+      up_to_last-yes (is_reply_to number) history leave own,
+      after_last-yes (is_reply_to number) history leave own,
+      total_of-more number (λ e. e.taken) history leave,
+      total_of-more number (λ e. e.given) history leave,
+      total_of-more number (λ e. e.born) history leave,
+      own,
+    )
+    (omega (arith, keeps.makes.1))
+
+module _ (heap : Heap) (play : Bool) (number : ℕ) where
+  abbrev WhereLeft : List Entry → Type 0
+  WhereLeft history = has_left number history ≡ true → IsThrough heap number history
+
+  -- an entry that makes it leave, or another's
+  through_more : (history : List Entry) (entry : Entry) → Accepts (graph_of heap history) entry → KeepsSpace heap play history entry → WhereLeft history → WhereLeft (history ++ entry ∷ [])
+  through_more history entry accepts keeps through left =
+      elim (or_cases (has_left number history) (is_leave_of number entry) (sym (any-more (is_leave_of number) history entry) ∙ left)) [
+        | inl before ↦ record {
+          gone = subst (λ g. IsGone g number) (sym (graph_after-more (opening heap) history entry)) (gone_after (graph_of heap history) number entry accepts (through before).gone);
+          none = brings-other number history entry (not_of_gone (graph_of heap history) number entry accepts (through before).gone) ∙ (through before).none;
+        }
+        | inr leaves ↦ record {
+          gone = subst (λ g. IsGone g number) (sym (graph_after-more (opening heap) history entry)) (leaves_gone (graph_of heap history) number entry accepts leaves);
+          none = by entry keeps leaves;
+        }
+      ]
+    where
+      by : (e : Entry) → KeepsSpace heap play history e → is_leave_of number e ≡ true → brings number (history ++ e ∷ []) ≡ 0
+      by (entries.Said other commands.Leave reply) its here =
+          subst (λ n. brings n (history ++ entries.Said other commands.Leave reply ∷ []) ≡ 0) (eqb-true other number here) (leave_brings heap play history other reply its)
+      by _ its here = absurd (cc)
+
+  -- so after the later part of a legal history
+  through_after : (before later rest : List Entry) → AcceptsAll (graph_of heap before) (later ++ rest) → KeepsSpaceAfter heap play before (later ++ rest) → WhereLeft before
+      → WhereLeft (before ++ later)
+  through_after before [] rest accepts keeps through = subst WhereLeft (sym (append-nil before)) through
+  through_after before (entry ∷ later) rest accepts keeps through =
+      subst WhereLeft (append_assoc before (entry ∷ []) later)
+      (through_after (before ++ entry ∷ []) later rest (subst (λ g. AcceptsAll g (later ++ rest)) (sym (graph_after-more (opening heap) before entry)) accepts.1) keeps.1
+      (through_more before entry accepts.0 keeps.0 through))
+
+  through_legal : (history rest : List Entry) → IsLegal heap play (history ++ rest) → WhereLeft history
+  through_legal history rest legal = through_after [] history rest legal.objects legal.space (λ left. absurd (cc))
+
+-- the first part of what a graph accepts
+pub accepts_before : (g : Graph) (history later : List Entry) → AcceptsAll g (history ++ later) → AcceptsAll g history
+accepts_before g [] later accepts = tt
+accepts_before g (entry ∷ history) later accepts = (accepts.0, accepts_before (after_entry g entry) history later accepts.1)
+
+module _ (heap : Heap) (play : Bool) (history : List Entry) (legal : IsLegal heap play history) (left : (number : ℕ) → number < heap.seats → has_left number (up_to_cycle history) ≡ true) where
+  abbrev earlier : Graph
+  earlier = graph_of heap (up_to_cycle history)
+
+  legal_parts : IsLegal heap play (up_to_cycle history ++ since_cycle history)
+  legal_parts = subst (IsLegal heap play) (sym (parts begins_cycle history)) legal
+
+  legal_then : IsObjectLegal heap (up_to_cycle history)
+  legal_then = accepts_before (opening heap) (up_to_cycle history) (since_cycle history) legal_parts.objects
+
+  through : (number : ℕ) → number < heap.seats → IsThrough heap number (up_to_cycle history)
+  through number below = through_legal heap play number (up_to_cycle history) (since_cycle history) legal_parts (left number below)
+
+  all_left : (number : ℕ) → IsGone earlier number
+  all_left number = elim (cases_lt number heap.seats) [
+    | inl below ↦ (through number below).gone
+    | inr past ↦ gone_after_all (opening heap) number (up_to_cycle history) legal_then (gone_opens heap number past)
+  ]
+
+  no_root : (id : Id) → ¬ IsRoot earlier id
+  no_root id root =
+      let its = holding_register earlier id root in
+      absurd (cc (left_empty heap (up_to_cycle history) its.number legal_then (all_left its.number) its.register, its.holds))
+
+  no_reached : (id : Id) → ¬ Reaches earlier id
+  no_reached _ (from_register id made root) = no_root id root
+  no_reached _ (from_cell id made holder reached points) = no_reached holder reached
+
+  -- nothing is reached then
+  pub none_reached : IsReach earlier []
+  none_reached = record {
+    ordered = λ i j d less within. absurd (omega (arith, within));
+    reached = λ id. (λ there. absurd (omega (arith, there.1)), λ its. absurd (no_reached id its));
+  }
+
+  -- and the seats bring nothing, and take nothing later
+  pub none_brought : all_bring heap (up_to_cycle history) ≡ 0
+  none_brought = sum_counted heap.seats (λ q. brings q (up_to_cycle history)) ∙ sum_zero heap.seats (λ q. brings q (up_to_cycle history)) (λ q below. (through q below).none)
+
+  pub none_since : total (λ e. e.taken) (since_cycle history) ≡ 0
+  none_since = none_taken earlier (since_cycle history) (accepts_later (opening heap) (up_to_cycle history) (since_cycle history) legal_parts.objects) all_left
+
+  pub bound_none : bound heap [] history ≡ 0
+  bound_none = omega (arith, none_brought, none_since)
+
+  -- no array was made since
+  pub none_granted : total (λ e. e.words) (since_cycle history) ≡ 0
+  none_granted = none_made earlier (since_cycle history) (accepts_later (opening heap) (up_to_cycle history) (since_cycle history) legal_parts.objects) all_left

@@ -1,0 +1,3 @@
+-- The spine words that are granted.
+pub mod Budgets
+pub mod SpineLaws

@@ -1,0 +1,2 @@
+-- The colours of fragments.
+pub mod Colours

@@ -1,0 +1,2 @@
+-- The copies of spines.
+pub mod Replicas

@@ -1,0 +1,2 @@
+-- What the history says of a seat, counted.
+pub mod Counts

@@ -1,0 +1,2 @@
+-- What a cycle may leave.
+pub mod Footprint

@@ -1,0 +1,2 @@
+-- What a gather knows of the groups that it has passed.
+pub mod Gathers

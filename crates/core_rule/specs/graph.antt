@@ -1,0 +1,2 @@
+-- What registers hold.
+pub mod Registers

@@ -1,0 +1,32 @@
+-- A seat's registers hold what the graph says.
+use Rattle.std.specs.Prelude.{◌≡◌, ℕ, ◌<◌, ◌^◌, List, slice_index_or}
+use Rattle.heap_model.specs.declared.id.Id.{Id}
+use Rattle.heap_model.specs.declared.id.Value.{Value}
+use Rattle.heap_model.specs.declared.id.Value.TheVariants as values
+use Rattle.heap_model.specs.graph.Objects.{register_value}
+use Rattle.heap_model.specs.graph.Graph.{Graph}
+use Rattle.core_machine.specs.declared.place.Place.{Place}
+use Rattle.core_machine.specs.declared.place.Place.TheVariants as places
+use Rattle.core_machine.specs.declared.place.Access.TheVariants.{Naming}
+use Rattle.core_machine.specs.declared.seat.register.Register.{Register}
+use Rattle.core_machine.specs.declared.seat.register.Register.TheVariants as registers
+use Rattle.core_rule.specs.owners.Owners.{Owner}
+use Rattle.core_rule.specs.Book.{object_head}
+use Rattle.core_rule.specs.objects.Objects.{NamesKept}
+
+-- what a register holds is the value: a number, nothing, or a kept object's first fragment with its id
+abbrev pub HoldsValue : List Id → (ℕ → Owner) → (ℕ → List ℕ) → Register → Value → Type 0
+HoldsValue made owner fragments registers.Nil value = value ≡ values.Nil
+HoldsValue made owner fragments (registers.Number n) value = (value ≡ values.Number n) × (n < 2 ^ 30)
+HoldsValue made owner fragments (registers.Object head id) value =
+    (value ≡ values.Object id) × NamesKept made owner fragments (values.Object id) × (head ≡ object_head made fragments id)
+
+-- the register is that of a get that has loaded a reference and awaits the object's name
+abbrev pub IsAwaited : Place → ℕ → ℕ → Type 0
+IsAwaited (places.Access Naming) d r = r ≡ d
+IsAwaited _ d r = ⊥
+
+-- each register of the seat holds its value in the graph, but for one that is awaited
+abbrev pub Registers : Graph → List Id → (ℕ → Owner) → (ℕ → List ℕ) → ℕ → List Register → Place → ℕ → Type 0
+Registers g made owner fragments number held place d =
+    (r : ℕ) → ¬ IsAwaited place d r → HoldsValue made owner fragments (slice_index_or held r registers.Nil) (register_value g number r)

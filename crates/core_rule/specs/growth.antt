@@ -1,0 +1,3 @@
+-- What is reached as a graph grows.
+pub mod GraphLaws
+pub mod OwnGraphs

@@ -1,0 +1,2 @@
+-- The halves of the spine space.
+pub mod Halves

@@ -1,0 +1,4 @@
+-- What is held.
+pub mod Held
+pub mod HeldWords
+pub mod HeldLaws

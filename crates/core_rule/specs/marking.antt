@@ -1,0 +1,5 @@
+-- What is true while the collector marks, and while it sweeps after that.
+pub mod Sources
+pub mod Paths
+pub mod Sweep
+pub mod Marking

@@ -1,0 +1,2 @@
+-- The objects that were made.
+pub mod Objects

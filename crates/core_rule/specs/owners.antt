@@ -1,0 +1,2 @@
+-- Whose each fragment and each spine word is.
+pub mod Owners

@@ -1,0 +1,2 @@
+-- The roots of a seat.
+pub mod Roots

@@ -1,0 +1,2 @@
+-- The spines of arrays.
+pub mod Spines

@@ -1,0 +1,2 @@
+-- That a cycle leaves no more.
+pub mod SweepLaws

@@ -1,0 +1,2 @@
+-- How many turns are left.
+pub mod TurnsLeft

@@ -1,0 +1,2 @@
+-- What bits of control words say of their fragments.
+pub mod ControlWords

@@ -1,0 +1,25 @@
+use Rattle.std.proofs.Common.{◌≡◌, List, Vec, Global, Result, map, sym, subst, ◌∙◌}
+use Rattle.std.specs.Prelude.{IfOk, slice_index_or}
+use Rattle.std.proofs.lemmas.Option.{slice_get_within, get_or_from_slice_get}
+use Rattle.heap_model.specs.declared.command.Command.{Command}
+use Rattle.heap_model.specs.declared.fault.Memory.{Memory}
+use Rattle.heap_table.specs.SeatHeld.{SeatHeld}
+use Rattle.heap_runs.specs.SeatWork.{HasWorked, HaveEnded, HaveWorked, script_at}
+use Rattle.heap_runs.proofs.WorkersEnd.{all_worked, if_ok_then}
+use Rattle.heap_runs.proofs.workers.fn.work_all.join+arg3.Goals as goal
+
+pub returns : goal.returns
+returns g c =
+    let scripts : List (List Command) = map (λ (script : Vec Command Global). script.items) c.captures.scripts.now in
+    let seats : List SeatHeld = c.captures.seats.items in
+    let done : List (Result SeatHeld Memory) = c.in_ok-done.field-0.items in
+    let ended : HaveEnded c.captures.patience scripts seats done = record {
+      each_once = sym c.in_ok-done.field-0.ok.0 ∙ c.in_ok-done.ensures.len ∙ c.captures.seats.ok.0;
+      each = λ place old end was now.
+          let gives = (c.in_ok-done.ensures.each place end (slice_get_within seats place old was)).1 in
+          let met : IfOk (slice_index_or done place end) (HasWorked c.captures.patience gives.job (script_at scripts gives.job.number)) = gives.call.met in
+          let job : gives.job ≡ old = sym (gives.job_is old) ∙ get_or_from_slice_get seats place old old was in
+          subst (λ (end : Result SeatHeld Memory). IfOk end (HasWorked c.captures.patience old (script_at scripts old.number))) (get_or_from_slice_get done place end end now)
+          (subst (λ (held : SeatHeld). IfOk (slice_index_or done place end) (HasWorked c.captures.patience held (script_at scripts held.number))) job met);
+    } in
+    if_ok_then _ (λ (back : Vec SeatHeld Global). HaveWorked c.captures.patience scripts seats back.items) c.each_seat.result (λ back is. all_worked c.captures.patience scripts seats back.items done ended is) c.each_seat.ensures

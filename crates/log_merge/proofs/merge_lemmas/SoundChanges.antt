@@ -1,0 +1,133 @@
+-- The graph of a legal history stays sound.
+use Rattle.std.proofs.Common.{◌≡◌, ℕ, ◌+◌, ◌<◌, ◌≤◌, inl, inr, Bool, true, false, List, [], length, get_or, set, replicate, refl, sym, ap, ◌∙◌, subst, arith}
+use Rattle.std.specs.List.{All}
+use Rattle.std.proofs.lemmas.Bool.{cases_lt, cases_eq, cases_order}
+use Rattle.std.proofs.lemmas.List.{get_or-set_same, get_or-set_other, set_past}
+use Rattle.std.proofs.lemmas.List.Elements.{All-nil, All-cons, All-weaker, All-replicate}
+use Rattle.heap_model.specs.Limits.{stamp_limit, register_count}
+use Rattle.heap_model.specs.declared.id.Id.TheVariants.{Made}
+use Rattle.heap_model.specs.declared.id.Value.{Value}
+use Rattle.heap_model.specs.declared.id.Value.TheVariants.{Nil, Number, Object}
+use Rattle.heap_model.specs.declared.graph.cell.Cell.{Cell}
+use Rattle.heap_model.specs.declared.command.Command.{Command}
+use Rattle.heap_model.specs.declared.command.Command.TheVariants as commands
+use Rattle.heap_model.specs.declared.reply.Reply.{Reply}
+use Rattle.heap_model.specs.declared.reply.Reply.TheVariants as replies
+use Rattle.heap_model.specs.graph.Objects.{register_value}
+use Rattle.heap_model.specs.graph.Replies.{Says}
+use Rattle.heap_model.specs.graph.Graph.{Node, Graph, fresh, unset}
+use Rattle.heap_model.specs.graph.Changes.{set_stamp}
+use Rattle.log_merge.proofs.merge_lemmas.Changes.{Own, own, Change, with_object, with_set, change_of, seat_changed, changed, own-changed, own-changed_other}
+use Rattle.log_merge.proofs.merge_lemmas.Places.{IsKnown}
+use Rattle.log_merge.proofs.merge_lemmas.Sound.{AllCells, AllCells-look, AllCells-seat_changed, AllCells-weaker, AllCells-write, Grows, Grows-changed, IsKnown-grows, IsOld, IsOld-grows, IsSound, IsSoundCell, get_found, holds_or, set_found}
+
+-- a change that keeps the graph sound
+pub record IsSoundChange (g : Graph) (number : ℕ) (c : Change) : Type 0 where
+  pub registers : (r : ℕ) → IsKnown (changed g number c) (get_or c.registers r Nil)
+  pub more : All (λ (o : Node). All (λ cell. cell ≡ unset) o.cells) c.more
+  pub sets : (own g number).sets ≤ c.sets
+  pub place : IsKnown g c.place
+  pub cell : IsSoundCell (changed g number c) c.cell
+
+-- the stamps 0 and of a set that was done are old
+pub IsOld-none : (g : Graph) → IsOld g 0
+IsOld-none g = λ seat n later few is. omega (arith, is)
+
+IsOld-stamp : (g : Graph) (number sets : ℕ) → (own g number).sets ≡ sets → sets < stamp_limit → IsOld g (set_stamp number sets)
+IsOld-stamp g number sets is few = λ seat n later below same. elim (cases_order seat number) [
+  | inl equal ↦ (let mine : (own g number).sets < n = subst (λ s. (own g s).sets < n) equal later in omega (arith, mine, is, same, equal))
+  | inr apart ↦ elim apart [ inl before ↦ omega (arith, before, same, few, below) | inr behind ↦ omega (arith, behind, same, few, below) ]
+]
+
+-- a sound value in a register
+set_known : (g : Graph) (registers : List Value) (d : ℕ) (value : Value) → ((r : ℕ) → IsKnown g (get_or registers r Nil)) → IsKnown g value → (r : ℕ) → IsKnown g (get_or (set registers d value) r Nil)
+set_known g registers d value all known r = elim (cases_eq r d) [
+  | inr apart ↦ subst (IsKnown g) (sym (get_or-set_other registers d r value Nil apart)) (all r)
+  | inl same ↦ elim (cases_lt d (length registers)) [
+    | inl within ↦ subst (IsKnown g) (sym (ap (λ x. get_or (set registers d value) x Nil) same ∙ get_or-set_same registers d value Nil within)) known
+    | inr past ↦ subst (λ xs. IsKnown g (get_or xs r Nil)) (sym (set_past registers d value past)) (all r)
+  ]
+]
+
+-- only the registers change
+quiet_change : (g : Graph) (number : ℕ) (registers : List Value) (left : Bool) → number < length g.seats → ((r : ℕ) → IsKnown g (get_or registers r Nil))
+    → IsSoundChange g number (record { registers = registers; more = []; sets = (own g number).sets; left = left; place = Nil; index = 0; cell = unset })
+quiet_change g number registers left within known =
+    let c : Change = record { registers = registers; more = []; sets = (own g number).sets; left = left; place = Nil; index = 0; cell = unset } in
+    let grows : Grows g (changed g number c) = Grows-changed g number c within (omega arith) in
+    record {
+      registers = λ r. IsKnown-grows g (changed g number c) (get_or registers r Nil) grows (known r);
+      more = All-nil (λ (o : Node). All (λ (cell : Cell). cell ≡ unset) o.cells);
+      sets = omega arith;
+      place = tt;
+      cell = (tt, IsOld-none (changed g number c));
+    }
+
+-- an object is made
+made_change : (g : Graph) (number d : ℕ) (array : Bool) (cells : ℕ) → number < length g.seats → ((r : ℕ) → IsKnown g (register_value g number r)) → IsSoundChange g number (with_object (own g number) number d (fresh array cells))
+made_change g number d array cells within known =
+    let c = with_object (own g number) number d (fresh array cells) in
+    let h = changed g number c in
+    let grows : Grows g h = Grows-changed g number c within (omega arith) in
+    let one_more = ap (λ (o : Own). o.made) (own-changed g number c within) in
+    let made : (own g number).made < (own h number).made = omega (arith, one_more) in
+    record {
+      registers = λ r. set_known h (own g number).registers d (Object (Made number (own g number).made)) (λ q. IsKnown-grows g h (register_value g number q) grows (known q)) made r;
+      more = All-cons (λ (o : Node). All (λ (cell : Cell). cell ≡ unset) o.cells) (fresh array cells) [] (All-replicate (λ (cell : Cell). cell ≡ unset) cells unset refl) (All-nil (λ (o : Node). All (λ (cell : Cell). cell ≡ unset) o.cells));
+      sets = omega arith;
+      place = tt;
+      cell = (tt, IsOld-none h);
+    }
+
+-- a cell is set
+set_change : (g : Graph) (number r i v : ℕ) → number < length g.seats → ((q : ℕ) → IsKnown g (register_value g number q)) → (own g number).sets + 1 < stamp_limit → IsSoundChange g number (with_set (own g number) number r i v)
+set_change g number r i v within known few =
+    let c = with_set (own g number) number r i v in
+    let h = changed g number c in
+    let grows : Grows g h = Grows-changed g number c within (omega arith) in
+    record {
+      registers = λ q. IsKnown-grows g h (register_value g number q) grows (known q);
+      more = All-nil (λ (o : Node). All (λ (cell : Cell). cell ≡ unset) o.cells);
+      sets = omega arith;
+      place = known r;
+      cell = (IsKnown-grows g h (register_value g number v) grows (known v), IsOld-stamp h number ((own g number).sets + 1) (ap (λ (o : Own). o.sets) (own-changed g number c within)) few);
+    }
+
+-- registers that are nil
+nil_known : (g : Graph) (r : ℕ) → IsKnown g (get_or (replicate register_count Nil) r Nil)
+nil_known g r = holds_or (IsKnown g) (replicate register_count Nil) r Nil (All-replicate (IsKnown g) register_count Nil tt) tt
+
+-- what a seat does keeps the graph sound
+pub sound_change : (g : Graph) (number : ℕ) (command : Command) (reply : Reply) → IsSound g → number < length g.seats → Says g number command reply → IsSoundChange g number (change_of (own g number) number command reply)
+sound_change g number (commands.New d fields) (replies.Made id) sound within says = made_change g number d false fields within (sound.registers number)
+sound_change g number (commands.Array d cells) (replies.Made id) sound within says = made_change g number d true cells within (sound.registers number)
+sound_change g number (commands.Get d r i) (replies.Got value stamp) sound within says =
+    let got = get_found g number d r i value stamp says in
+    let known : IsKnown g value = subst (IsKnown g) got.2 (AllCells-look (IsSoundCell g) g (register_value g number r) i got.0 sound.cells got.1).0 in
+    quiet_change g number (set (own g number).registers d value) (own g number).left within (set_known g (own g number).registers d value (sound.registers number) known)
+sound_change g number (commands.Set r i v) (replies.Was stamp) sound within says = set_change g number r i v within (sound.registers number) (set_found g number r i v stamp says).few
+sound_change g number (commands.Num d n) reply sound within says =
+    quiet_change g number (set (own g number).registers d (Number n)) (own g number).left within (set_known g (own g number).registers d (Number n) (sound.registers number) tt)
+sound_change g number (commands.Nil d) reply sound within says =
+    quiet_change g number (set (own g number).registers d Nil) (own g number).left within (set_known g (own g number).registers d Nil (sound.registers number) tt)
+sound_change g number (commands.Copy d r) reply sound within says =
+    quiet_change g number (set (own g number).registers d (register_value g number r)) (own g number).left within (set_known g (own g number).registers d (register_value g number r) (sound.registers number) (sound.registers number r))
+sound_change g number commands.Leave reply sound within says = quiet_change g number (replicate register_count Nil) true within (nil_known g)
+sound_change g number _ reply sound within says = quiet_change g number (own g number).registers (own g number).left within (sound.registers number)
+
+-- the graph stays sound
+pub IsSound-changed : (g : Graph) (number : ℕ) (c : Change) → IsSound g → number < length g.seats → IsSoundChange g number c → IsSound (changed g number c)
+IsSound-changed g number c sound within keeps =
+    let h = changed g number c in
+    let grows : Grows g h = Grows-changed g number c within keeps.sets in
+    let Q = λ (o : Node). All (IsSoundCell h) o.cells in
+    let old : AllCells (IsSoundCell h) g = AllCells-weaker (IsSoundCell g) (IsSoundCell h) g (λ cell is. (IsKnown-grows g h cell.value grows is.0, IsOld-grows g h cell.stamp grows is.1)) sound.cells in
+    let blank : (cell : Cell) → cell ≡ unset → IsSoundCell h cell = λ cell is. subst (IsSoundCell h) (sym is) (tt, IsOld-none h) in
+    let more : All Q c.more = All-weaker (λ (o : Node). All (λ (cell : Cell). cell ≡ unset) o.cells) Q (λ o. All-weaker (λ (cell : Cell). cell ≡ unset) (IsSoundCell h) blank o.cells) c.more keeps.more in
+    record {
+      registers = λ seat r. elim (cases_eq seat number) [
+        | inl same ↦ subst (λ n. IsKnown h (register_value h n r)) (sym same) (subst (λ (o : Own). IsKnown h (get_or o.registers r Nil)) (sym (own-changed g number c within)) (keeps.registers r))
+        | inr apart ↦ subst (λ (o : Own). IsKnown h (get_or o.registers r Nil)) (sym (own-changed_other g number seat c apart)) (IsKnown-grows g h (register_value g seat r) grows (sound.registers seat r))
+      ];
+      cells = AllCells-write (IsSoundCell h) (seat_changed g number c) c.place c.index c.cell (AllCells-seat_changed (IsSoundCell h) g number c old more) keeps.cell;
+    }
