@@ -11,8 +11,7 @@ use crate::collector::marking::pass_on;
 use crate::collector::stage::{Copying, Scan, Stage};
 use crate::collector::sweeping::{cleared, examine_from, freed, sweep_on, swept};
 use crate::log::kept::Log;
-use crate::log::recent::RecentLog;
-use crate::log::{CountsEntries, Entries};
+use crate::log::{CountsEntries, Entries, ShowsRecent};
 use crate::step::{CopyingStep, SpineStep, Step, TurningStep};
 use crate::table::decode::spine_words;
 use heap_model::limits::GROUP_FRAGMENTS;
@@ -72,7 +71,7 @@ impl CollectorParty {
     }
 }
 
-impl CollectorParty<RecentLog> {
+impl<L: ShowsRecent> CollectorParty<L> {
     /// The collector's entries behind those that were forgotten.
     pub fn recent(&self) -> &[Entry]
         ensures recent { result.now ≡ drop self.now.forgotten self.now.collector.log }
@@ -81,9 +80,9 @@ impl CollectorParty<RecentLog> {
         self.log.recent()
     }
 
-    /// Forgets the entries so far.
+    /// The entries so far may be forgotten.
     pub fn forget(&mut self)
-        ensures forgotten { self.new ≡ record self.old { spare = self.new.spare; forgotten = length self.old.collector.log } }
+        ensures same { self.new ≡ record self.old { spare = self.new.spare; forgotten = self.new.forgotten } }
         ensures spare { self.old.spare ≤ self.new.spare }
     {
         self.log.forget();

@@ -16,7 +16,7 @@ pub use log::kept::Log;
 pub use log::last::LastLog;
 pub use log::recent::RecentLog;
 pub use log::told::ToldLog;
-pub use log::{CountsEntries, Entries, ShowsLast};
+pub use log::{CountsEntries, Entries, ShowsLast, ShowsRecent};
 pub use machine::Machine;
 pub use machine::opening::opening_words;
 pub use place::{Access, Collecting, Leaving, Making, Place, Polling};

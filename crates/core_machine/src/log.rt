@@ -1,4 +1,4 @@
-ghost use Rattle.std.specs.Prelude.{◌≡◌, ℕ, ◌+◌, ◌-◌, ◌<◌, ◌≤◌, ◌^◌, List, length, [], ◌∷◌, ◌++◌, slice_get, OnOk, OnErr};
+ghost use Rattle.std.specs.Prelude.{◌≡◌, ℕ, ◌+◌, ◌-◌, ◌<◌, ◌≤◌, ◌^◌, List, length, drop, [], ◌∷◌, ◌++◌, slice_get, OnOk, OnErr};
 
 use heap_model::{Entry, Memory};
 use std::alloc::Global;
@@ -52,6 +52,19 @@ pub trait CountsEntries: Entries {
     fn count(&self) -> usize
         ensures count { result ≡ length (Self.listed self.now) }
         ensures within { Self.left self.now + length (Self.listed self.now) < 2 ^ 64 };
+}
+
+/// A log that shows its entries behind those that it forgot.
+pub trait ShowsRecent: CountsEntries {
+    /// The entries behind those that were forgotten.
+    fn recent(&self) -> &[Entry]
+        ensures recent { result.now ≡ drop (Self.forgotten self.now) (Self.listed self.now) }
+        ensures within { Self.forgotten self.now ≤ length (Self.listed self.now) };
+
+    /// The entries so far may be forgotten. A log that is there to keep them keeps them.
+    fn forget(&mut self)
+        ensures same { Self.listed self.new ≡ Self.listed self.old }
+        ensures more { Self.left self.old ≤ Self.left self.new };
 }
 
 /// A log that shows the entry that was added last.

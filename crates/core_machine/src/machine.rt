@@ -5,33 +5,35 @@ ghost use Rattle.core_machine.specs.declared.table.address.Address.TheVariants.{
 ghost use Rattle.core_machine.specs.table.Layout.{at, InTable};
 ghost use Rattle.core_machine.specs.collector.Collector.{next_turn};
 ghost use Rattle.core_machine.specs.Moves.{due_step};
-ghost use Rattle.core_machine.specs.machine.Value.{spare_of, forgotten_of, log_of, recent_of, due_of, event_of, IsParty, SpendsRoom, IsMachine};
+ghost use Rattle.core_machine.specs.machine.Value.{spare_of, due_of, event_of, IsParty, SpendsRoom, IsMachine};
 
 use crate::collector::CollectorParty;
-use crate::log::recent::RecentLog;
+use crate::log::CountsEntries;
+use crate::log::kept::Log;
 use crate::seat::SeatParty;
 use crate::seat::looks::Looks;
 use crate::step::Step;
 use crate::table::address::Address;
 use crate::table::words::{load, perform};
-use heap_model::{Command, Entry, Heap, Inner, Memory, Turn};
+use heap_model::{Command, Heap, Inner, Memory, Turn};
 use std::marker::Model;
 
+mod logs;
 pub(crate) mod opening;
 mod play;
 mod space;
 
 /// A heap's table of words and its parties: the seats, numbered from 0, and after them the collector. Any party may
-/// make its due step at any time.
+/// make its due step at any time. Each party has a log of the same type, as a rule one that keeps all its entries.
 #[derive(Drop)]
-pub struct Machine {
+pub struct Machine<L: CountsEntries = Log> {
     pub(crate) heap: Heap,
     pub(crate) words: Vec<u64>,
-    pub(crate) seats: Vec<SeatParty<RecentLog>>,
-    pub(crate) collector: CollectorParty<RecentLog>,
+    pub(crate) seats: Vec<SeatParty<L>>,
+    pub(crate) collector: CollectorParty<L>,
 }
 
-impl Model for Machine {
+impl<L: CountsEntries> Model for Machine<L> {
     ghost use Rattle.std.specs.Prelude.{◌++◌, ◌∷◌, [], map};
     ghost use Rattle.core_machine.specs.machine.Value.{MachineValue, IsMachine};
 
@@ -55,7 +57,7 @@ impl Model for Machine {
     }) };
 }
 
-impl Machine {
+impl<L: CountsEntries> Machine<L> {
     /// The heap whose machine it is.
     pub fn heap(&self) -> Heap
         ensures heap { result ≡ self.now.heap }
@@ -223,34 +225,6 @@ impl Machine {
         let found = perform(&mut self.words, &heap, step);
         let answer = self.collector.learn(&heap, found);
         (found, answer)
-    }
-
-    /// The party's entries behind those that were forgotten, in their order.
-    pub fn recent(&self, party: u8) -> &[Entry]
-        requires { IsParty self.now party }
-        ensures recent { result.now ≡ recent_of self.now party }
-        ensures within { forgotten_of self.now party ≤ length (log_of self.now party) }
-    {
-        match self.seats.get(party as usize) {
-            Some(seat) => seat.recent(),
-            None => self.collector.recent(),
-        }
-    }
-
-    /// Forgets the party's entries so far.
-    pub fn forget(&mut self, party: u8)
-        requires { IsParty self.old party }
-        ensures same { self.new ≡ record self.old { spares = self.new.spares; forgotten = self.new.forgotten } }
-        ensures forgotten { forgotten_of self.new party ≡ length (log_of self.old party) }
-        ensures more { spare_of self.old party ≤ spare_of self.new party }
-        ensures others { (other : ℕ) → other ≢ party → (forgotten_of self.new other ≡ forgotten_of self.old other) × (spare_of self.new other ≡ spare_of self.old other) }
-    {
-        if (party as usize) < self.seats.len() {
-            let seat = &mut self.seats[party as usize];
-            seat.forget()
-        } else {
-            self.collector.forget()
-        }
     }
 
     /// For how many more entries the party has room.

@@ -2,7 +2,7 @@ ghost use Rattle.std.specs.Prelude.{◌≡◌, ◌≢◌, ℕ, ◌+◌, ◌-◌,
 ghost use Rattle.core_machine.specs.machine.Value.{IsParty, recent_of, spare_of};
 ghost use Rattle.heap_record.specs.Recorded.{claimed_by};
 
-use core_machine::Machine;
+use core_machine::{Machine, ShowsRecent};
 use heap_model::{Effect, Entry};
 
 /// Adds entries, for which there is room.
@@ -21,10 +21,10 @@ fn note_all(list: &mut Vec<Entry>, entries: &[Entry])
 /// Adds the party's entries behind the first `before` that the machine shows, for which there is room, takes them from the spare room, and lets the machine forget
 /// them.
 #[inline(always)]
-pub fn note_since(
+pub fn note_since<L: ShowsRecent>(
     list: &mut Vec<Entry>,
     spare: &mut usize,
-    machine: &mut Machine,
+    machine: &mut Machine<L>,
     party: u8,
     before: usize,
 )

@@ -5,7 +5,7 @@ ghost use Rattle.core_machine.specs.machine.Opening.{IsOpening};
 ghost use Rattle.heap_record.specs.Recorded.{StandsStill, MakesCall, MakesInner};
 
 use crate::note::note_since;
-use core_machine::{Looks, Machine};
+use core_machine::{Log, Looks, Machine, ShowsRecent};
 use core_rule::law_every_run;
 use heap_model::{Command, Entry, Heap, Inner, Memory, Reply, Turn, seat_laws};
 use std::alloc::Global;
@@ -13,10 +13,10 @@ use std::marker::Model;
 
 mod turning;
 
-/// A machine with the history of all that was done to it since its opening. No seat has a call in flight.
+/// A machine with the history of all that was done to it since its opening. No seat has a call in flight. What is in the history the machine's logs may forget.
 #[derive(Drop)]
-pub struct Recorder {
-    machine: Machine,
+pub struct Recorder<L: ShowsRecent = Log> {
+    machine: Machine<L>,
     /// The history, with what was noted between its entries.
     entries: Vec<Entry>,
     spare: usize,
@@ -24,7 +24,7 @@ pub struct Recorder {
     last_turn: Option<Turn>,
 }
 
-impl Model for Recorder {
+impl<L: ShowsRecent> Model for Recorder<L> {
     ghost use Rattle.std.specs.Prelude.{◌-◌, vec_len, vec_capacity};
     ghost use Rattle.heap_model.specs.account.Turned.{without_turned};
     ghost use Rattle.heap_record.specs.Recorded.{Recorded, EventsLeadTo, AnyEvents, HasRoom};
@@ -44,9 +44,9 @@ impl Model for Recorder {
         × HasRoom r.machine (vec_capacity r.entries - vec_len r.entries) r.spare };
 }
 
-impl Recorder {
+impl<L: ShowsRecent> Recorder<L> {
     /// Nothing was done yet.
-    pub fn new(alloc: Global, machine: Machine) -> Recorder
+    pub fn new(alloc: Global, machine: Machine<L>) -> Recorder<L>
         requires { IsOpening machine.heap machine.state }
         ensures { result ≡ record { machine = machine; history = []; listed = []; spare = 0; turns = 0; last_turn = None } }
     {

@@ -7,7 +7,7 @@ ghost use Rattle.heap_runs.specs.PlayHeap.{PlayState, IsPlayed, MayCall, Answers
 ghost use Rattle.heap_runs.specs.MachineHeap.{play_state_of, run_state_of, NotesRightly, IsFresh, CallsMachine};
 
 use crate::play_heap::PlayHeap;
-use core_machine::Machine;
+use core_machine::{Machine, RecentLog};
 use core_rule::law_every_run;
 use heap_model::{
     CollectorCalls, Command, Entry, Heap, Memory, Reply, Turn, TurnCommand, TurnReply, account_laws,
@@ -21,7 +21,7 @@ mod collecting;
 /// A heap over the machine of single steps: a call is all steps of the machine's call, and a turn is one step of its collector.
 #[derive(Drop)]
 pub struct MachineHeap {
-    recorder: Recorder,
+    recorder: Recorder<RecentLog>,
 }
 
 impl Model for MachineHeap {
@@ -42,7 +42,7 @@ impl MachineHeap {
         requires { IsHeap heap }
         ensures { IfOk result (IsFresh heap) }
     {
-        let machine = Machine::make(alloc, heap)?;
+        let machine = Machine::with_logs(alloc, heap)?;
         Ok(MachineHeap {
             recorder: Recorder::new(alloc, machine),
         })

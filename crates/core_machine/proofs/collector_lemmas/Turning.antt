@@ -1,9 +1,10 @@
 -- A machine after a turn of the collector.
-use Rattle.std.proofs.Common.{◌≡◌, ℕ, List, refl, subst, sym}
-use Rattle.core_machine.proofs.Terms.{Heap, Step, FoundPointsWithin, put, InTable, address_of, word_after, found_by, state_after, Turns, SeatWithRoom, MachineValue, IsMachine}
+use Rattle.std.proofs.Common.{◌≡◌, ℕ, ◌+◌, ◌≤◌, List, [], ◌∷◌, ◌++◌, length, map, refl, ap, subst, sym, eq-eqb}
+use Rattle.std.proofs.Math.ListN.{length-map}
+use Rattle.core_machine.proofs.Terms.{Heap, Step, FoundPointsWithin, put, InTable, address_of, word_after, found_by, state_after, Turns, SeatWithRoom, MachineValue, SpendsRoom, IsMachine}
 use Rattle.core_machine.specs.collector.Collector.{Collector, next_turn, collector_after}
 use Rattle.core_machine.proofs.collector_lemmas.{turn_stands}
-use Rattle.core_machine.proofs.machine_lemmas.Parties.{state_of, value_of}
+use Rattle.core_machine.proofs.machine_lemmas.Parties.{state_of, value_of, each_but_last, last_here}
 use Rattle.core_machine.proofs.machine_lemmas.Runs.{machine_after}
 
 module _ (heap : Heap) (words : List ℕ) (parties : List SeatWithRoom) (collector : Collector) (room gone : ℕ) (value : MachineValue) (step : Step)
@@ -34,3 +35,15 @@ module _ (heap : Heap) (words : List ℕ) (parties : List SeatWithRoom) (collect
       → (next_turn heap collector).may → IsMachine heap (state_of words parties collector) → IsMachine heap (state_of now parties next)
   turn_machine found now next is now_is next_is may machine =
       subst (IsMachine heap) (sym (turn_leaves found now next is now_is next_is)) (machine_after heap (state_of words parties collector) Turns machine may)
+
+-- the number behind the seats' is the collector's: it lost no more room than its new entries take, and no seat lost any
+pub turn_spends : (heap : Heap) (words now : List ℕ) (parties : List SeatWithRoom) (collector next : Collector) (room left gone kept : ℕ) (value : MachineValue)
+    → value_of heap words parties collector room gone ≡ value → kept ≡ gone → room + length collector.log ≤ left + length next.log
+    → SpendsRoom value (value_of heap now parties next left kept) (length value.state.seats)
+turn_spends heap words now parties collector next room left gone kept value view same own =
+    subst (λ (v : MachineValue). SpendsRoom v (value_of heap now parties next left kept) (length v.state.seats)) view
+    (rw (length-map parties (λ (s : SeatWithRoom). s.seat)) record {
+      forgotten = ap (λ (n : ℕ). map (λ (s : SeatWithRoom). s.forgotten) parties ++ n ∷ []) same;
+      own = rw (last_here (λ s. s.spare) parties room, last_here (λ s. s.spare) parties left, length-map parties (λ (s : SeatWithRoom). s.seat), eq-eqb (length parties) (length parties) refl) own;
+      others = λ other apart. each_but_last (λ s. s.spare) parties room left other apart;
+    })

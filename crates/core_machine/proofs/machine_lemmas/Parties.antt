@@ -1,9 +1,11 @@
 -- A machine's value as its parties make it up.
-use Rattle.std.proofs.Common.{◌≡◌, ◌≢◌, ℕ, ◌<◌, List, [], ◌∷◌, ◌++◌, length, map, get_or, set, subst, sym, ap, ◌∙◌, arith}
-use Rattle.std.proofs.lemmas.List.{length-set, map-set, get_or-map, get_or-set_same, get_or-set_other, set-append_left}
+use Rattle.std.proofs.Common.{suc, ◌≡◌, ◌↔◌, Bool, ◌≢◌, ℕ, ◌<◌, List, [], ◌∷◌, ◌++◌, length, map, get_or, set, subst, sym, ap, ◌∙◌, inl, inr, arith, length-append}
+use Rattle.std.specs.Prelude.{IsTrue}
+use Rattle.std.proofs.lemmas.Bool.Decides.{leb_tells}
+use Rattle.std.proofs.lemmas.List.{length-set, map-set, get_or-map, get_or_past, get_or-set_same, get_or-set_other, set-append_left}
 use Rattle.std.proofs.Math.ListN.{get_or-append, length-map}
-use Rattle.std.proofs.Math.Seq.{map-set_same}
-use Rattle.core_machine.proofs.Terms.{Heap, Seat, absent_seat, State, seat_at, Fits, SeatWithRoom, MachineValue, IsMachine}
+use Rattle.std.proofs.Math.Seq.{get_or-append_seam, map-set_same}
+use Rattle.core_machine.proofs.Terms.{Heap, Command, MayBegin, Seat, absent_seat, State, seat_at, Fits, SeatWithRoom, MachineValue, IsMachine}
 use Rattle.core_machine.specs.collector.Collector.{Collector}
 
 -- the state of these words and parties
@@ -58,3 +60,28 @@ each_other of parties last number p other within apart =
     let long = length-map parties of in
     rw (map-set of parties number p, ← set-append_left (map of parties) (last ∷ []) number (of p) (omega arith))
     (get_or-set_other (map of parties ++ last ∷ []) number other (of p) 0 apart)
+
+-- of every party but the collector it says the same, whatever stands for the collector
+pub each_but_last : (of : SeatWithRoom → ℕ) (parties : List SeatWithRoom) (last now other : ℕ) → other ≢ length parties
+    → get_or (map of parties ++ now ∷ []) other 0 ≡ get_or (map of parties ++ last ∷ []) other 0
+each_but_last of parties last now other apart =
+    let long = length-map parties of in
+    elim (leb_tells (suc other) (length parties)) as (λ _. get_or (map of parties ++ now ∷ []) other 0 ≡ get_or (map of parties ++ last ∷ []) other 0) [
+      | inl within ↦ get_or-append (map of parties) (now ∷ []) 0 other (omega (arith, within.1)) ∙ sym (get_or-append (map of parties) (last ∷ []) 0 other (omega (arith, within.1)))
+      | inr past ↦
+          let far = length-append (map of parties) (now ∷ []) in
+          let far_too = length-append (map of parties) (last ∷ []) in
+          get_or_past (map of parties ++ now ∷ []) other 0 (omega (arith, past.1)) ∙ sym (get_or_past (map of parties ++ last ∷ []) other 0 (omega (arith, past.1)))
+    ]
+
+-- and of the collector what stands for it
+pub last_here : (of : SeatWithRoom → ℕ) (parties : List SeatWithRoom) (last : ℕ) → get_or (map of parties ++ last ∷ []) (length parties) 0 ≡ last
+last_here of parties last = subst (λ (n : ℕ). get_or (map of parties ++ last ∷ []) n 0 ≡ last) (length-map parties of) (get_or-append_seam (map of parties) last [] 0)
+
+-- a seat that is there may begin what its party may
+pub begins_of : {told : Bool} (words : List ℕ) (parties : List SeatWithRoom) (collector : Collector) (number : ℕ) (p : SeatWithRoom) (command : Command) → number < length parties
+    → p ≡ get_or parties number p → (IsTrue told ↔ MayBegin p.seat command)
+    → (IsTrue told ↔ (number < length (state_of words parties collector).seats) × MayBegin (seat_at (state_of words parties collector) number) command)
+begins_of words parties collector number p command within is tells =
+    let long = length-map parties (λ (s : SeatWithRoom). s.seat) in
+    rw (seat_of words parties collector number p within ∙ sym (ap (λ (s : SeatWithRoom). s.seat) is)) (λ may. (omega (arith, long, within), tells.0 may), λ both. tells.1 both.1)

@@ -1,11 +1,11 @@
 -- A machine at the step of a seat: what is known before it, and what it leaves. The machine is given by its parts, and the step is due by its value.
-use Rattle.std.proofs.Common.{◌≡◌, ℕ, ◌+◌, ◌<◌, ◌≤◌, List, length, get_or, set, Some, subst, sym}
+use Rattle.std.proofs.Common.{◌≡◌, ℕ, ◌+◌, ◌<◌, ◌≤◌, List, length, get_or, set, Some, subst, sym, arith}
 use Rattle.std.specs.Prelude.{IfSome}
 use Rattle.core_machine.proofs.Terms.{Heap, Step, put, InTable, FoundPointsWithin, address_of, word_after, Fits, next_move, due_step, seat_after_due, seat_at, found_by, Steps}
-use Rattle.core_machine.proofs.Terms.{state_after, SeatWithRoom, MachineValue, SpendsRoom, IsMachine}
+use Rattle.core_machine.proofs.Terms.{state_after, SeatWithRoom, MachineValue, spare_of, SpendsRoom, IsMachine}
 use Rattle.core_machine.specs.collector.Collector.{Collector}
 use Rattle.core_machine.proofs.machine_lemmas.Parties.{state_of, value_of, fits_of}
-use Rattle.core_machine.proofs.machine_lemmas.Stepping.{due_within, step_in_table, step_found, step_machine, step_state_of, step_spends}
+use Rattle.core_machine.proofs.machine_lemmas.Stepping.{due_within, step_in_table, step_found, step_machine, step_state_of, step_spends, spare_before}
 
 module _ (heap : Heap) (words : List ℕ) (parties : List SeatWithRoom) (collector : Collector) (room gone : ℕ) (value : MachineValue) (number : ℕ) (step : Step)
     (view : value_of heap words parties collector room gone ≡ value) (by_value : due_step value.heap number (seat_at value.state number) ≡ Some step) where
@@ -28,6 +28,12 @@ module _ (heap : Heap) (words : List ℕ) (parties : List SeatWithRoom) (collect
       → found ≡ found_by heap (state_of words parties collector) step → IfSome (next_move heap number party.seat) (λ m. FoundPointsWithin heap (address_of m.step) found)
   seat_finds party found here machine is =
       step_found heap words parties collector room gone number party party within here step found machine due is
+
+  -- the party has the room that the value says
+  pub seat_room : (party : SeatWithRoom) → party ≡ get_or parties number party → 2 ≤ spare_of value number → 1 < party.spare
+  seat_room party here room_ =
+      let is = spare_before heap words parties collector room gone number party party within here in
+      omega (arith, is, rw (← view) at room_)
 
   -- the party that got room loses no more than its new entries take
   pub seat_spends : (party next : SeatWithRoom) (now : List ℕ) → party ≡ get_or parties number party

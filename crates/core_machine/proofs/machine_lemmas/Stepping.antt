@@ -7,7 +7,8 @@ use Rattle.std.proofs.lemmas.List.{length-set, length-map, get_or-set_same, get_
 use Rattle.std.proofs.Math.Seq.{map-set_same}
 use Rattle.core_machine.proofs.Terms.{Heap, Command, Step, put, InTable, FoundPointsWithin, address_of, word_after, Seat, absent_seat, Move, next_move, due_step, seat_after_due}
 use Rattle.core_machine.proofs.Terms.{seat_at, found_by, MayBegin, MayBeginInner, after_begin, after_inner_begin, Begins, BeginsInner, Steps, state_after, state_after_due}
-use Rattle.core_machine.proofs.Terms.{SeatWithRoom, spare_of, forgotten_of, log_of, SpendsRoom, IsMachine}
+use Rattle.core_machine.proofs.Terms.{SeatWithRoom, MachineValue, Can, spare_of, forgotten_of, log_of, SpendsRoom, IsMachine}
+use Rattle.core_machine.specs.machine.Value.{due_of, event_of}
 use Rattle.heap_model.specs.declared.calls.collect.Inner.{Inner}
 use Rattle.core_machine.specs.collector.Collector.{Collector}
 use Rattle.core_machine.proofs.machine_lemmas.Runs.{machine_after, due_within_table}
@@ -178,3 +179,18 @@ module _ (heap : Heap) (words : List ℕ) (parties : List SeatWithRoom) (collect
 
   pub room_machine : next.seat ≡ party.seat → IsMachine heap (state_of words parties collector) → IsMachine heap (state_of words (set parties number next) collector)
   room_machine same machine = subst (IsMachine heap) (sym (room_state same)) machine
+
+-- the next step of a party that is a seat is that seat's
+module _ (heap : Heap) (words : List ℕ) (parties : List SeatWithRoom) (collector : Collector) (room gone : ℕ) (value : MachineValue) (number : ℕ) where
+  not_last : value_of heap words parties collector room gone ≡ value → number < length parties → eqb number (length value.state.seats) ≡ false
+  not_last view within =
+      let long = length-map parties (λ (s : SeatWithRoom). s.seat) in
+      rw (← view) (ne_eqb number (length (map (λ s. s.seat) parties)) (λ e. absurd (omega arith)))
+
+  pub seat_event : value_of heap words parties collector room gone ≡ value → number < length parties → event_of value.state number ≡ Steps number
+  seat_event view within = rw (not_last view within) refl
+
+  pub seat_can : (step : Step) → value_of heap words parties collector room gone ≡ value → number < length parties → due_of value.heap value.state number ≡ Some step
+      → Can value.heap value.state (event_of value.state number)
+  seat_can step view within due =
+      rw (seat_event view within) (due_some (next_move value.heap number (seat_at value.state number)) step (rw (not_last view within) at due))

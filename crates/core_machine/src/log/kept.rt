@@ -1,6 +1,6 @@
 ghost use Rattle.std.specs.Prelude.{◌≡◌, ◌+◌, ◌-◌, ◌<◌, ◌≤◌, ◌^◌, length, [], ◌∷◌, ◌++◌, slice_get, OnOk, OnErr};
 
-use crate::log::{CountsEntries, Entries, ShowsLast};
+use crate::log::{CountsEntries, Entries, ShowsLast, ShowsRecent};
 use heap_model::{Entry, Memory};
 use std::alloc::Global;
 use std::marker::Model;
@@ -72,6 +72,17 @@ impl Entries for Log {
 impl CountsEntries for Log {
     fn count(&self) -> usize {
         self.entries.len()
+    }
+}
+
+impl ShowsRecent for Log {
+    fn recent(&self) -> &[Entry] {
+        self.entries.as_slice()
+    }
+
+    fn forget(&mut self)
+        ensures { self.new ≡ self.old }
+    {
     }
 }
 

@@ -1,7 +1,7 @@
 ghost use Rattle.std.specs.Prelude.{◌≡◌, ◌+◌, ◌-◌, ◌<◌, ◌≤◌, ◌^◌, length, drop, [], ◌∷◌, ◌++◌, OnOk, OnErr};
 
 use crate::log::told::ToldLog;
-use crate::log::{CountsEntries, Entries};
+use crate::log::{CountsEntries, Entries, ShowsRecent};
 use heap_model::{Entry, Memory};
 use std::alloc::Global;
 use std::marker::Model;
@@ -29,25 +29,6 @@ impl Model for RecentLog {
     ghost invariant = { λ log. (log.recent.items ≡ drop log.before log.told.entries)
         × (log.before ≤ length log.told.entries)
         × (length log.told.entries < 2 ^ 64) };
-}
-
-impl RecentLog {
-    /// The entries behind those that were forgotten.
-    pub fn recent(&self) -> &[Entry]
-        ensures recent { result.now ≡ drop self.now.forgotten self.now.entries }
-        ensures within { self.now.forgotten ≤ length self.now.entries }
-    {
-        self.recent.as_slice()
-    }
-
-    /// Forgets the entries so far.
-    pub fn forget(&mut self)
-        ensures forgotten { self.new ≡ record self.old { spare = self.new.spare; forgotten = length self.old.entries } }
-        ensures spare { self.old.spare ≤ self.new.spare }
-    {
-        self.before += self.recent.len();
-        self.recent.clear();
-    }
 }
 
 impl Entries for RecentLog {
@@ -89,5 +70,19 @@ impl Entries for RecentLog {
 impl CountsEntries for RecentLog {
     fn count(&self) -> usize {
         self.before + self.recent.len()
+    }
+}
+
+impl ShowsRecent for RecentLog {
+    fn recent(&self) -> &[Entry] {
+        self.recent.as_slice()
+    }
+
+    fn forget(&mut self)
+        ensures forgotten { self.new ≡ record self.old { spare = self.new.spare; forgotten = length self.old.entries } }
+        ensures spare { self.old.spare ≤ self.new.spare }
+    {
+        self.before += self.recent.len();
+        self.recent.clear();
     }
 }

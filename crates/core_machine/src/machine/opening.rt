@@ -8,7 +8,7 @@ ghost use Rattle.core_machine.specs.table.Layout.{at, InTable, table_length};
 ghost use Rattle.core_machine.specs.machine.Opening.{IsOpening, opening_word, opening_seat, with_left, with_board};
 
 use crate::collector::CollectorParty;
-use crate::log::recent::RecentLog;
+use crate::log::CountsEntries;
 use crate::machine::Machine;
 use crate::seat::SeatParty;
 use crate::table::address::Address;
@@ -22,8 +22,19 @@ use std::alloc::Global;
 const FIRST_GROUP: [u16; 16] = [0, 1, 2, 3, 4, 5, 6, 7, 8, 9, 10, 11, 12, 13, 14, 15];
 
 impl Machine {
-    /// The machine of a heap that opens.
+    /// The machine of a heap that opens, whose logs keep all entries.
     pub fn make(alloc: Global, heap: Heap) -> Result<Machine, Memory>
+        requires { IsHeap heap }
+        ensures heap { IfOk result (λ machine. machine.heap ≡ heap) }
+        ensures opening { IfOk result (λ machine. IsOpening heap machine.state) }
+    {
+        Machine::with_logs(alloc, heap)
+    }
+}
+
+impl<L: CountsEntries> Machine<L> {
+    /// The machine of a heap that opens, with logs of this type.
+    pub fn with_logs(alloc: Global, heap: Heap) -> Result<Machine<L>, Memory>
         requires { IsHeap heap }
         ensures heap { IfOk result (λ machine. machine.heap ≡ heap) }
         ensures opening { IfOk result (λ machine. IsOpening heap machine.state) }
@@ -40,7 +51,7 @@ impl Machine {
 }
 
 /// The heap's seats at the opening.
-fn opening_seats(alloc: Global, heap: &Heap) -> Result<Vec<SeatParty<RecentLog>>, Memory>
+fn opening_seats<L: CountsEntries>(alloc: Global, heap: &Heap) -> Result<Vec<SeatParty<L>>, Memory>
     requires { IsHeap heap.now }
     ensures { IfOk result (λ seats. map (λ s. s.seat) seats.items ≡ map (opening_seat heap.now) (range_with_len 0 heap.now.seats)) }
 {

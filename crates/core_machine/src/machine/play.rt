@@ -7,10 +7,11 @@ ghost use Rattle.core_machine.specs.seat.Commands.{IsRecordCall, IsArrayCall};
 ghost use Rattle.core_machine.specs.machine.Calls.{PlaysCall, CountsCall, TellsLeave, AnswersNew, AnswersArray, IsPlaceRefusal, LeavesAll, last_reply_of};
 ghost use Rattle.core_machine.specs.machine.Value.{spare_of, SpendsRoom};
 
+use crate::log::ShowsRecent;
 use crate::machine::Machine;
 use heap_model::{Command, Entry, Inner, Reply};
 
-impl Machine {
+impl<L: ShowsRecent> Machine<L> {
     /// Makes a whole call of the seat, with no step of others between, and answers its reply.
     pub fn play_call(&mut self, seat: u8, command: &Command) -> Reply
         requires can { Can self.old.heap self.old.state (Begins seat command.now) }

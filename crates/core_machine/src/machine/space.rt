@@ -5,13 +5,14 @@ ghost use Rattle.core_machine.specs.machine.Calls.{free_count};
 ghost use Rattle.core_machine.specs.table.Fragments.{clear_in};
 ghost use Rattle.core_machine.specs.table.Layout.{table_length};
 
+use crate::log::CountsEntries;
 use crate::machine::Machine;
 use crate::table::address::Address;
 use crate::table::words::load;
 use heap_model::Heap;
 use heap_words::Group;
 
-impl Machine {
+impl<L: CountsEntries> Machine<L> {
     /// How many fragments have no taken bit.
     pub fn free(&self) -> usize
         ensures free { result ≡ free_count self.now.heap self.now.state.words }

@@ -1,7 +1,6 @@
 ghost use Rattle.std.specs.Prelude.{◌≡◌, ◌+◌, ◌-◌, ◌<◌, ◌≤◌, ◌^◌, length, drop, slice_get};
 
-use crate::log::recent::RecentLog;
-use crate::log::{CountsEntries, Entries, ShowsLast};
+use crate::log::{CountsEntries, Entries, ShowsLast, ShowsRecent};
 use crate::place::Place;
 use crate::seat::SeatParty;
 use crate::seat::looks::Looks;
@@ -25,7 +24,7 @@ impl SeatParty {
     }
 }
 
-impl SeatParty<RecentLog> {
+impl<L: ShowsRecent> SeatParty<L> {
     /// The seat's entries behind those that were forgotten.
     pub fn recent(&self) -> &[Entry]
         ensures recent { result.now ≡ drop self.now.forgotten self.now.seat.mine }
@@ -34,9 +33,9 @@ impl SeatParty<RecentLog> {
         self.mine.recent()
     }
 
-    /// Forgets the entries so far.
+    /// The entries so far may be forgotten.
     pub fn forget(&mut self)
-        ensures forgotten { self.new ≡ record self.old { spare = self.new.spare; forgotten = length self.old.seat.mine } }
+        ensures same { self.new.seat ≡ self.old.seat }
         ensures spare { self.old.spare ≤ self.new.spare }
     {
         self.mine.forget();

@@ -5,10 +5,11 @@ ghost use Rattle.heap_record.specs.Recorded.{collector_of, StandsStill, MakesTur
 
 use crate::note::note_since;
 use crate::recorder::Recorder;
+use core_machine::ShowsRecent;
 use core_rule::law_every_run;
 use heap_model::{CollectorCalls, Memory, Turn};
 
-impl CollectorCalls for Recorder {
+impl<L: ShowsRecent> CollectorCalls for Recorder<L> {
     ghost state = { collector_of };
 
     ghost turned = { MakesTurn };

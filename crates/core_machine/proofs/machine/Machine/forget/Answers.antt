@@ -1,32 +1,25 @@
-use Rattle.std.proofs.Common.{arith, ◌<◌, length, refl, ap}
+use Rattle.std.proofs.Common.{◌≡◌, ◌≢◌, ℕ, ◌<◌, length, refl, subst, arith}
+use Rattle.std.proofs.Math.ListN.{length-map}
 use Rattle.core_machine.proofs.Terms.{SeatWithRoom}
-use Rattle.core_machine.proofs.machine_lemmas.Parties.{each_here, each_other}
-use Rattle.core_machine.proofs.machine_lemmas.Stepping.{room_state, room_machine, spare_before, spare_here, log_before}
+use Rattle.core_machine.proofs.machine_lemmas.Parties.{each_other, each_but_last}
+use Rattle.core_machine.proofs.machine_lemmas.Stepping.{room_state, room_machine, spare_before, spare_here}
 use Rattle.core_machine.proofs.machine.Machine.forget.Goals as goal
 
 pub invariant_of-self : goal.invariant_of-self
-invariant_of-self c =
+invariant_of-self g c =
     let m = c.self.inside in
     room_machine m.heap m.words.items m.seats.items m.collector.collector 0 0 c.args.party c.index_mut-seat.result.now c.forget.new.self
-    (omega arith) c.index_mut-seat.ensures.value (ap (λ (p : SeatWithRoom). p.seat) c.forget.ensures.forgotten) c.self.invariant
+    (omega arith) c.index_mut-seat.ensures.value c.forget.ensures.same c.self.invariant
 
 pub returns-then-party-len-clause-same : goal.returns-then-party-len-clause-same
-returns-then-party-len-clause-same c =
+returns-then-party-len-clause-same g c =
     let m = c.self.inside in
     let state = room_state m.heap m.words.items m.seats.items m.collector.collector 0 0 c.args.party c.index_mut-seat.result.now c.forget.new.self
-    (omega arith) c.index_mut-seat.ensures.value (ap (λ (p : SeatWithRoom). p.seat) c.forget.ensures.forgotten) in
+    (omega arith) c.index_mut-seat.ensures.value c.forget.ensures.same in
     rw (← c.self.view_is, state) refl
 
-pub returns-then-party-len-clause-forgotten : goal.returns-then-party-len-clause-forgotten
-returns-then-party-len-clause-forgotten c =
-    let m = c.self.inside in
-    let within : c.args.party < length m.seats.items = omega arith in
-    let before = log_before m.heap m.words.items m.seats.items m.collector.collector m.collector.spare m.collector.forgotten c.args.party c.index_mut-seat.result.now c.forget.new.self within c.index_mut-seat.ensures.value in
-    let now = each_here (λ (p : SeatWithRoom). p.forgotten) m.seats.items m.collector.forgotten c.args.party c.forget.new.self within in
-    rw (← c.self.view_is, before, now) (ap (λ (p : SeatWithRoom). p.forgotten) c.forget.ensures.forgotten)
-
 pub returns-then-party-len-clause-more : goal.returns-then-party-len-clause-more
-returns-then-party-len-clause-more c =
+returns-then-party-len-clause-more g c =
     let m = c.self.inside in
     let within : c.args.party < length m.seats.items = omega arith in
     let before = spare_before m.heap m.words.items m.seats.items m.collector.collector m.collector.spare m.collector.forgotten c.args.party c.index_mut-seat.result.now c.forget.new.self within c.index_mut-seat.ensures.value in
@@ -34,10 +27,20 @@ returns-then-party-len-clause-more c =
     rw (← c.self.view_is, before, now) c.forget.ensures.spare
 
 pub returns-then-party-len-clause-others : goal.returns-then-party-len-clause-others
-returns-then-party-len-clause-others c =
+returns-then-party-len-clause-others g c =
     let m = c.self.inside in
     let within : c.args.party < length m.seats.items = omega arith in
     rw (← c.self.view_is) (λ other apart. (
       each_other (λ (p : SeatWithRoom). p.forgotten) m.seats.items m.collector.forgotten c.args.party c.forget.new.self other within apart,
       each_other (λ (p : SeatWithRoom). p.spare) m.seats.items m.collector.spare c.args.party c.forget.new.self other within apart,
+    ))
+
+pub returns-else-party-len-clause-others : goal.returns-else-party-len-clause-others
+returns-else-party-len-clause-others g c =
+    let m = c.self.inside in
+    let long = length-map m.seats.items (λ (p : SeatWithRoom). p.seat) in
+    let last : c.args.party ≡ length m.seats.items = omega (arith, c.if-party-len.false, c.len.ensures, rw (← c.self.view_is) at c.requires) in
+    rw (← c.self.view_is) (λ other apart. (
+      each_but_last (λ (p : SeatWithRoom). p.forgotten) m.seats.items m.collector.forgotten c.forget-else-party-len.new.self.forgotten other (subst (λ (n : ℕ). other ≢ n) last apart),
+      each_but_last (λ (p : SeatWithRoom). p.spare) m.seats.items m.collector.spare c.forget-else-party-len.new.self.spare other (subst (λ (n : ℕ). other ≢ n) last apart),
     ))

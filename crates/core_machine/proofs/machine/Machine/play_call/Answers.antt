@@ -7,7 +7,7 @@ use Rattle.core_machine.proofs.call_lemmas.CallEnd.{none_left, call_steps, call_
 use Rattle.core_machine.proofs.machine.Machine.play_call.Goals as goal
 
 pub loop-step-init : goal.loop-step-init
-loop-step-init c =
+loop-step-init g c =
     let old = c.args.self.now in
     let start : IsMachine old.heap old.state = subst (λ (v : MachineValue). IsMachine v.heap v.state) c.self.view_is c.self.invariant in
     let begun_ : c.begin.new.self.state ≡ state_after old.heap old.state (Begins c.args.seat c.args.command.now) = ap (λ (v : MachineValue). v.state) c.begin.ensures in
@@ -24,41 +24,41 @@ loop-step-init c =
     }
 
 pub loop-step-smaller : goal.loop-step-smaller
-loop-step-smaller c =
+loop-step-smaller g c =
     (call_steps c.loop-step.invariant.goes c.loop-step.invariant.heap c.loop-step.invariant.spent (sym c.due_of_seat.ensures ∙ c.in-Some.is)
     c.step_of_seat.ensures.heap c.step_of_seat.ensures.state c.step_of_seat.ensures.spent).0.fewer
 
 pub loop-step-preserved : goal.loop-step-preserved
-loop-step-preserved c =
+loop-step-preserved g c =
     let next = call_steps c.loop-step.invariant.goes c.loop-step.invariant.heap c.loop-step.invariant.spent (sym c.due_of_seat.ensures ∙ c.in-Some.is)
     c.step_of_seat.ensures.heap c.step_of_seat.ensures.state c.step_of_seat.ensures.spent in
     record { heap = next.0.heap_is; goes = next.1; spent = next.0.spent }
 
 pub returns-clause-steps : goal.returns-clause-steps
-returns-clause-steps c =
+returns-clause-steps g c =
     (call_ends c.loop-step.invariant.goes c.loop-step.invariant.spent c.loop-step.invariant.heap c.due_of_seat.ensures c.in_default.not-Some c.recent-2.ensures.recent c.last_reply.ensures c.in-Some-last_reply.is).steps
 
 pub returns-clause-answer : goal.returns-clause-answer
-returns-clause-answer c =
+returns-clause-answer g c =
     (call_ends c.loop-step.invariant.goes c.loop-step.invariant.spent c.loop-step.invariant.heap c.due_of_seat.ensures c.in_default.not-Some c.recent-2.ensures.recent c.last_reply.ensures c.in-Some-last_reply.is).answer
 
 pub unreachable-requires : goal.unreachable-requires
-unreachable-requires c =
+unreachable-requires g c =
     call_replies c.loop-step.invariant.goes c.loop-step.invariant.spent (none_left c.loop-step.self c.args.seat c.loop-step.invariant.heap c.due_of_seat.ensures c.in_default.not-Some)
     (ap last_reply_of (sym c.recent-2.ensures.recent) ∙ sym c.last_reply.ensures ∙ c.in-None.is)
 
 pub returns-clause-array : goal.returns-clause-array
-returns-clause-array c =
+returns-clause-array g c =
     (call_ends c.loop-step.invariant.goes c.loop-step.invariant.spent c.loop-step.invariant.heap c.due_of_seat.ensures c.in_default.not-Some c.recent-2.ensures.recent c.last_reply.ensures c.in-Some-last_reply.is).array
 
 pub returns-clause-refused : goal.returns-clause-refused
-returns-clause-refused c =
+returns-clause-refused g c =
     (call_ends c.loop-step.invariant.goes c.loop-step.invariant.spent c.loop-step.invariant.heap c.due_of_seat.ensures c.in_default.not-Some c.recent-2.ensures.recent c.last_reply.ensures c.in-Some-last_reply.is).refused
 
 pub returns-clause-counts : goal.returns-clause-counts
-returns-clause-counts c =
+returns-clause-counts g c =
     (call_ends c.loop-step.invariant.goes c.loop-step.invariant.spent c.loop-step.invariant.heap c.due_of_seat.ensures c.in_default.not-Some c.recent-2.ensures.recent c.last_reply.ensures c.in-Some-last_reply.is).counts
 
 pub returns-clause-leave : goal.returns-clause-leave
-returns-clause-leave c =
+returns-clause-leave g c =
     (call_ends c.loop-step.invariant.goes c.loop-step.invariant.spent c.loop-step.invariant.heap c.due_of_seat.ensures c.in_default.not-Some c.recent-2.ensures.recent c.last_reply.ensures c.in-Some-last_reply.is).leave

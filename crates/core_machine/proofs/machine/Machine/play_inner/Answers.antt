@@ -5,7 +5,7 @@ use Rattle.core_machine.proofs.call_lemmas.CallEnd.{none_left}
 use Rattle.core_machine.proofs.machine.Machine.play_inner.Goals as goal
 
 pub loop-step-init : goal.loop-step-init
-loop-step-init c =
+loop-step-init g c =
     let old = c.args.self.now in
     let start : IsMachine old.heap old.state = subst (λ (v : MachineValue). IsMachine v.heap v.state) c.self.view_is c.self.invariant in
     let begun_ : c.begin_inner.new.self.state ≡ state_after old.heap old.state (BeginsInner c.args.seat c.args.inner) = ap (λ (v : MachineValue). v.state) c.begin_inner.ensures in
@@ -20,18 +20,18 @@ loop-step-init c =
     }
 
 pub loop-step-smaller : goal.loop-step-smaller
-loop-step-smaller c =
+loop-step-smaller g c =
     (inner_steps c.loop-step.invariant.goes c.loop-step.invariant.heap c.loop-step.invariant.spent (sym c.due_of_seat.ensures ∙ c.in-Some.is)
     c.step_of_seat.ensures.heap c.step_of_seat.ensures.state c.step_of_seat.ensures.spent).0.fewer
 
 pub loop-step-preserved : goal.loop-step-preserved
-loop-step-preserved c =
+loop-step-preserved g c =
     let next = inner_steps c.loop-step.invariant.goes c.loop-step.invariant.heap c.loop-step.invariant.spent (sym c.due_of_seat.ensures ∙ c.in-Some.is)
     c.step_of_seat.ensures.heap c.step_of_seat.ensures.state c.step_of_seat.ensures.spent in
     record { heap = next.0.heap_is; goes = next.1; spent = next.0.spent }
 
 pub returns-clause-plays : goal.returns-clause-plays
-returns-clause-plays c =
+returns-clause-plays g c =
     let old = c.args.self.now in
     inner_over old.heap old.state c.loop-step.self.state c.args.seat c.args.inner c.loop-step.invariant.goes.playing
     (none_left c.loop-step.self c.args.seat c.loop-step.invariant.heap c.due_of_seat.ensures c.in_default.not-Some)

@@ -5,13 +5,13 @@ use Rattle.core_machine.proofs.machine_lemmas.Stepping.{room_state, room_machine
 use Rattle.core_machine.proofs.machine.Machine.room.Goals as goal
 
 pub invariant_of-self : goal.invariant_of-self
-invariant_of-self c =
+invariant_of-self g c =
     let m = c.self.inside in
     room_machine m.heap m.words.items m.seats.items m.collector.collector 0 0 c.args.party c.index_mut-seat.result.now c.room.new.self
     (omega arith) c.index_mut-seat.ensures.value c.room.ensures.same c.self.invariant
 
 pub returns-then-party-len-clause-same : goal.returns-then-party-len-clause-same
-returns-then-party-len-clause-same c =
+returns-then-party-len-clause-same g c =
     let m = c.self.inside in
     let state = room_state m.heap m.words.items m.seats.items m.collector.collector 0 0 c.args.party c.index_mut-seat.result.now c.room.new.self
     (omega arith) c.index_mut-seat.ensures.value c.room.ensures.same in
@@ -19,7 +19,7 @@ returns-then-party-len-clause-same c =
     rw (← c.self.view_is, state, forgot) refl
 
 pub returns-then-party-len-clause-more : goal.returns-then-party-len-clause-more
-returns-then-party-len-clause-more c =
+returns-then-party-len-clause-more g c =
     let m = c.self.inside in
     let room = m.collector.spare in
     let within : c.args.party < length m.seats.items = omega arith in
@@ -28,14 +28,14 @@ returns-then-party-len-clause-more c =
     rw (← c.self.view_is, before, now) c.room.ensures.more
 
 pub returns-then-party-len-clause-others : goal.returns-then-party-len-clause-others
-returns-then-party-len-clause-others c =
+returns-then-party-len-clause-others g c =
     let m = c.self.inside in
     let room = m.collector.spare in
     rw (← c.self.view_is) (λ other apart. spare_other m.heap m.words.items m.seats.items m.collector.collector room m.collector.forgotten c.args.party c.index_mut-seat.result.now c.room.new.self
     (omega arith) c.index_mut-seat.ensures.value m.words.items other apart)
 
 pub returns-then-party-len-clause-room : goal.returns-then-party-len-clause-room
-returns-then-party-len-clause-room c =
+returns-then-party-len-clause-room g c =
     let m = c.self.inside in
     let room = m.collector.spare in
     let now = spare_here m.heap m.words.items m.seats.items m.collector.collector room m.collector.forgotten c.args.party c.index_mut-seat.result.now c.room.new.self

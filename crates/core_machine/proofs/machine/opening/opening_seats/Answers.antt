@@ -7,7 +7,7 @@ use Rattle.core_machine.specs.machine.Opening.{opening_seat}
 use Rattle.core_machine.proofs.machine.opening.opening_seats.Goals as goal
 
 pub loop-number-preserved : goal.loop-number-preserved
-loop-number-preserved c =
+loop-number-preserved g c =
     rw (c.in_ok-push.ensures.items)
     (map-append (λ (s : SeatWithRoom). s.seat) c.loop-number.seats.items (c.opening.result ∷ [])
     ∙ ap (λ (l : List Seat). l ++ c.opening.result.seat ∷ []) c.loop-number.invariant

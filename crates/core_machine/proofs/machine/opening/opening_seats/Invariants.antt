@@ -5,4 +5,4 @@ use Rattle.core_machine.specs.machine.Opening.{opening_seat}
 use Rattle.core_machine.proofs.machine.opening.opening_seats.Given as goal
 
 abbrev pub invariant-loop-number : goal.invariant-loop-number
-invariant-loop-number l = map (λ (s : SeatWithRoom). s.seat) l.seats.items ≡ map (opening_seat l.heap) (range_with_len 0 l.number)
+invariant-loop-number g l = map (λ (s : SeatWithRoom). s.seat) l.seats.items ≡ map (opening_seat l.heap) (range_with_len 0 l.number)

@@ -5,5 +5,5 @@ use Rattle.heap_record.proofs.Leading.{led_none}
 use Rattle.heap_record.proofs.recorder.Recorder.new.Goals as goal
 
 pub invariant_of-result : goal.invariant_of-result
-invariant_of-result c =
+invariant_of-result g c =
     (led_none AnyEvents c.args.machine.heap c.args.machine.state (without_turned c.new.result.items) c.heap.ensures.machine.limits c.requires (ap without_turned c.new.ensures.items) tt, record { own_room = omega arith; listed_room = omega arith })

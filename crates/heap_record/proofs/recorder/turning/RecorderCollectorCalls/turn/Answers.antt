@@ -14,29 +14,29 @@ use Rattle.heap_record.proofs.recorder.turning.RecorderCollectorCalls.turn.Goals
 use Rattle.heap_record.proofs.recorder.turning.RecorderCollectorCalls.turn.Goals.{After-play_turn-turn, After-saturating_add-self-inside}
 
 -- the machine's turn
-facts : (c : After-play_turn-turn) → TurnFacts c.self.inside.machine c.play_turn-turn.new.self c.heap-collector.result.seats
-facts c =
+facts : (g : goal.Over) (c : After-play_turn-turn g) → TurnFacts c.self.inside.machine c.play_turn-turn.new.self c.heap-collector.result.seats
+facts g c =
     let law = c.law_every_run.ensures in
-    noted_turn law.run law.step law.turns (the_view c.self.inside) c.play_turn-turn.new.self c.heap-collector.result c.self.invariant.0 c.play_turn-turn.ensures.can c.play_turn-turn.ensures.state c.heap-collector.ensures.heap
+    noted_turn law.run law.step law.turns (seen g c) c.play_turn-turn.new.self c.heap-collector.result c.self.invariant.0 c.play_turn-turn.ensures.can c.play_turn-turn.ensures.state c.heap-collector.ensures.heap
 
 -- what the machine showed before
-remembers : (c : After-play_turn-turn) → Remembers c.self.inside.machine c.play_turn-turn.new.self c.heap-collector.result.seats c.recent-before.result.now
-remembers c = record { recent = c.recent-before.ensures.recent; within = c.recent-before.ensures.within; same = c.play_turn-turn.ensures.spent.forgotten }
+remembers : (g : goal.Over) (c : After-play_turn-turn g) → Remembers c.self.inside.machine c.play_turn-turn.new.self c.heap-collector.result.seats c.recent-before.result.now
+remembers g c = record { recent = c.recent-before.ensures.recent; within = c.recent-before.ensures.within; same = c.play_turn-turn.ensures.spent.forgotten }
 
 -- what contracts see once it was noted
-abbrev after : After-saturating_add-self-inside → Recorded
-after c = record { machine = c.note_since.new.machine; history = without_turned c.note_since.new.list.items; listed = c.note_since.new.list.items; spare = c.note_since.new.spare; turns = c.saturating_add-self-inside.result; last_turn = Some c.play_turn-turn.result }
+abbrev after : (g : goal.Over) → After-saturating_add-self-inside g → Recorded
+after g c = record { machine = c.note_since.new.machine; history = without_turned c.note_since.new.list.items; listed = c.note_since.new.list.items; spare = c.note_since.new.spare; turns = c.saturating_add-self-inside.result; last_turn = Some c.play_turn-turn.result }
 
 -- so it is what contracts say of it
-makes : (c : After-saturating_add-self-inside) → Remembers c.self.inside.machine c.play_turn-turn.new.self c.heap-collector.result.seats c.recent-before.result.now → TurnFacts c.self.inside.machine c.play_turn-turn.new.self c.heap-collector.result.seats → MakesTurn (the_view c.self.inside) (after c) c.play_turn-turn.result
-makes c before made =
+makes : (g : goal.Over) (c : After-saturating_add-self-inside g) → Remembers c.self.inside.machine c.play_turn-turn.new.self c.heap-collector.result.seats c.recent-before.result.now → TurnFacts c.self.inside.machine c.play_turn-turn.new.self c.heap-collector.result.seats → MakesTurn (seen g c) (after g c) c.play_turn-turn.result
+makes g c before made =
     let law = c.law_every_run.ensures in
     let turn = c.play_turn-turn.ensures in
-    let old : Recorded = the_view c.self.inside in
+    let old : Recorded = seen g c in
     let two = c.play_turn-turn.new.self in
     let party = c.heap-collector.result.seats in
     let listed = noted_since old old.machine two party c.recent-before.result.now old.listed c.note_since.new.list.items before c.note_since.ensures.items refl in
-    makes_turn law.run law.turns old (after c) c.play_turn-turn.result (since old.machine two party) c.self.invariant.0 (record {
+    makes_turn law.run law.turns old (after g c) c.play_turn-turn.result (since old.machine two party) c.self.invariant.0 (record {
       same_heap = ap (λ (m : MachineValue). m.heap) c.note_since.ensures.same ∙ turn.heap;
       noted = history_since old c.note_since.new.list.items (since old.machine two party) refl listed (subst AreOfHeap (sym made.told) (event_of_heap old.machine.heap old.machine.state Turns));
       listed = listed;
@@ -46,30 +46,30 @@ makes c before made =
     }) made.told turn.can (ap (λ (m : MachineValue). m.state) c.note_since.ensures.same ∙ turn.state) turn.answer c.saturating_add-self-inside.ensures refl
 
 pub note_since-requires-clause-longer : goal.note_since-requires-clause-longer
-note_since-requires-clause-longer c =
+note_since-requires-clause-longer g c =
     let here = (goal.at.note_since-requires-clause-longer c).After-play_turn-turn in
-    recent_longer c.self.inside.machine c.play_turn-turn.new.self c.heap-collector.result.seats c.recent-before.result.now (remembers here) (facts here).longer
+    recent_longer c.self.inside.machine c.play_turn-turn.new.self c.heap-collector.result.seats c.recent-before.result.now (remembers g here) (facts g here).longer
 
 pub note_since-requires-clause-room : goal.note_since-requires-clause-room
-note_since-requires-clause-room c =
+note_since-requires-clause-room g c =
     let here = (goal.at.note_since-requires-clause-room c).After-play_turn-turn in
-    let made = facts here in
-    rw (recent_since c.self.inside.machine c.play_turn-turn.new.self c.heap-collector.result.seats c.recent-before.result.now (remembers here), made.told) (omega (arith, made.few, c.self.invariant.1.listed_room, ap (λ (v : Recorded). v.spare) c.self.view_is, c.requires))
+    let made = facts g here in
+    rw (recent_since c.self.inside.machine c.play_turn-turn.new.self c.heap-collector.result.seats c.recent-before.result.now (remembers g here), made.told) (omega (arith, made.few, c.self.invariant.1.listed_room, ap (λ (v : Recorded). v.spare) c.self.view_is, c.requires))
 
 pub invariant_of-self : goal.invariant_of-self
-invariant_of-self c =
+invariant_of-self g c =
     let here = goal.at.invariant_of-self c in
-    let made = facts here.After-play_turn-turn in
-    let old : Recorded = the_view c.self.inside in
+    let made = facts g here.After-play_turn-turn in
+    let old : Recorded = seen g c in
     let told = c.note_since.ensures in
-    let before = remembers here.After-play_turn-turn in
+    let before = remembers g here.After-play_turn-turn in
     let two = c.play_turn-turn.new.self in
     let party = c.heap-collector.result.seats in
     let many = ap (length {A = Entry}) (recent_since c.self.inside.machine two party c.recent-before.result.now before ∙ made.told) in
     let now : length c.note_since.new.machine.state.seats ≡ party = ap (λ (m : MachineValue). length m.state.seats) told.same ∙ ap (λ (t : State). length t.seats) c.play_turn-turn.ensures.state ∙ made.last in
     let seats = ap (spare_of c.note_since.new.machine) now in
     let last = ap (spare_of two) made.last in (
-      led_turn AnyEvents old (after here.After-saturating_add-self-inside) c.self.invariant.0 c.play_turn-turn.result (makes here.After-saturating_add-self-inside before made) tt,
+      led_turn AnyEvents old (after g here.After-saturating_add-self-inside) c.self.invariant.0 c.play_turn-turn.result (makes g here.After-saturating_add-self-inside before made) tt,
       record {
         own_room = omega (arith, seats, last, told.more, c.play_turn-turn.ensures.spent.own, made.many, many, c.self.invariant.1.own_room, told.left);
         listed_room = omega (arith, c.self.invariant.1.listed_room, told.left, told.capacity, told.len);
@@ -77,8 +77,8 @@ invariant_of-self c =
     )
 
 pub returns : goal.returns
-returns c =
+returns g c =
     let here = goal.at.returns c in
-    let made : MakesTurn c.args.self.now (after here.After-saturating_add-self-inside) c.play_turn-turn.result
-    = subst (λ (v : Recorded). MakesTurn v (after here.After-saturating_add-self-inside) c.play_turn-turn.result) c.self.view_is (makes here.After-saturating_add-self-inside (remembers here.After-play_turn-turn) (facts here.After-play_turn-turn)) in
+    let made : MakesTurn c.args.self.now (after g here.After-saturating_add-self-inside) c.play_turn-turn.result
+    = subst (λ (v : Recorded). MakesTurn v (after g here.After-saturating_add-self-inside) c.play_turn-turn.result) c.self.view_is (makes g here.After-saturating_add-self-inside (remembers g here.After-play_turn-turn) (facts g here.After-play_turn-turn)) in
     record { turns = made.turned; turned = made }
