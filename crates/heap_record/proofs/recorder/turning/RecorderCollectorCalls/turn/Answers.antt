@@ -1,4 +1,5 @@
 use Rattle.std.proofs.Common.{◌-◌, ◌≡◌, List, Some, length, refl, sym, ap, subst, ◌∙◌, arith}
+use denote.Param.{param}
 use Rattle.heap_model.specs.account.Turned.{without_turned}
 use Rattle.heap_model.specs.declared.entry.Entry.{Entry}
 use Rattle.core_machine.specs.machine.Machine.{State, Turns}
@@ -10,29 +11,30 @@ use Rattle.heap_record.proofs.Calls.{since, Remembers, recent_since, recent_long
 use Rattle.heap_record.proofs.HeapEntries.{AreOfHeap, event_of_heap}
 use Rattle.heap_record.proofs.Leading.{led_turn}
 use Rattle.heap_record.proofs.MachineTurns.{noted_turn, makes_turn}
+use Rattle.heap_record.proofs.recorder.turning.RecorderCollectorCalls.turn.Given.{Over}
 use Rattle.heap_record.proofs.recorder.turning.RecorderCollectorCalls.turn.Goals as goal
 use Rattle.heap_record.proofs.recorder.turning.RecorderCollectorCalls.turn.Goals.{After-play_turn-turn, After-saturating_add-self-inside}
 
 -- the machine's turn
-facts : (g : goal.Over) (c : After-play_turn-turn g) → TurnFacts c.self.inside.machine c.play_turn-turn.new.self c.heap-collector.result.seats
+facts : (g : Over) (c : After-play_turn-turn g) → TurnFacts c.self.inside.machine c.play_turn-turn.new.self c.heap-collector.result.seats
 facts g c =
     let law = c.law_every_run.ensures in
-    noted_turn law.run law.step law.turns (seen g c) c.play_turn-turn.new.self c.heap-collector.result c.self.invariant.0 c.play_turn-turn.ensures.can c.play_turn-turn.ensures.state c.heap-collector.ensures.heap
+    noted_turn law.run law.step law.turns (the_view (param 0 g.row.L) g.L.Entries c.self.inside) c.play_turn-turn.new.self c.heap-collector.result c.self.invariant.0 c.play_turn-turn.ensures.can c.play_turn-turn.ensures.state c.heap-collector.ensures.heap
 
 -- what the machine showed before
-remembers : (g : goal.Over) (c : After-play_turn-turn g) → Remembers c.self.inside.machine c.play_turn-turn.new.self c.heap-collector.result.seats c.recent-before.result.now
+remembers : (g : Over) (c : After-play_turn-turn g) → Remembers c.self.inside.machine c.play_turn-turn.new.self c.heap-collector.result.seats c.recent-before.result.now
 remembers g c = record { recent = c.recent-before.ensures.recent; within = c.recent-before.ensures.within; same = c.play_turn-turn.ensures.spent.forgotten }
 
 -- what contracts see once it was noted
-abbrev after : (g : goal.Over) → After-saturating_add-self-inside g → Recorded
+abbrev after : (g : Over) → After-saturating_add-self-inside g → Recorded
 after g c = record { machine = c.note_since.new.machine; history = without_turned c.note_since.new.list.items; listed = c.note_since.new.list.items; spare = c.note_since.new.spare; turns = c.saturating_add-self-inside.result; last_turn = Some c.play_turn-turn.result }
 
 -- so it is what contracts say of it
-makes : (g : goal.Over) (c : After-saturating_add-self-inside g) → Remembers c.self.inside.machine c.play_turn-turn.new.self c.heap-collector.result.seats c.recent-before.result.now → TurnFacts c.self.inside.machine c.play_turn-turn.new.self c.heap-collector.result.seats → MakesTurn (seen g c) (after g c) c.play_turn-turn.result
+makes : (g : Over) (c : After-saturating_add-self-inside g) → Remembers c.self.inside.machine c.play_turn-turn.new.self c.heap-collector.result.seats c.recent-before.result.now → TurnFacts c.self.inside.machine c.play_turn-turn.new.self c.heap-collector.result.seats → MakesTurn (the_view (param 0 g.row.L) g.L.Entries c.self.inside) (after g c) c.play_turn-turn.result
 makes g c before made =
     let law = c.law_every_run.ensures in
     let turn = c.play_turn-turn.ensures in
-    let old : Recorded = seen g c in
+    let old : Recorded = the_view (param 0 g.row.L) g.L.Entries c.self.inside in
     let two = c.play_turn-turn.new.self in
     let party = c.heap-collector.result.seats in
     let listed = noted_since old old.machine two party c.recent-before.result.now old.listed c.note_since.new.list.items before c.note_since.ensures.items refl in
@@ -47,20 +49,20 @@ makes g c before made =
 
 pub note_since-requires-clause-longer : goal.note_since-requires-clause-longer
 note_since-requires-clause-longer g c =
-    let here = (goal.at.note_since-requires-clause-longer c).After-play_turn-turn in
+    let here = (goal.at.note_since-requires-clause-longer g c).After-play_turn-turn in
     recent_longer c.self.inside.machine c.play_turn-turn.new.self c.heap-collector.result.seats c.recent-before.result.now (remembers g here) (facts g here).longer
 
 pub note_since-requires-clause-room : goal.note_since-requires-clause-room
 note_since-requires-clause-room g c =
-    let here = (goal.at.note_since-requires-clause-room c).After-play_turn-turn in
+    let here = (goal.at.note_since-requires-clause-room g c).After-play_turn-turn in
     let made = facts g here in
     rw (recent_since c.self.inside.machine c.play_turn-turn.new.self c.heap-collector.result.seats c.recent-before.result.now (remembers g here), made.told) (omega (arith, made.few, c.self.invariant.1.listed_room, ap (λ (v : Recorded). v.spare) c.self.view_is, c.requires))
 
 pub invariant_of-self : goal.invariant_of-self
 invariant_of-self g c =
-    let here = goal.at.invariant_of-self c in
+    let here = goal.at.invariant_of-self g c in
     let made = facts g here.After-play_turn-turn in
-    let old : Recorded = seen g c in
+    let old : Recorded = the_view (param 0 g.row.L) g.L.Entries c.self.inside in
     let told = c.note_since.ensures in
     let before = remembers g here.After-play_turn-turn in
     let two = c.play_turn-turn.new.self in
@@ -78,7 +80,7 @@ invariant_of-self g c =
 
 pub returns : goal.returns
 returns g c =
-    let here = goal.at.returns c in
+    let here = goal.at.returns g c in
     let made : MakesTurn c.args.self.now (after g here.After-saturating_add-self-inside) c.play_turn-turn.result
     = subst (λ (v : Recorded). MakesTurn v (after g here.After-saturating_add-self-inside) c.play_turn-turn.result) c.self.view_is (makes g here.After-saturating_add-self-inside (remembers g here.After-play_turn-turn) (facts g here.After-play_turn-turn)) in
     record { turns = made.turned; turned = made }
