@@ -48,21 +48,23 @@ fn told_text(alloc: Global, history: &History, brief: bool) -> Result<Vec<u8>, M
     }
 }
 
-/// The text that tells the play of the script that the input is.
+/// The text that tells the play of the script that the input is. Input and script are dropped as soon as they were used, so that they don't stand beside the text.
 fn played_text(
     alloc: Global,
-    input: &[u8],
+    input: Vec<u8>,
     pace: Option<Box<dyn Pace>>,
     brief: bool,
 ) -> Result<Vec<u8>, WorkFault>
-    ensures ok { IfOk result (λ text. Plays (is_some pace) brief input.now text.items) }
+    ensures ok { IfOk result (λ text. Plays (is_some pace) brief input.items text.items) }
     ensures refused { (fault : ALineFault) → result ≡ Err (WorkFault.Refused fault) →
-        FailsAsScript Play input.now fault.line fault.cause }
+        FailsAsScript Play input.items fault.line fault.cause }
     ensures legal { (line : ℕ) → result ≡ Err (WorkFault.NotLegal line) → ⊥ }
 {
-    let script = script_of(alloc, input, Form::Play)?;
+    let script = script_of(alloc, &input, Form::Play)?;
+    drop(input);
     let whole = MachineHeap::make(alloc, script.heap)?;
     let history = play(whole, script.heap, &script, pace)?;
+    drop(script);
     let text = told_text(alloc, &history, brief)?;
     Ok(text)
 }
@@ -90,17 +92,17 @@ pub fn made_work<G: Gate, R: Threads + Wait + Sync>(
     rt: &R,
     alloc: Global,
     work: Work,
-    input: &[u8],
+    input: Vec<u8>,
     paces: Paces,
     gate: &G,
 ) -> Result<Made, WorkFault>
     requires { IsWork work }
-    ensures ok { IfOk result (λ made. MakesText work input.now made.text.items) }
-    ensures closed { IfOk result (λ made. LeavesTable work input.now made.text.items made.closed) }
+    ensures ok { IfOk result (λ made. MakesText work input.items made.text.items) }
+    ensures closed { IfOk result (λ made. LeavesTable work input.items made.text.items made.closed) }
     ensures refused { (fault : ALineFault) → result ≡ Err (WorkFault.Refused fault) →
-        FailsAt work input.now fault.line fault.cause }
+        FailsAt work input.items fault.line fault.cause }
     ensures not_legal { (line : ℕ) → result ≡ Err (WorkFault.NotLegal line) →
-        IsIllegalAt work input.now line }
+        IsIllegalAt work input.items line }
 {
     match work {
         Work::Play { pace: None, brief } => {
@@ -119,7 +121,7 @@ pub fn made_work<G: Gate, R: Threads + Wait + Sync>(
             pace: PaceName::Steady,
             patience,
         } => {
-            let run = run_on_table(rt, alloc, input, paces.steady, patience, gate)?;
+            let run = run_on_table(rt, alloc, &input, paces.steady, patience, gate)?;
             Ok(Made {
                 text: run.text,
                 closed: Some(run.closed),
@@ -130,11 +132,11 @@ pub fn made_work<G: Gate, R: Threads + Wait + Sync>(
             pace: PaceName::Steady,
             patience,
         } => {
-            let text = run_text(rt, alloc, input, paces.steady, patience, gate)?;
+            let text = run_text(rt, alloc, &input, paces.steady, patience, gate)?;
             Ok(text_alone(text))
         }
         Work::Check => {
-            let text = verdict(alloc, input)?;
+            let text = verdict(alloc, &input)?;
             Ok(text_alone(text))
         }
         Work::Make {

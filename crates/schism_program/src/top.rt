@@ -96,7 +96,7 @@ pub fn schism<S: Source, K: Sink, G: Gate, R: Threads + Wait + Sync>(
     let Made {
         text,
         closed: table,
-    } = match made_work(rt, alloc, work, &input, paces, gate) {
+    } = match made_work(rt, alloc, work, input, paces, gate) {
         Ok(made) => made,
         Err(WorkFault::Refused(LineFault { line, cause })) => return Status::Refused {
             line,

@@ -95,7 +95,7 @@ pub(super) fn log(machine: &Machine, party: u8) -> Result<&[Entry], Fail> {
     if party > machine.heap().seats {
         return Err("no such party".into());
     }
-    Ok(machine.recent(party))
+    Ok(machine.log(party))
 }
 
 /// Where the word of the address stands in the table, and what it is.
