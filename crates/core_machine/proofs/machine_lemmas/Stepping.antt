@@ -1,5 +1,5 @@
 -- A machine after a begin, after a step, and after one party got room.
-use Rattle.std.proofs.Common.{suc, ◌≡◌, ◌≢◌, ℕ, ◌+◌, ◌<◌, ◌≤◌, List, [], ◌∷◌, ◌++◌, length, map, get_or, set, Option, Some, None, refl, subst, sym, ap, ◌∙◌, inl, inr, eqb, false, arith}
+use Rattle.std.proofs.Common.{suc, ◌≡◌, ◌≢◌, ℕ, ◌+◌, ◌<◌, ◌≤◌, List, [], ◌∷◌, ◌++◌, length, drop, map, get_or, set, Option, Some, None, refl, subst, sym, ap, ◌∙◌, inl, inr, eqb, false, arith}
 use Rattle.std.specs.Prelude.{option_map, IsSome, IfSome}
 use Rattle.std.proofs.lemmas.Bool.{ne_eqb}
 use Rattle.std.proofs.lemmas.Bool.Decides.{leb_tells}
@@ -8,7 +8,8 @@ use Rattle.std.proofs.Math.Seq.{map-set_same}
 use Rattle.core_machine.proofs.Terms.{Heap, Command, Step, put, InTable, FoundPointsWithin, address_of, word_after, Seat, absent_seat, Move, next_move, due_step, seat_after_due}
 use Rattle.core_machine.proofs.Terms.{seat_at, found_by, MayBegin, MayBeginInner, after_begin, after_inner_begin, Begins, BeginsInner, Steps, state_after, state_after_due}
 use Rattle.core_machine.proofs.Terms.{SeatWithRoom, MachineValue, Can, spare_of, forgotten_of, log_of, SpendsRoom, IsMachine}
-use Rattle.core_machine.specs.machine.Value.{due_of, event_of}
+use Rattle.core_machine.specs.machine.Value.{due_of, event_of, recent_of}
+use Rattle.heap_model.specs.declared.entry.Entry.{Entry}
 use Rattle.heap_model.specs.declared.calls.collect.Inner.{Inner}
 use Rattle.core_machine.specs.collector.Collector.{Collector}
 use Rattle.core_machine.proofs.machine_lemmas.Runs.{machine_after, due_within_table}
@@ -147,14 +148,19 @@ module _ (heap : Heap) (words : List ℕ) (parties : List SeatWithRoom) (collect
   spare_before = each_at (λ s. s.spare) parties room number party within ∙ sym (ap (λ (s : SeatWithRoom). s.spare) here)
 
   -- and what was forgotten of its entries
-  pub forgotten_before : forgotten_of (value_of heap words parties collector room gone) number ≡ party.forgotten
+  forgotten_before : forgotten_of (value_of heap words parties collector room gone) number ≡ party.forgotten
   forgotten_before = each_at (λ s. s.forgotten) parties gone number party within ∙ sym (ap (λ (s : SeatWithRoom). s.forgotten) here)
 
-  pub log_before : log_of (value_of heap words parties collector room gone) number ≡ party.seat.mine
+  log_before : log_of (value_of heap words parties collector room gone) number ≡ party.seat.mine
   log_before =
       let long = length-map parties (λ (s : SeatWithRoom). s.seat) in
       let seat_ : eqb number (length (map (λ s. s.seat) parties)) ≡ false = ne_eqb number (length (map (λ s. s.seat) parties)) (λ e. absurd (omega arith)) in
       rw seat_ (ap (λ (s : Seat). s.mine) the_seat)
+
+  -- and what is shown of them
+  pub shown_before : (value : MachineValue) (told : List Entry) → value_of heap words parties collector room gone ≡ value → told ≡ drop party.forgotten party.seat.mine
+      → party.forgotten ≤ length party.seat.mine → (told ≡ recent_of value number) × (forgotten_of value number ≤ length (log_of value number))
+  shown_before value told view is some = rw (← view, log_before, forgotten_before) (is, some)
 
   log_here : (now : List ℕ) → log_of (value_of heap now (set parties number next) collector room gone) number ≡ next.seat.mine
   log_here now =

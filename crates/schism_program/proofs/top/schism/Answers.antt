@@ -2,7 +2,6 @@ use Rattle.std.proofs.Common.{◌≤◌, length, map, inl, rules, subst, sym}
 use Rattle.form_words.specs.Works.{most_bytes, AskFor}
 use Rattle.schism_program.specs.declared.status.Status.TheVariants as statuses
 use Rattle.schism_program.specs.Due.{IsDueTo}
-use Rattle.io_edge.specs.Taken.{Takes, TakesFront}
 use Rattle.schism_program.specs.Works.{FailsAt, LeavesTable, MakesText}
 use Rattle.schism_program.proofs.OneStatus.{made_suits, only_due}
 use Rattle.schism_program.proofs.top.schism.Goals as goal
@@ -36,29 +35,24 @@ returns-in-Ok-write_all-clause-complete g c = λ status due calm_source calm_sin
 
 pub returns-in-Ok-write_all-clause-closed : goal.returns-in-Ok-write_all-clause-closed
 returns-in-Ok-write_all-clause-closed g c = λ done.
-    let work = c.in-Ok-Some.work in
     let input = c.in-Ok.input.items in
     let text = c.in-Ok-made_work.made.text.items in
-    let asked : AskFor (map (λ w. w.now) c.args.words.now) work = search rules in
-    let short : length input ≤ most_bytes work = search rules in
-    let written : Takes (g.K.taken c.args.sink.now) (g.K.taken c.write_all.new.sink) text = search rules in
-    let leaves : LeavesTable work input text c.in-Ok-made_work.made.closed = search rules in
+    let leaves : LeavesTable c.in-Ok-Some.work input text c.in-Ok-made_work.made.closed = search rules in
     record {
-      work = work;
+      work = c.in-Ok-Some.work;
       input = input;
       text = text;
-      reads = record { asked = asked; all = c.in-Ok.ensures.read; short = short };
-      written = written;
-      leaves = subst (LeavesTable work input text) (sym c.leave-in-Ok-write_all.ensures) leaves;
+      reads = record { asked = search rules; all = c.in-Ok.ensures.read; short = search rules };
+      written = search rules;
+      leaves = subst (LeavesTable c.in-Ok-Some.work input text) (sym c.leave-in-Ok-write_all.ensures) leaves;
     }
 
 pub returns-clause-front : goal.returns-clause-front
-returns-clause-front g c = λ fault.
-    let work = c.in-Ok-Some.work in
-    let input = c.in-Ok.input.items in
-    let text = c.in-Ok-made_work.made.text.items in
-    let asked : AskFor (map (λ w. w.now) c.args.words.now) work = search rules in
-    let short : length input ≤ most_bytes work = search rules in
-    let written : TakesFront (g.K.taken c.args.sink.now) (g.K.taken c.write_all.new.sink) text = search rules in
-    let makes : MakesText work input text = search rules in
-    record { work = work; input = input; text = text; reads = record { asked = asked; all = c.in-Ok.ensures.read; short = short }; makes = makes; written = written }
+returns-clause-front g c = λ fault. record {
+  work = c.in-Ok-Some.work;
+  input = c.in-Ok.input.items;
+  text = c.in-Ok-made_work.made.text.items;
+  reads = record { asked = search rules; all = c.in-Ok.ensures.read; short = search rules };
+  makes = search rules;
+  written = search rules;
+}
