@@ -1,10 +1,7 @@
 -- What a turn of a heap that is played on adds.
-use Rattle.std.proofs.Common.{◌≡◌, ◌≢◌, ℕ, Some, None, zero, suc, ◌+◌, ◌≤◌, true, List, [], ◌∷◌, ◌++◌, length, filter, inl, inr, refl, sym, ap, subst, ◌∙◌, append_assoc, length-append, arith}
+use Rattle.std.proofs.Common.{◌≡◌, ℕ, zero, suc, ◌+◌, ◌≤◌, true, List, [], ◌∷◌, ◌++◌, length, filter, inl, inr, refl, sym, ap, subst, ◌∙◌, append_assoc, length-append, arith}
 use Rattle.std.proofs.lemmas.List.{append-nil, append_cancel_left}
 use Rattle.std.proofs.lemmas.List.Elements.{filter-append}
-use Rattle.std.proofs.lemmas.Option.{none-some, same_Some}
-use Rattle.heap_model.specs.Behind.{as_turn, behind_of, behind_in_turn}
-use Rattle.heap_model.specs.declared.behind.Behind.{Behind}
 use Rattle.heap_model.specs.declared.calls.collector_calls.Turn.{Turn}
 use Rattle.heap_model.specs.declared.calls.collector_calls.Turn.TheVariants as turns
 use Rattle.heap_model.specs.declared.entry.Entry.{Entry}
@@ -17,7 +14,7 @@ use Rattle.heap_model.specs.calls.CollectorCalls.{ComesTo, StepsTo}
 use Rattle.heap_runs.specs.Play.{tells_turn, AreTurns}
 use Rattle.slack_pace.specs.Slack as slack
 use Rattle.heap_runs.specs.PlayHeap.{PlayState, TakesTurn, collector_state_of}
-use Rattle.heap_runs.specs.Turning.{AddsTurns, IsNoWait, IsStep, TakesTurns, HasTurned, HasComeTo}
+use Rattle.heap_runs.specs.Turning.{AddsTurns, IsStep, TakesTurns, HasTurned, HasComeTo}
 use Rattle.core_rule.proofs.parties.Collectors.{all_collectors}
 
 step_tells : (now later : ℕ) (entry : Entry) → StepsTo now entry later → tells_turn entry ≡ true
@@ -56,23 +53,6 @@ module _ (old new : PlayState) (turn : Turn) (takes : TakesTurn old new turn) wh
   -- and is one entry at most
   pub few_added : length new.entries ≤ length old.entries + 1
   few_added = omega (arith, few_by turn takes.turned.comes_to, ap (length {A = Entry}) takes.entries, length-append old.entries takes.added)
-
--- a turn that tells a seat waits for that one, and one that tells none doesn't wait
-pub waits_for : (turn : Turn) (behind : Behind) → behind_in_turn turn ≡ Some behind → turn ≡ as_turn behind
-waits_for (turns.Waits number answer p) behind is = ap as_turn (same_Some _ _ is)
-waits_for turns.Stepped behind is = absurd (none-some behind is)
-waits_for (turns.Ended cycle kept) behind is = absurd (none-some behind is)
-
-pub waits_for_none : (turn : Turn) → behind_in_turn turn ≡ None → IsNoWait turn
-waits_for_none (turns.Waits number answer p) is = absurd (none-some (behind_of number answer p) (sym is))
-waits_for_none turns.Stepped is = tt
-waits_for_none (turns.Ended cycle kept) is = tt
-
--- it is a step where it ends no cycle either
-pub steps_alone : (turn : Turn) → behind_in_turn turn ≡ None → ((cycle kept : ℕ) → turn ≢ turns.Ended cycle kept) → IsStep turn
-steps_alone (turns.Waits number answer p) is none = absurd (none-some (behind_of number answer p) (sym is))
-steps_alone turns.Stepped is none = refl
-steps_alone (turns.Ended cycle kept) is none = absurd (none cycle kept refl)
 
 -- a turn that waits adds nothing, and shows a seat that is behind
 pub wait_shows : (old new : PlayState) (number answer p : ℕ) → TakesTurn old new (turns.Waits number answer p) → TurnShows new.heap new.entries (replies.Waits number answer p)

@@ -9,8 +9,17 @@ fn make_turns<H: PlayHeap>(whole: &mut H, count: u32) -> Result<TurnReply, Memor
     ensures { IfOk result (ServesTurns (H.state whole.old) (H.state whole.new) count) }
 {
     for _ in 0..count {
-        if let Some(behind) = whole.turn()?.behind() {
-            return Ok(TurnReply::from(behind));
+        if let Turn::Waits {
+            seat,
+            answered,
+            phase,
+        } = whole.turn()?
+        {
+            return Ok(TurnReply::Waits {
+                seat,
+                answered,
+                phase,
+            });
         }
     }
     Ok(TurnReply::Done)
@@ -21,12 +30,20 @@ pub fn end_cycle<H: PlayHeap>(whole: &mut H) -> Result<TurnReply, Memory>
     ensures { IfOk result (ServesCycle (H.state whole.old) (H.state whole.new)) }
 {
     loop {
-        let turn = whole.turn()?;
-        if let Some(behind) = turn.behind() {
-            return Ok(TurnReply::from(behind));
-        }
-        if let Turn::Ended { cycle, .. } = turn {
-            return Ok(TurnReply::Cycle(cycle));
+        match whole.turn()? {
+            Turn::Stepped => (),
+            Turn::Waits {
+                seat,
+                answered,
+                phase,
+            } => {
+                return Ok(TurnReply::Waits {
+                    seat,
+                    answered,
+                    phase,
+                });
+            }
+            Turn::Ended { cycle, .. } => return Ok(TurnReply::Cycle(cycle)),
         }
     }
 }

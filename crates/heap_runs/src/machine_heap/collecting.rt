@@ -46,17 +46,25 @@ impl MachineHeap {
         law_every_run();
         self.known();
         'turns: loop {
-            let turn = self.take_turn()?;
-            self.known();
-            if let Turn::Ended { cycle, .. } = turn {
-                return Ok(CollectReply::Cycle(cycle));
-            }
-            if let Some(behind) = turn.behind() {
-                if behind.seat != seat {
-                    return Ok(CollectReply::from(behind));
+            match self.take_turn()? {
+                Turn::Stepped => self.known(),
+                Turn::Waits {
+                    seat: other,
+                    answered,
+                    phase,
+                } => {
+                    self.known();
+                    if other != seat {
+                        return Ok(CollectReply::Waits {
+                            seat: other,
+                            answered,
+                            phase,
+                        });
+                    }
+                    self.make_inner(seat, Inner::Answer)?;
+                    self.known();
                 }
-                self.make_inner(seat, Inner::Answer)?;
-                self.known();
+                Turn::Ended { cycle, .. } => return Ok(CollectReply::Cycle(cycle)),
             }
         }
     }
@@ -75,7 +83,15 @@ impl MachineHeap {
                 let came = self.end_for(seat)?;
                 Ok(came)
             }
-            waits @ CollectReply::Waits { .. } => Ok(waits),
+            CollectReply::Waits {
+                seat: other,
+                answered,
+                phase,
+            } => Ok(CollectReply::Waits {
+                seat: other,
+                answered,
+                phase,
+            }),
         }
     }
 
