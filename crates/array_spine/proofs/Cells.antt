@@ -9,7 +9,7 @@ use Rattle.core_machine.specs.declared.place.Place.TheVariants as places
 use Rattle.core_machine.specs.declared.step.SpineStep.TheVariants.{AddressLoad, WordLoad}
 use Rattle.core_machine.specs.declared.step.Step.{Step}
 use Rattle.core_machine.specs.declared.step.Step.TheVariants.{Spine}
-use Rattle.core_machine.specs.declared.place.Access.TheVariants.{Locating}
+use Rattle.core_machine.specs.declared.place.Access.TheVariants.{LoadingSpot}
 use Rattle.core_machine.specs.seat.Commands.{field_of}
 use Rattle.core_machine.specs.seat.Registers.{register_head}
 use Rattle.core_machine.specs.seat.Access.{after_address, after_index, at_payload}
@@ -62,7 +62,7 @@ module _ (old mid new : SeatHeld) (sentinel index address word : ℕ) (begins : 
   -- the call's register holds the array with this first fragment
   holds_first : HoldsHead old.seat sentinel
   holds_first =
-      let reached : ReachesInBook old.heap old.number old.seat address Locating = subst (WhileAccess (ReachesInBook old.heap old.number old.seat address)) begins.place_is told.tells.reached in
+      let reached : ReachesInBook old.heap old.number old.seat address LoadingSpot = subst (WhileAccess (ReachesInBook old.heap old.number old.seat address)) begins.place_is told.tells.reached in
       let array = reached.there.reaches in
       ap register_head array.on.holds ∙ ap (λ (n : ℕ). Some n) (sym array.on.in_order ∙ begins.sentinel_is)
 

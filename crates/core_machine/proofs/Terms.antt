@@ -13,8 +13,8 @@ pub use Rattle.core_machine.specs.calls.Kept.{IsUntold, KeepsAll, Kept, WasMade,
 pub use Rattle.core_machine.specs.calls.Owes.{Nears, access_steps, making_steps, owes, owes_at, owes_making, steps_at, steps_left}
 pub use Rattle.core_machine.specs.calls.OwnStage.{AccessStage, HasAsked, HasEmptied, MakingStage, OwnStage, PollingStage, StageAt}
 pub use Rattle.core_machine.specs.calls.Replies.{AnswersFirst, AnswersLocally, ComesFirst, HasLeft, HasPhase, IsAnswered, IsDoneBy, IsFull, IsHeldOf, IsMade, StandsOn}
-pub use Rattle.core_machine.specs.declared.place.Access.TheVariants.{Getting, Indexing, LoadingMeta, LoadingOld, Locating, Naming, ShadingNew, ShadingOld, Swapping, Walking}
-pub use Rattle.core_machine.specs.declared.place.Making.TheVariants.{Bearing, Gathering, Granting, Listing, Placing, Refusing, Returning, Storing, Withdrawing}
+pub use Rattle.core_machine.specs.declared.place.Access.TheVariants.{Getting, Indexing, LoadingMeta, LoadingOld, LoadingSpot, Naming, ShadingNew, ShadingOld, Swapping, Walking}
+pub use Rattle.core_machine.specs.declared.place.Making.TheVariants.{Bearing, Gathering, Granting, Listing, Placing, Refusing, GivingBack, Storing, Withdrawing}
 pub use Rattle.core_machine.specs.declared.place.Place.{Place}
 pub use Rattle.core_machine.specs.declared.seat.register.Register.{Register}
 pub use Rattle.core_machine.specs.declared.seat.register.Register.TheVariants.{Nil, Number, Object}

@@ -14,8 +14,8 @@ pub mod Local
 pub mod Walk
 use Rattle.std.proofs.Common.{◌≡◌, ℕ, ◌^◌, ◌<◌, Option, Some, None, length, refl, subst}
 use Rattle.std.specs.Prelude.{IfSome, option_map}
-use Rattle.core_machine.proofs.Terms.{Heap, IsHeap, Granting, Withdrawing, Gathering, Returning, Refusing, Placing, Listing, Storing, Bearing, Place, LoadingMeta, Walking}
-use Rattle.core_machine.proofs.Terms.{Locating, Indexing, Getting, Naming, LoadingOld, ShadingOld, ShadingNew, Swapping, Move, next_move, due_step, seat_after, Step, Nears, owes}
+use Rattle.core_machine.proofs.Terms.{Heap, IsHeap, Granting, Withdrawing, Gathering, GivingBack, Refusing, Placing, Listing, Storing, Bearing, Place, LoadingMeta, Walking}
+use Rattle.core_machine.proofs.Terms.{LoadingSpot, Indexing, Getting, Naming, LoadingOld, ShadingOld, ShadingNew, Swapping, Move, next_move, due_step, seat_after, Step, Nears, owes}
 use Rattle.core_machine.proofs.Terms.{steps_left, FoundPointsWithin, address_of, Fits, Seat, Command, MayBegin, after_begin}
 use Rattle.core_machine.specs.declared.place.Collecting.{Collecting}
 use Rattle.core_machine.specs.declared.place.Collecting.TheVariants.{Looking, Asking as AskingBehind, Comparing, Noting}
@@ -35,7 +35,7 @@ making_stands : (place : Making) → PlaceStands (places.Making place)
 making_stands Granting = Array.grant_stands
 making_stands Withdrawing = Array.withdraw_stands
 making_stands Gathering = Gather.claim_stands
-making_stands Returning = Gather.give_back_stands
+making_stands GivingBack = Gather.give_back_stands
 making_stands Refusing = Gather.refusal_stands
 making_stands Placing = Array.placing_stands
 making_stands Listing = Array.listing_stands
@@ -46,7 +46,7 @@ making_stands Bearing = Birth.bearing_stands
 access_stands : (place : Access) → PlaceStands (places.Access place)
 access_stands LoadingMeta = Open.open_stands
 access_stands Walking = Walk.walk_stands
-access_stands Locating = Spine.locate_stands
+access_stands LoadingSpot = Spine.locate_stands
 access_stands Indexing = Spine.index_stands
 access_stands Getting = Get.get_stands
 access_stands Naming = Get.name_stands

@@ -20,8 +20,8 @@ pub mod Weaker
 use Rattle.std.proofs.Common.{◌≡◌, ℕ, ◌^◌, ◌<◌, List, [], ◌∷◌, ◌++◌, length, Option, Some, None, refl, sym, ap, subst, ◌∙◌, append_assoc}
 use Rattle.std.specs.Prelude.{IfSome}
 use Rattle.core_machine.proofs.Terms.{IsHeap, Command, Entry, Heap, Move, next_move, due_step, seat_after, seat_after_due, Nears, owes, steps_left, FoundPointsWithin, address_of}
-use Rattle.core_machine.proofs.Terms.{Kept, kept_of, StageAt, OwnStage, LoadingMeta, Walking, Locating, Indexing, Getting, Naming, LoadingOld, ShadingOld, ShadingNew, Swapping}
-use Rattle.core_machine.proofs.Terms.{Granting, Withdrawing, Gathering, Returning, Refusing, Placing, Listing, Storing, Bearing, Place, Step, MayBegin, after_begin, Fits, Seat}
+use Rattle.core_machine.proofs.Terms.{Kept, kept_of, StageAt, OwnStage, LoadingMeta, Walking, LoadingSpot, Indexing, Getting, Naming, LoadingOld, ShadingOld, ShadingNew, Swapping}
+use Rattle.core_machine.proofs.Terms.{Granting, Withdrawing, Gathering, GivingBack, Refusing, Placing, Listing, Storing, Bearing, Place, Step, MayBegin, after_begin, Fits, Seat}
 use Rattle.core_machine.proofs.moves.{due_move, due_fits, due_nears}
 use Rattle.core_machine.specs.declared.place.Access.{Access}
 use Rattle.core_machine.specs.declared.place.Leaving.{Leaving}
@@ -38,7 +38,7 @@ module _ (tells : Step → ℕ → Type 0) where
   making_leads Granting = Gather.grant_leads tells
   making_leads Withdrawing = Gather.withdraw_leads tells
   making_leads Gathering = Gather.claim_leads tells
-  making_leads Returning = Gather.give_back_leads tells
+  making_leads GivingBack = Gather.give_back_leads tells
   making_leads Refusing = Gather.refusal_leads tells
   making_leads Placing = Birth.placing_leads tells
   making_leads Listing = Birth.listing_leads tells
@@ -49,7 +49,7 @@ module _ (tells : Step → ℕ → Type 0) where
   access_leads : (place : Access) → PlaceLeads tells (places.Access place)
   access_leads LoadingMeta = Way.open_leads tells
   access_leads Walking = Way.walk_leads tells
-  access_leads Locating = Way.locate_leads tells
+  access_leads LoadingSpot = Way.locate_leads tells
   access_leads Indexing = Way.index_leads tells
   access_leads Getting = Field.get_leads tells
   access_leads Naming = Field.name_leads tells

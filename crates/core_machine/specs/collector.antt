@@ -8,4 +8,4 @@ pub mod Marking
 pub mod MarkingTurns
 pub mod Sweeping
 pub mod SweepingTurns
-pub mod Turn
+pub mod TurnMove

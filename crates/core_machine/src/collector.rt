@@ -16,7 +16,7 @@ use crate::step::{CopyingStep, SpineStep, Step, TurningStep};
 use crate::table::decode::spine_words;
 use heap_model::limits::GROUP_FRAGMENTS;
 use heap_model::phase_plan::{CLEARING, COPYING, CYCLE_PHASES, MARKING, SWEEP};
-use heap_model::{Entry, Heap, Memory, Turn};
+use heap_model::{Behind, Entry, Heap, Memory, Turn};
 use heap_words::LEFT;
 use std::alloc::Global;
 use std::marker::Model;
@@ -152,7 +152,7 @@ impl<L: CountsEntries> CollectorParty<L> {
                 TurningStep::ScanLoad { fragment, part }
             }
             Stage::Shading { target, .. } => TurningStep::MarkShade { fragment: target },
-            Stage::Locating {
+            Stage::Addressing {
                 scan: Scan { fragment, .. },
                 ..
             } => {
@@ -203,11 +203,11 @@ impl<L: CountsEntries> CollectorParty<L> {
         ensures turns { self.new.turns ≡ self.old.turns }
     {
         if !self.has_answered(found) {
-            return Turn::Waits {
+            return Turn::from(Behind {
                 seat: self.looked,
                 answered: found,
                 phase: self.phase,
-            };
+            });
         }
         self.look_on(heap);
         Turn::Stepped
@@ -353,7 +353,7 @@ impl<L: CountsEntries> CollectorParty<L> {
             }
             Stage::Scanning(scan) => self.stage = scan.seen(found),
             Stage::Shading { scan, next, .. } => self.stage = scan.shaded(next),
-            Stage::Locating { scan, words } => self.stage = scan.located(words, found),
+            Stage::Addressing { scan, words } => self.stage = scan.addressed(words, found),
             Stage::Indexing(scan) => self.stage = scan.seen(found),
             Stage::Spreading { scan, .. } => self.stage = scan.spread(),
             Stage::Blackening(scan) => self.stage = scan.done(),

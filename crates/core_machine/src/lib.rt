@@ -22,7 +22,7 @@ pub use machine::opening::opening_words;
 pub use place::{Access, Collecting, Leaving, Making, Place, Polling};
 pub use seat::SeatParty;
 pub use seat::collecting::noted;
-pub use seat::looks::{FoundBehind, Looks};
+pub use seat::looks::Looks;
 pub use seat::register::Register;
 pub use step::operation::Operation;
 pub use step::{AccessStep, CopyingStep, HandshakeStep, MakingStep, SpineStep, Step, TurningStep};

@@ -29,7 +29,7 @@ pub enum Making {
     /// The next group is claimed.
     Gathering,
     /// Too little was found: what was claimed is given back.
-    Returning,
+    GivingBack,
     /// All was given back: the refusal is told, and an array's spine words are taken back.
     Refusing,
     /// The array's spine gets its place.
@@ -50,7 +50,7 @@ pub enum Access {
     /// The link to the next fragment is loaded.
     Walking,
     /// The place of the array's spine is loaded.
-    Locating,
+    LoadingSpot,
     /// The spine word is loaded that names the cell's fragment.
     Indexing,
     /// The field is loaded, for a get.

@@ -28,10 +28,10 @@ pub use Rattle.heap_model.specs.graph.Reach.{IsBefore, IsMade, IsReach, IsRegist
 pub use Rattle.heap_model.specs.graph.Sizes.{fragments_at, fragments_of, fragments_of_all, spine_words_at, spine_words_of, spine_words_of_all}
 pub use Rattle.core_machine.specs.Moves.{Move, access_move, birth_move, claim_move, due_step, full_entry, give_back_move, grant_move, is_last_birth, last_birth_move, last_part, listing_move, made_entry, move_at, next_move, placing_move, refusal_looks, refusal_move, refusal_step, seat_after_due, spine_full_entry, store_move, takes_some, withdraw_move}
 pub use Rattle.core_machine.specs.collector.Collector.{Collector, after_advance, after_counted_look, after_last_look, after_look, first_work, has_answered_of, next_turn, opening_collector, turn_at}
-pub use Rattle.core_machine.specs.collector.FitsTurns.{FitsCopying, HasCleared, HasLooked, IsBlackening, IsClearing, IsCopying, IsExamining, IsFreeing, IsIndexing, IsLocating, IsMarking, IsPassing, IsReturning, IsScanning, IsShading, IsSpreading, IsSweeping}
+pub use Rattle.core_machine.specs.collector.FitsTurns.{FitsCopying, HasCleared, HasLooked, IsBlackening, IsClearing, IsCopying, IsExamining, IsFreeing, IsIndexing, IsAddressing, IsMarking, IsPassing, IsReturning, IsScanning, IsShading, IsSpreading, IsSweeping}
 pub use Rattle.core_machine.specs.declared.collector.stage.Stage.{Stage}
 pub use Rattle.core_machine.specs.declared.place.Access.TheVariants.{Getting, Indexing, LoadingMeta, LoadingOld, ShadingNew, ShadingOld, Swapping, Walking}
-pub use Rattle.core_machine.specs.declared.place.Making.TheVariants.{Bearing, Gathering, Granting, Listing, Placing, Refusing, Returning, Withdrawing}
+pub use Rattle.core_machine.specs.declared.place.Making.TheVariants.{Bearing, Gathering, Granting, Listing, Placing, Refusing, GivingBack, Withdrawing}
 pub use Rattle.core_machine.specs.declared.place.Place.{Place}
 pub use Rattle.core_machine.specs.declared.seat.register.Register.{Register}
 pub use Rattle.core_machine.specs.declared.table.address.Address.TheVariants.{Budget, Control, Spine, Word}

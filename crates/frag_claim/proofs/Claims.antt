@@ -4,7 +4,7 @@ use Rattle.std.proofs.lemmas.List.Filters.{length-filter_both}
 use Rattle.heap_model.specs.declared.command.Command.{Command}
 use Rattle.heap_model.specs.declared.heap.Heap.{Heap}
 use Rattle.core_machine.specs.Moves.{move_at, due_step, seat_after_due, takes_some, give_back_move}
-use Rattle.core_machine.specs.declared.place.Making.TheVariants.{Gathering, Returning, Refusing, Placing, Storing}
+use Rattle.core_machine.specs.declared.place.Making.TheVariants.{Gathering, GivingBack, Refusing, Placing, Storing}
 use Rattle.core_machine.specs.declared.place.Place.{Place}
 use Rattle.core_machine.specs.declared.place.Place.TheVariants as places
 use Rattle.core_machine.specs.declared.step.Step.{Step}
@@ -20,13 +20,13 @@ use Rattle.heap_table.specs.SeatHeld.{SeatHeld, IsStepped}
 use Rattle.heap_table.specs.Told.{ToldAtStep}
 use Rattle.heap_table.proofs.MadeSteps.{makes_none, step_falls, step_leaves_room, step_makes}
 use Rattle.frag_claim.specs.Begins.{BeginsGathering}
-use Rattle.frag_claim.specs.Due.{due_of_claims, due_of_returns, IsReturning, has_its_fragments}
+use Rattle.frag_claim.specs.Due.{due_of_claims, due_of_returns, IsGivingBack, has_its_fragments}
 use Rattle.frag_claim.specs.Gathered.{EndsClaiming}
 
 -- the places of claims and those to which they lead
 abbrev pub StandsClaiming : Command → Place → Type 0
 StandsClaiming command (places.Making Gathering) = Unit {0}
-StandsClaiming command (places.Making Returning) = Unit {0}
+StandsClaiming command (places.Making GivingBack) = Unit {0}
 StandsClaiming command (places.Making Refusing) = Unit {0}
 StandsClaiming command (places.Making Placing) = IsArrayCall command
 StandsClaiming command (places.Making Storing) = IsArrayCall command → ⊥
@@ -58,8 +58,8 @@ of_claims : (place : Place) (due : Option Step) (step : Step) → due_of_claims 
 of_claims (places.Making Gathering) due step e = (refl, e)
 of_claims _ due step e = cc
 
-of_returns : (place : Place) (due : Option Step) (step : Step) → due_of_returns place due ≡ Some step → (place ≡ places.Making Returning) × (due ≡ Some step)
-of_returns (places.Making Returning) due step e = (refl, e)
+of_returns : (place : Place) (due : Option Step) (step : Step) → due_of_returns place due ≡ Some step → (place ≡ places.Making GivingBack) × (due ≡ Some step)
+of_returns (places.Making GivingBack) due step e = (refl, e)
 of_returns _ due step e = cc
 
 -- while groups are claimed
@@ -104,7 +104,7 @@ claims_on first now new step found sound while is stepped told =
 module _ (held : SeatHeld) (sound : IsSound held) (none : due_of_claims held.seat.place (due_step held.heap held.number held.seat) ≡ None) where
   -- at each place
   abbrev EndsAt : Place → Type 0
-  EndsAt place = (has_its_fragments place ≡ true → place ≡ places.Making (settled_place held.seat.command)) × (has_its_fragments place ≡ false → IsReturning place)
+  EndsAt place = (has_its_fragments place ≡ true → place ≡ places.Making (settled_place held.seat.command)) × (has_its_fragments place ≡ false → IsGivingBack place)
       × (3 ≤ held.spare) × (has_its_fragments place ≡ false → length held.seat.hand + 3 ≤ held.spare)
 
   settled_of : (command : Command) → IsArrayCall command → settled_place command ≡ Placing
@@ -119,7 +119,7 @@ module _ (held : SeatHeld) (sound : IsSound held) (none : due_of_claims held.sea
     where
       some_due : {step : Step} → due_step held.heap held.number held.seat ≡ None → due_step held.heap held.number held.seat ≡ Some step → ⊥
       some_due a b = cc
-  ends_at (places.Making Returning) is stands room = (λ e. cc, λ e. tt, omega (arith, room), λ e. omega (arith, room))
+  ends_at (places.Making GivingBack) is stands room = (λ e. cc, λ e. tt, omega (arith, room), λ e. omega (arith, room))
   ends_at (places.Making Refusing) is stands room =
       let fits : FitsPlace held.heap held.seat (places.Making Refusing) = subst (FitsPlace held.heap held.seat) is sound.fits.at_place in
       (λ e. cc, λ e. tt, omega (arith, room), λ e. omega (arith, room, ap (length {A = ℕ}) fits.1))
@@ -133,33 +133,33 @@ module _ (held : SeatHeld) (sound : IsSound held) (none : due_of_claims held.sea
       record { settled = ends.0; returning = ends.1; none_given = while.none_given; none_stored = while.none_stored; room = ends.2; room_to_return = ends.3 }
 
 -- while what was claimed is given back
-pub record WhileReturning (first now : SeatHeld) : Type 0 where
+pub record WhileGivingBack (first now : SeatHeld) : Type 0 where
   pub steps : (made : List Made) × MakesSteps first now made
-  pub stands : IsReturning now.seat.place
+  pub stands : IsGivingBack now.seat.place
   pub all : length now.seat.hand + now.seat.given ≡ length first.seat.hand + first.seat.given
   pub room : owes now.seat + 2 ≤ now.spare
 
-returning_room : (seat : Seat) (place : Place) (spare : ℕ) → seat.place ≡ place → IsReturning place → length seat.hand + 3 ≤ spare → owes seat + 2 ≤ spare
-returning_room seat (places.Making Returning) spare is stands room = subst (λ (p : Place). Rattle.core_machine.specs.calls.Owes.owes_at seat p + 2 ≤ spare) (sym is) (omega (arith, room))
+returning_room : (seat : Seat) (place : Place) (spare : ℕ) → seat.place ≡ place → IsGivingBack place → length seat.hand + 3 ≤ spare → owes seat + 2 ≤ spare
+returning_room seat (places.Making GivingBack) spare is stands room = subst (λ (p : Place). Rattle.core_machine.specs.calls.Owes.owes_at seat p + 2 ≤ spare) (sym is) (omega (arith, room))
 returning_room seat (places.Making Refusing) spare is stands room = subst (λ (p : Place). Rattle.core_machine.specs.calls.Owes.owes_at seat p + 2 ≤ spare) (sym is) (omega (arith, room))
 returning_room seat _ spare is stands room = absurd stands
 
-pub returns_begin : (held : SeatHeld) → IsReturning held.seat.place → length held.seat.hand + 3 ≤ held.spare → WhileReturning held held
+pub returns_begin : (held : SeatHeld) → IsGivingBack held.seat.place → length held.seat.hand + 3 ≤ held.spare → WhileGivingBack held held
 returns_begin held stands room = record { steps = ([], makes_none held); stands = stands; all = refl; room = returning_room held.seat held.seat.place held.spare refl stands room }
 
-pub returns_on : (first now new : SeatHeld) (step : Step) (found : ℕ) → IsSound now → WhileReturning first now → due_of_returns now.seat.place (due_step now.heap now.number now.seat) ≡ Some step
-    → IsStepped now new found → ToldAtStep now.heap now.number now.seat found → WhileReturning first new × (steps_left new.heap new.seat < steps_left now.heap now.seat)
+pub returns_on : (first now new : SeatHeld) (step : Step) (found : ℕ) → IsSound now → WhileGivingBack first now → due_of_returns now.seat.place (due_step now.heap now.number now.seat) ≡ Some step
+    → IsStepped now new found → ToldAtStep now.heap now.number now.seat found → WhileGivingBack first new × (steps_left new.heap new.seat < steps_left now.heap now.seat)
 returns_on first now new step found sound while is stepped told =
     let at = of_returns now.seat.place (due_step now.heap now.number now.seat) step is in
     let group = first_group_of now.seat.hand in
     let given : new.seat ≡ with_entries (after_give_back now.seat) ((give_back_move now.number now.seat).adds found) =
     stepped.seat_is ∙ ap (λ (p : Place). seat_after_due now.seat (move_at now.heap now.number now.seat p) found) at.0 in
     let both = length-filter_both (in_group group) (out_of_group group) (λ f. refl) now.seat.hand in
-    let stands : IsReturning (after_give_back now.seat).place = returning_cases (λ m. IsReturning (places.Making m)) (part_out group now.seat.hand) (λ none. tt) (λ some. tt) in
+    let stands : IsGivingBack (after_give_back now.seat).place = returning_cases (λ m. IsGivingBack (places.Making m)) (part_out group now.seat.hand) (λ none. tt) (λ some. tt) in
     let all : length (part_out group now.seat.hand) + (now.seat.given + length (part_in group now.seat.hand)) ≡ length first.seat.hand + first.seat.given = omega (arith, both, while.all) in (
       record {
         steps = step_makes first now new step found sound at.1 stepped told while.steps;
-        stands = subst (λ (s : Seat). IsReturning s.place) (sym given) stands;
+        stands = subst (λ (s : Seat). IsGivingBack s.place) (sym given) stands;
         all = subst (λ (s : Seat). length s.hand + s.given ≡ length first.seat.hand + first.seat.given) (sym given) all;
         room = step_leaves_room first now new step found sound at.1 stepped told while.room;
       },
@@ -167,16 +167,16 @@ returns_on first now new step found sound while is stepped told =
     )
 
 -- once none is due all was given back
-pub returns_end : (first held : SeatHeld) → IsSound held → WhileReturning first held → due_of_returns held.seat.place (due_step held.heap held.number held.seat) ≡ None
+pub returns_end : (first held : SeatHeld) → IsSound held → WhileGivingBack first held → due_of_returns held.seat.place (due_step held.heap held.number held.seat) ≡ None
     → (held.seat.place ≡ places.Making Refusing) × (held.seat.given ≡ length first.seat.hand + first.seat.given) × (3 ≤ held.spare)
 returns_end first held sound while none = ends held.seat.place refl while.stands while.room
   where
     some_due : {step : Step} → due_step held.heap held.number held.seat ≡ None → due_step held.heap held.number held.seat ≡ Some step → ⊥
     some_due a b = cc
 
-    ends : (place : Place) → held.seat.place ≡ place → IsReturning place → Rattle.core_machine.specs.calls.Owes.owes_at held.seat place + 2 ≤ held.spare
+    ends : (place : Place) → held.seat.place ≡ place → IsGivingBack place → Rattle.core_machine.specs.calls.Owes.owes_at held.seat place + 2 ≤ held.spare
         → (place ≡ places.Making Refusing) × (held.seat.given ≡ length first.seat.hand + first.seat.given) × (3 ≤ held.spare)
-    ends (places.Making Returning) is stands room =
+    ends (places.Making GivingBack) is stands room =
         absurd (some_due (ap (λ (p : Place). due_of_returns p (due_step held.heap held.number held.seat)) (sym is) ∙ none) (ap (λ (p : Place). Rattle.std.specs.Prelude.option_map (λ (m : Rattle.core_machine.specs.Moves.Move). m.step) (move_at held.heap held.number held.seat p)) is))
     ends (places.Making Refusing) is stands room =
         let fits : FitsPlace held.heap held.seat (places.Making Refusing) = subst (FitsPlace held.heap held.seat) is sound.fits.at_place in

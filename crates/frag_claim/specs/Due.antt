@@ -1,7 +1,7 @@
 -- Which due steps are of a part, by the place.
 use Rattle.std.specs.Prelude.{Bool, true, false, Option, None}
 use Rattle.core_machine.specs.declared.place.Leaving.TheVariants.{Emptying}
-use Rattle.core_machine.specs.declared.place.Making.TheVariants.{Gathering, Returning, Refusing, Placing, Storing}
+use Rattle.core_machine.specs.declared.place.Making.TheVariants.{Gathering, GivingBack, Refusing, Placing, Storing}
 use Rattle.core_machine.specs.declared.place.Place.{Place}
 use Rattle.core_machine.specs.declared.place.Place.TheVariants.{Making, Leaving}
 use Rattle.core_machine.specs.declared.step.Step.{Step}
@@ -13,7 +13,7 @@ due_of_claims _ due = None
 
 -- a give back of what was claimed
 abbrev pub due_of_returns : Place → Option Step → Option Step
-due_of_returns (Making Returning) due = due
+due_of_returns (Making GivingBack) due = due
 due_of_returns _ due = None
 
 -- the give back of a reserve
@@ -22,10 +22,10 @@ due_of_emptying (Leaving Emptying) due = due
 due_of_emptying _ due = None
 
 -- what was claimed is given back, or all was
-abbrev pub IsReturning : Place → Type 0
-IsReturning (Making Returning) = Unit {0}
-IsReturning (Making Refusing) = Unit {0}
-IsReturning _ = ⊥
+abbrev pub IsGivingBack : Place → Type 0
+IsGivingBack (Making GivingBack) = Unit {0}
+IsGivingBack (Making Refusing) = Unit {0}
+IsGivingBack _ = ⊥
 
 -- the object has its fragments, and none of its words is stored
 abbrev pub has_its_fragments : Place → Bool

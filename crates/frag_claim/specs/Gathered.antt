@@ -9,7 +9,7 @@ use Rattle.core_machine.specs.table.Fragments.{clear_in}
 use Rattle.core_machine.specs.table.Operation.{word_after}
 use Rattle.heap_table.specs.Made.{Made, FoundIn}
 use Rattle.heap_table.specs.SeatHeld.{SeatHeld}
-use Rattle.frag_claim.specs.Due.{IsReturning, has_its_fragments}
+use Rattle.frag_claim.specs.Due.{IsGivingBack, has_its_fragments}
 
 -- a claim among these steps stood at the group: what it got is just what the word found showed as free, and it left no fragment of the group free
 pub record IsClaimed (made : List Made) (claimed : List ℕ) (group : ℕ) : Type 0 where
@@ -46,7 +46,7 @@ pub record HasItsFragments (old new : SeatHeld) (fragments : List ℕ) : Type 0 
 -- claiming is over: the object has its fragments, or all that was claimed is to be given back; there is room for what is told still
 pub record EndsClaiming (held : SeatHeld) : Type 0 where
   pub settled : has_its_fragments held.seat.place ≡ true → held.seat.place ≡ places.Making (settled_place held.seat.command)
-  pub returning : has_its_fragments held.seat.place ≡ false → IsReturning held.seat.place
+  pub returning : has_its_fragments held.seat.place ≡ false → IsGivingBack held.seat.place
   pub none_given : held.seat.given ≡ 0
   pub none_stored : held.seat.stored ≡ 0
   pub room : 3 ≤ held.spare

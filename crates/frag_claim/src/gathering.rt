@@ -4,7 +4,7 @@ ghost use Rattle.core_machine.specs.declared.place.Making.TheVariants.{Refusing}
 ghost use Rattle.core_machine.specs.declared.place.Place.TheVariants.{Making as Makes};
 ghost use Rattle.heap_table.specs.Made.{Made, MakesSteps, BySteps, IsSound};
 ghost use Rattle.frag_claim.specs.Begins.{BeginsGathering};
-ghost use Rattle.frag_claim.specs.Due.{due_of_claims as due_at_claims, due_of_returns as due_at_returns, has_its_fragments as has_fragments_at, IsReturning};
+ghost use Rattle.frag_claim.specs.Due.{due_of_claims as due_at_claims, due_of_returns as due_at_returns, has_its_fragments as has_fragments_at, IsGivingBack};
 ghost use Rattle.frag_claim.specs.Gathered.{EndsClaiming, HasGathered, HasItsFragments, IsExhausted};
 
 use crate::held::{Hand, Reserve, refill};
@@ -29,7 +29,7 @@ fn due_of_returns<L: Entries>(holder: &Holder<L>) -> Option<Step>
     ensures sound { IsSound holder.now }
 {
     match holder.party().place() {
-        Place::Making(Making::Returning) => holder.due(),
+        Place::Making(Making::GivingBack) => holder.due(),
         _ => None,
     }
 }
@@ -52,7 +52,7 @@ fn claim_groups<L: Entries>(holder: &mut Holder<L>, reserve: &Reserve, need: u16
 
 /// Gives back all that was claimed, group by group.
 fn return_groups<L: Entries>(holder: &mut Holder<L>)
-    requires returning { IsReturning holder.old.seat.place }
+    requires returning { IsGivingBack holder.old.seat.place }
     requires room { length holder.old.seat.hand + 3 ≤ holder.old.spare }
     ensures steps { (made : List Made) × MakesSteps holder.old holder.new made }
     ensures place { holder.new.seat.place ≡ Makes Refusing }

@@ -2,6 +2,7 @@ pub mod account
 pub mod calls
 pub mod graph
 pub mod runs
+pub mod Behind
 pub mod Board
 pub mod Command
 pub mod Heap

@@ -2,6 +2,7 @@
 #![tactic(auto)]
 
 mod account;
+mod behind;
 mod calls;
 mod command;
 mod entry;
@@ -18,6 +19,7 @@ mod reply;
 pub use account::Account;
 pub use account::effect::Effect;
 pub use account::laws::account_laws;
+pub use behind::Behind;
 pub use calls::collect::{CollectReply, Inner};
 pub use calls::collector_calls::{CollectorCalls, Turn};
 pub use calls::laws::seat_laws;

@@ -76,7 +76,7 @@ module _ (number : ℕ) (seat : Seat) (words : List ℕ) (found : ℕ) where
   making_of_heap : (heap : Heap) (place : Making) → AreOfHeap ((making_move heap number seat place).shows words found)
   making_of_heap heap making.Withdrawing = (refl, tt)
   making_of_heap heap making.Gathering = either_of_heap (length (clear_in (next_group_of heap seat) found) == 0) [] (Takes number (length (clear_in (next_group_of heap seat) found)) ∷ []) tt (refl, tt)
-  making_of_heap heap making.Returning = (refl, tt)
+  making_of_heap heap making.GivingBack = (refl, tt)
   making_of_heap heap making.Refusing = (refl, tt)
   making_of_heap heap making.Bearing = born_of_heap (is_last_birth seat)
   making_of_heap heap _ = tt

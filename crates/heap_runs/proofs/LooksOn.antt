@@ -2,16 +2,17 @@
 use Rattle.std.specs.Prelude.{if◌then◌else◌, nat_lt, Result, Ok, Err, OnErr}
 use Rattle.std.specs.List.{AllByRecursion}
 use Rattle.std.proofs.Common.{◌≡◌, ℕ, ◌+◌, ◌^◌, ◌≤◌, Bool, true, false, List, [], ◌∷◌, ◌++◌, None, refl, sym, ap, subst, ◌∙◌, inl, inr, append_assoc, append-nil, arith}
+use Rattle.heap_model.specs.Behind.{behind_of}
 use Rattle.heap_model.specs.calls.SeatState.{own_graph, own_graph_seat}
 use Rattle.heap_model.specs.declared.calls.collect.Inner.{Inner}
-use Rattle.heap_model.specs.declared.calls.collect.Inner.TheVariants.{Look, Answer, Behind, Note}
+use Rattle.heap_model.specs.declared.calls.collect.Inner.TheVariants as inners
 use Rattle.heap_model.specs.declared.entry.Entry.{Entry}
 use Rattle.heap_model.specs.graph.Graph.{Graph, GraphSeat}
 use Rattle.heap_model.specs.graph.Objects.{graph_seat}
 use Rattle.core_machine.specs.calls.InnerStage.{IsInnerOver}
 use Rattle.core_machine.specs.calls.Kept.{Kept, kept_of}
 use Rattle.core_machine.specs.declared.step.Step.{Step}
-use Rattle.core_machine.specs.declared.seat.looks.FoundBehind.{FoundBehind}
+use Rattle.heap_model.specs.declared.behind.Behind.{Behind}
 use Rattle.core_machine.specs.declared.seat.looks.Looks.{Looks}
 use Rattle.core_machine.specs.seat.Looks.{found_behind, seen_phase}
 use Rattle.heap_table.specs.Made.{FoundIn}
@@ -81,28 +82,28 @@ one_more_on : (b : Bool) (n : ℕ) → n ≤ (if b then n + 1 else n)
 one_more_on true n = omega arith
 one_more_on false n = omega arith
 
-compared_more : (b : Bool) (found : FoundBehind) (looks : Looks) → looks.waits ≤ (if b then found_behind found looks else record looks { behind = None }).waits
+compared_more : (b : Bool) (found : Behind) (looks : Looks) → looks.waits ≤ (if b then found_behind found looks else record looks { behind = None }).waits
 compared_more true found looks = one_more_on (nat_lt (looks.waits + 1) (2 ^ 64)) looks.waits
 compared_more false found looks = omega arith
 
 finds_more : (tells : Step → ℕ → Type 0) (number : ℕ) (before kept : Kept) (told : List Entry) (inner : Inner) → IsInnerOver tells number before kept told inner → before.looks.waits ≤ kept.looks.waits
-finds_more tells number before kept told Look over = omega (arith, ap (λ (k : Kept). k.looks.waits) over.kept_is)
-finds_more tells number before kept told Answer over = omega (arith, ap (λ (k : Kept). k.looks.waits) over.kept_is)
-finds_more tells number before kept told (Behind other) over =
-    let more = compared_more (nat_lt over.word over.phase) (record { seat = other; answered = over.word; phase = over.phase }) (seen_phase over.phase before.looks) in
+finds_more tells number before kept told inners.Look over = omega (arith, ap (λ (k : Kept). k.looks.waits) over.kept_is)
+finds_more tells number before kept told inners.Answer over = omega (arith, ap (λ (k : Kept). k.looks.waits) over.kept_is)
+finds_more tells number before kept told (inners.Behind other) over =
+    let more = compared_more (nat_lt over.word over.phase) (behind_of other over.word over.phase) (seen_phase over.phase before.looks) in
     omega (arith, ap (λ (k : Kept). k.looks.waits) over.kept_is, more)
-finds_more tells number before kept told (Note reply) over = omega (arith, ap (λ (k : Kept). k.looks.waits) over.kept_is)
+finds_more tells number before kept told (inners.Note reply) over = omega (arith, ap (λ (k : Kept). k.looks.waits) over.kept_is)
 
 -- an inner call that tells no reply tells at most which phase the seat has answered
 answers_alone : (tells : Step → ℕ → Type 0) (number : ℕ) (before kept : Kept) (told : List Entry) (inner : Inner) → IsQuiet inner → IsInnerOver tells number before kept told inner
     → AllByRecursion (IsAnswerOf number) told
-answers_alone tells number before kept told Look quiet over = subst (AllByRecursion (IsAnswerOf number)) (sym over.none_told) tt
-answers_alone tells number before kept told Answer quiet over = elim over.told_is as (λ _. AllByRecursion (IsAnswerOf number) told) [
+answers_alone tells number before kept told inners.Look quiet over = subst (AllByRecursion (IsAnswerOf number)) (sym over.none_told) tt
+answers_alone tells number before kept told inners.Answer quiet over = elim over.told_is as (λ _. AllByRecursion (IsAnswerOf number) told) [
   | inl none ↦ subst (AllByRecursion (IsAnswerOf number)) (sym none.1) tt
   | inr one ↦ subst (AllByRecursion (IsAnswerOf number)) (sym one.1) (refl, tt)
 ]
-answers_alone tells number before kept told (Behind other) quiet over = subst (AllByRecursion (IsAnswerOf number)) (sym over.none_told) tt
-answers_alone tells number before kept told (Note reply) quiet over = absurd quiet
+answers_alone tells number before kept told (inners.Behind other) quiet over = subst (AllByRecursion (IsAnswerOf number)) (sym over.none_told) tt
+answers_alone tells number before kept told (inners.Note reply) quiet over = absurd quiet
 
 -- the seat has looked around by making room
 pub around_room : (old new : SeatHeld) → MakesRoom old new → LooksAround old new

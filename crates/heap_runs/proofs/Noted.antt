@@ -2,6 +2,7 @@
 use Rattle.std.proofs.Common.{◌≡◌, ◌≢◌, ℕ, ◌+◌, ◌*◌, ◌%◌, ◌<◌, ◌≤◌, List, [], ◌∷◌, ◌++◌, Option, None, Some, refl, sym, ap, subst, ◌∙◌, append_assoc, lt-ltb, arith}
 use Rattle.std.specs.Prelude.{IfSome}
 use Rattle.std.proofs.lemmas.List.{append-nil}
+use Rattle.heap_model.specs.Behind.{behind_of}
 use Rattle.heap_model.specs.PhasePlan.{cycle_phases}
 use Rattle.heap_model.specs.declared.calls.collect.CollectReply.{CollectReply}
 use Rattle.heap_model.specs.declared.calls.collect.CollectReply.TheVariants as replies
@@ -73,7 +74,7 @@ first_kept None found p q upto less = absurd upto
 first_kept (Some first) found p q upto less = omega (arith, upto, less)
 
 -- where the word is below the phase the seat was found to be behind
-found_then : (other p word : ℕ) (looks : Looks) → word < p → (compared other p word looks).behind ≡ Some (record { seat = other; answered = word; phase = p })
+found_then : (other p word : ℕ) (looks : Looks) → word < p → (compared other p word looks).behind ≡ Some (behind_of other word p)
 found_then other p word looks less = rw (lt-ltb word p less) refl
 
 module _ (old new : Recorded) (number p : ℕ) (one : StandsFor old.machine.heap old.machine.state [] old.history) (two : StandsFor new.machine.heap new.machine.state [] new.history)

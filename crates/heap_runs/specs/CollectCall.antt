@@ -1,6 +1,7 @@
 -- A collect of a seat while others step, by the seat's own inner calls.
 use Rattle.std.specs.Prelude.{◌≡◌, ℕ, ◌+◌, ◌-◌, ◌*◌, ◌^◌, ◌<◌, ◌≤◌, ◌⊎◌, false, List, [], ◌∷◌, ◌++◌, Some}
 use Rattle.std.specs.List.{AllByRecursion}
+use Rattle.heap_model.specs.Behind.{behind_of}
 use Rattle.heap_model.specs.calls.SeatState.{own_graph, own_graph_seat}
 use Rattle.heap_model.specs.declared.calls.collect.CollectReply.{CollectReply}
 use Rattle.heap_model.specs.declared.calls.collect.CollectReply.TheVariants.{Cycle, Waits}
@@ -67,7 +68,7 @@ IsPatient patience before now = (before + patience ≤ now) ⊎ (2 ^ 64 - 1 ≤ 
 abbrev pub IsCauseOf : ℕ → SeatHeld → SeatHeld → SeatHeld → CollectReply → Type 0
 IsCauseOf patience old looked found (Cycle cycle) = HasSeenTarget looked.seat.looks.seen found.seat.looks.seen cycle
 IsCauseOf patience old looked found (Waits other answered phase) =
-    IsPatient patience old.seat.looks.waits found.seat.looks.waits × (found.seat.looks.behind ≡ Some (record { seat = other; answered = answered; phase = phase }))
+    IsPatient patience old.seat.looks.waits found.seat.looks.waits × (found.seat.looks.behind ≡ Some (behind_of other answered phase))
 
 -- the seat looked at the phase, made inner calls that tell no reply, and noted this one, for which there was such a cause; it has told nothing else but which phases it answered
 pub record AnswersCollect (patience : ℕ) (old new : SeatHeld) (reply : CollectReply) : Type 0 where

@@ -4,15 +4,14 @@ ghost use Rattle.core_machine.specs.seat.Looks.{MayNote};
 ghost use Rattle.heap_runs.specs.CollectCall.{IsPresent, LooksAround, MayAnswer, AnswersCollect};
 
 use crate::role::{Held, HeldName};
-use core_machine::FoundBehind;
-use heap_model::{CollectReply, Inner, Memory, SeatCalls, Turn};
+use heap_model::{Behind, CollectReply, Inner, Memory, SeatCalls, Turn};
 use heap_record::next_whole_cycle;
 use mutator_seat::Seat;
 use std::sync::{Mutex, Wait};
 use std::thread::yield_now;
 
 /// Where a turn waits for the seat itself, answers. Where it waits for another one, asks whether that one is behind, and tells what it found where it is.
-fn ask(seat: &mut Seat, turn: Turn) -> Result<Option<FoundBehind>, Memory>
+fn ask(seat: &mut Seat, turn: Turn) -> Result<Option<Behind>, Memory>
     requires present { IsPresent seat.old }
     ensures around { LooksAround seat.old seat.new }
     ensures found { IfOk result (λ found. IfSome found (λ behind. seat.new.seat.looks.behind ≡ Some behind)) }
@@ -31,7 +30,7 @@ fn ask(seat: &mut Seat, turn: Turn) -> Result<Option<FoundBehind>, Memory>
     let Some((answered, phase)) = seat.behind(other) else {
         return Ok(None);
     };
-    Ok(Some(FoundBehind {
+    Ok(Some(Behind {
         seat: other,
         answered,
         phase,
@@ -39,7 +38,7 @@ fn ask(seat: &mut Seat, turn: Turn) -> Result<Option<FoundBehind>, Memory>
 }
 
 /// Finds out what a turn came to: asks for whom it waits, and looks how far the phase has come. Tells whom it found behind.
-fn find_out(seat: &mut Seat, turn: Turn) -> Result<Option<FoundBehind>, Memory>
+fn find_out(seat: &mut Seat, turn: Turn) -> Result<Option<Behind>, Memory>
     requires present { IsPresent seat.old }
     ensures around { LooksAround seat.old seat.new }
     ensures found { IfOk result (λ found. IfSome found (λ behind. seat.new.seat.looks.behind ≡ Some behind)) }
@@ -55,7 +54,7 @@ fn reply_to(
     seat: &Seat,
     target: u64,
     enough: u64,
-    found: Option<FoundBehind>,
+    found: Option<Behind>,
 ) -> Option<CollectReply>
     requires { IfSome found (λ behind. seat.now.seat.looks.behind ≡ Some behind) }
     ensures { IfSome result (MayAnswer target enough seat.now.seat.looks) }
@@ -68,11 +67,7 @@ fn reply_to(
         return None;
     }
     let found = found?;
-    Some(CollectReply::Waits {
-        seat: found.seat,
-        answered: found.answered,
-        phase: found.phase,
-    })
+    Some(CollectReply::from(found))
 }
 
 /// Takes the lock for one turn after another, until what the seat finds out answers its collect.

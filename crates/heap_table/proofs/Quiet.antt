@@ -4,14 +4,14 @@ use Rattle.std.specs.Prelude.{IfSome, option_map}
 use Rattle.heap_model.specs.declared.command.Command.{Command}
 use Rattle.heap_model.specs.declared.command.Command.TheVariants as commands
 use Rattle.heap_model.specs.declared.heap.Heap.{Heap}
-use Rattle.core_machine.specs.collector.Collector.{Collector, Turn, next_turn, turn_at, collector_after}
+use Rattle.core_machine.specs.collector.Collector.{Collector, TurnMove, next_turn, turn_at, collector_after}
 use Rattle.core_machine.specs.declared.collector.stage.Copying.TheVariants as copying
 use Rattle.core_machine.specs.declared.collector.stage.Stage.{Stage}
 use Rattle.core_machine.specs.declared.collector.stage.Stage.TheVariants as stages
 use Rattle.core_machine.specs.declared.place.Place.{Place}
 use Rattle.core_machine.specs.declared.place.Place.TheVariants as places
-use Rattle.core_machine.specs.declared.place.Making.TheVariants.{Granting, Withdrawing, Gathering, Returning, Refusing, Placing, Listing, Storing, Bearing}
-use Rattle.core_machine.specs.declared.place.Access.TheVariants.{LoadingMeta, Walking, Locating, Indexing, Getting, Naming, LoadingOld, ShadingOld, ShadingNew, Swapping}
+use Rattle.core_machine.specs.declared.place.Making.TheVariants.{Granting, Withdrawing, Gathering, GivingBack, Refusing, Placing, Listing, Storing, Bearing}
+use Rattle.core_machine.specs.declared.place.Access.TheVariants.{LoadingMeta, Walking, LoadingSpot, Indexing, Getting, Naming, LoadingOld, ShadingOld, ShadingNew, Swapping}
 use Rattle.core_machine.specs.declared.place.Polling.TheVariants as polling
 use Rattle.core_machine.specs.declared.place.Collecting.TheVariants as collecting
 use Rattle.core_machine.specs.declared.place.Leaving.TheVariants.{Emptying, Parting}
@@ -96,7 +96,7 @@ same_at heap number seat n m places.Idle = tt
 same_at heap number seat n m (places.Making Granting) = λ e. cc
 same_at heap number seat n m (places.Making Withdrawing) = λ e. refl
 same_at heap number seat n m (places.Making Gathering) = λ e. cc
-same_at heap number seat n m (places.Making Returning) = λ e. refl
+same_at heap number seat n m (places.Making GivingBack) = λ e. refl
 same_at heap number seat n m (places.Making Refusing) = refusing number seat n m seat.command refl
 same_at heap number seat n m (places.Making Placing) = λ e. cc
 same_at heap number seat n m (places.Making Listing) = λ e. refl
@@ -105,7 +105,7 @@ same_at heap number seat n m (places.Making Bearing) = bearing number seat n m (
 same_at heap number seat n m places.Local = λ e. cc
 same_at heap number seat n m (places.Access LoadingMeta) = λ e. cc
 same_at heap number seat n m (places.Access Walking) = λ e. cc
-same_at heap number seat n m (places.Access Locating) = λ e. cc
+same_at heap number seat n m (places.Access LoadingSpot) = λ e. cc
 same_at heap number seat n m (places.Access Indexing) = λ e. cc
 same_at heap number seat n m (places.Access Getting) = λ e. cc
 same_at heap number seat n m (places.Access Naming) = λ e. cc
@@ -134,7 +134,7 @@ pub quiet_seat : (heap : Heap) (number : ℕ) (seat : Seat) (step : Step) (n m :
 quiet_seat heap number seat step n m due quiet = same_due seat (next_move heap number seat) step n m due quiet (same_at heap number seat n m seat.place)
 
 -- where the turn's step is quiet, the collector after it is the same
-abbrev TurnsSame : ℕ → ℕ → Turn → Type 0
+abbrev TurnsSame : ℕ → ℕ → TurnMove → Type 0
 TurnsSame n m turn = is_quiet turn.step ≡ true → collector_after turn n ≡ collector_after turn m
 
 turned_same : (heap : Heap) (collector : Collector) (n m : ℕ) (stage : Stage) → TurnsSame n m (turn_at heap collector stage)
@@ -142,7 +142,7 @@ turned_same heap collector n m stages.Looking = λ e. cc
 turned_same heap collector n m (stages.Passing group found) = λ e. cc
 turned_same heap collector n m (stages.Scanning scan) = λ e. cc
 turned_same heap collector n m (stages.Shading scan target next) = λ e. refl
-turned_same heap collector n m (stages.Locating scan words) = λ e. cc
+turned_same heap collector n m (stages.Addressing scan words) = λ e. cc
 turned_same heap collector n m (stages.Indexing s) = λ e. cc
 turned_same heap collector n m (stages.Spreading s target) = λ e. refl
 turned_same heap collector n m (stages.Blackening scan) = λ e. refl

@@ -198,7 +198,7 @@ module _ (heap : Heap) (collector : Collector) (fits : CollectorFits heap collec
   may_at (stages.Passing group found) = tt
   may_at (stages.Scanning scan) = tt
   may_at (stages.Shading scan target next) = tt
-  may_at (stages.Locating scan words) = tt
+  may_at (stages.Addressing scan words) = tt
   may_at (stages.Indexing scan) = tt
   may_at (stages.Spreading scan target) = tt
   may_at (stages.Blackening scan) = tt

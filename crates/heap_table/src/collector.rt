@@ -1,21 +1,17 @@
 ghost use Rattle.std.specs.Prelude.{◌≡◌, ◌+◌, ◌<◌, ◌≤◌, ◌^◌, ◌↔◌, true, [], length, map, replicate, None, is_some, IsTrue, IfOk, OnOk, OnErr};
-ghost use Rattle.std.specs.List.{list_all};
 ghost use Rattle.heap_model.specs.Heap.{IsHeap};
 ghost use Rattle.core_machine.specs.collector.Collector.{next_turn};
 ghost use Rattle.core_machine.specs.machine.Opening.{opening_seat};
 ghost use Rattle.heap_table.specs.CollectorHeld.{IsTurned, MayTurn};
-ghost use Rattle.heap_table.specs.Folded.{AllFolded};
-ghost use Rattle.heap_table.specs.Handing.{with_handed, with_folded};
 ghost use Rattle.heap_table.specs.Known.{opening_known};
-ghost use Rattle.heap_table.specs.Opened.{EachOpens, IsOpened};
+ghost use Rattle.heap_table.specs.Opened.{EachOpens};
 ghost use Rattle.heap_table.specs.Quiet.{is_quiet};
 ghost use Rattle.heap_table.specs.Told.{ToldAtTurn};
 
-use crate::holder::Holder;
-use crate::plays::FoldsIn;
+use crate::collector::places::empty_places;
 use crate::rule::{SharedTable, Token};
 use crate::shared_steps::SharedSteps;
-use crate::touch::{hand_out, touch};
+use crate::touch::touch;
 use atomic_table::Table;
 use core_machine::{CollectorParty, CountsEntries, Entries, Log, SeatParty, Step, opening_words};
 use heap_model::{Entry, Heap, Memory, Turn};
@@ -26,6 +22,7 @@ use std::sync::Arc;
 mod copying;
 mod handshake;
 mod marking;
+mod places;
 mod sweeping;
 
 /// The collector of a table: the right to make its turns, with what is kept of it and its log, and a place for each seat that it folds in.
@@ -57,24 +54,6 @@ impl<L: Entries, C: CountsEntries> Model for CollectorHolder<L, C> {
     ghost invariant = { λ holder. KeepsCollector (arc_value holder.table).shared.table_id (arc_value holder.table).shared.key holder.token.table_id holder.token.me holder.heap holder.party.collector holder.places.items holder.folded };
 }
 
-/// A place for each seat, with none in it yet.
-fn empty_places<L: Entries>(alloc: Global, seats: u8) -> Result<Vec<Option<SeatParty<L>>>, Memory>
-    ensures { IfOk result (λ places. places.items ≡ replicate seats None) }
-{
-    let mut places = Vec::new(alloc);
-    for _ in 0..seats {
-        places.push(None)?;
-    }
-    Ok(places)
-}
-
-/// Whether there is a seat in each of these places.
-fn all_full<L: Entries>(places: &[Option<SeatParty<L>>]) -> bool
-    ensures { result ≡ list_all is_some places.now }
-{
-    places.iter().all(|place| place.is_some())
-}
-
 impl<L: Entries, C: CountsEntries> CollectorHolder<L, C> {
     /// The holder of the collector of a table that opens.
     pub(crate) fn opening(alloc: Global, heap: Heap) -> Result<CollectorHolder<L, C>, Memory>
@@ -98,26 +77,6 @@ impl<L: Entries, C: CountsEntries> CollectorHolder<L, C> {
         })
     }
 
-    /// Hands out the next seat.
-    pub(crate) fn next_seat(&mut self, alloc: Global, number: u8) -> Result<Holder<L>, Memory>
-        requires opens { EachOpens self.old.heap }
-        requires next { (number ≡ self.old.known.handed) × (number < self.old.heap.seats) }
-        ensures handed { IfOk result (λ holder. self.new ≡ record self.old { known = with_handed self.old.known }) }
-        ensures seat { IfOk result (IsOpened self.old.table self.old.heap) }
-        ensures number { IfOk result (λ holder. holder.number ≡ number) }
-    {
-        let table = self.table.clone()?;
-        let token = hand_out::<Brand>(&self.table.shared, &mut self.token, &self.heap);
-        let party = SeatParty::opening(alloc, &self.heap, number);
-        Ok(Holder {
-            table,
-            token,
-            heap: self.heap,
-            number,
-            party,
-        })
-    }
-
     /// The heap whose table it is, each of whose seats has a place.
     pub fn heap(&self) -> Heap
         ensures heap { result ≡ self.now.heap }
@@ -133,13 +92,6 @@ impl<L: Entries, C: CountsEntries> CollectorHolder<L, C> {
         ensures logged { result ≤ length self.now.known.collector.log }
     {
         self.party.phase()
-    }
-
-    /// The phase in which the last seat was folded in; 0 where none was.
-    pub fn folded(&self) -> u64
-        ensures { result ≡ self.now.known.folded }
-    {
-        self.folded
     }
 
     /// The number of turns that were made, or the last number of 64 bits.
@@ -212,28 +164,6 @@ impl<L: Entries, C: CountsEntries> CollectorHolder<L, C> {
         ensures { IsTurned self.old self.new 0 }
     {
         self.turn_by(step);
-    }
-
-    /// Whether every seat was folded in.
-    pub fn all_folded(&self) -> bool
-        ensures { IsTrue result ↔ AllFolded self.now.heap self.now.known.seats }
-    {
-        all_full(self.places.as_slice())
-    }
-
-    /// Takes in a seat that has left: its data with its log move into its place.
-    pub fn fold_in(&mut self, from: Holder<L>)
-        requires table { (from.table ≡ self.old.table) × (from.heap ≡ self.old.heap) }
-        requires left { from.seat.left ≡ true }
-        ensures { self.new ≡ record self.old { known = with_folded self.old.known from.number from.seat } }
-    {
-        let place = from.number() as usize;
-        let (token, party) = from.into_parts();
-        self.table
-            .shared
-            .join_seat::<FoldsIn>(&mut self.token, token);
-        self.folded = self.party.phase();
-        self.places[place] = Some(party);
     }
 }
 

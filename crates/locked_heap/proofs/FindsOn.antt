@@ -6,9 +6,9 @@ use Rattle.heap_model.specs.declared.command.Command.{Command}
 use Rattle.heap_model.specs.declared.command.Command.TheVariants as commands
 use Rattle.heap_model.specs.declared.heap.Heap.{Heap}
 use Rattle.heap_model.specs.declared.reply.Reply.{Reply}
-use Rattle.core_machine.specs.declared.place.Access.TheVariants.{LoadingMeta, Walking, Locating, Indexing, Getting, Naming, LoadingOld, ShadingOld, ShadingNew, Swapping}
+use Rattle.core_machine.specs.declared.place.Access.TheVariants.{LoadingMeta, Walking, LoadingSpot, Indexing, Getting, Naming, LoadingOld, ShadingOld, ShadingNew, Swapping}
 use Rattle.core_machine.specs.declared.place.Leaving.TheVariants.{Emptying, Parting}
-use Rattle.core_machine.specs.declared.place.Making.TheVariants.{Granting, Withdrawing, Gathering, Returning, Refusing, Placing, Listing, Storing, Bearing}
+use Rattle.core_machine.specs.declared.place.Making.TheVariants.{Granting, Withdrawing, Gathering, GivingBack, Refusing, Placing, Listing, Storing, Bearing}
 use Rattle.core_machine.specs.declared.place.Place.{Place}
 use Rattle.core_machine.specs.declared.place.Place.TheVariants as places
 use Rattle.core_machine.specs.declared.place.Polling.TheVariants as polling
@@ -18,7 +18,7 @@ use Rattle.core_machine.specs.Moves.{Move, move_at, is_last_birth, last_birth_mo
 use Rattle.heap_words.specs.Loaded.{head_of, array_length_of}
 use Rattle.core_machine.specs.seat.Access.{meta_reply_of, after_meta, after_get, after_old_load}
 use Rattle.core_machine.specs.seat.Handshake.{answer_next, polling_over}
-use Rattle.core_machine.specs.declared.seat.looks.FoundBehind.{FoundBehind}
+use Rattle.heap_model.specs.declared.behind.Behind.{Behind}
 use Rattle.core_machine.specs.declared.seat.looks.Looks.{Looks}
 use Rattle.core_machine.specs.seat.Looks.{found_behind}
 use Rattle.core_machine.specs.seat.Seat.{Seat, with_seen, after_call, absent_seat}
@@ -59,7 +59,7 @@ one_more_on true n = omega arith
 one_more_on false n = omega arith
 
 -- so it is where another seat was compared
-pub compared_on : (b : Bool) (found : FoundBehind) (looks : Looks) → looks.waits ≤ (if b then found_behind found looks else record looks { behind = None }).waits
+pub compared_on : (b : Bool) (found : Behind) (looks : Looks) → looks.waits ≤ (if b then found_behind found looks else record looks { behind = None }).waits
 compared_on true found looks = one_more_on (nat_lt (looks.waits + 1) (2 ^ 64)) looks.waits
 compared_on false found looks = omega arith
 
@@ -101,7 +101,7 @@ module _ (heap : Heap) (number : ℕ) (seat : Seat) (here : IsElsewhere seat.pla
   moves_on (places.Making Granting) there = λ found. stays_on seat _ (stays_budget heap seat found)
   moves_on (places.Making Withdrawing) there = λ found. over_on seat _ tt refl refl
   moves_on (places.Making Gathering) there = λ found. stays_on seat _ (stays_claim heap seat found)
-  moves_on (places.Making Returning) there = λ found. same_on seat _ tt refl refl
+  moves_on (places.Making GivingBack) there = λ found. same_on seat _ tt refl refl
   moves_on (places.Making Refusing) there = λ found. refuses seat.command found
   moves_on (places.Making Placing) there = λ found. same_on seat _ tt refl refl
   moves_on (places.Making Listing) there = λ found. same_on seat _ tt refl refl
@@ -110,7 +110,7 @@ module _ (heap : Heap) (number : ℕ) (seat : Seat) (here : IsElsewhere seat.pla
   moves_on places.Local there = λ found. over_on seat _ tt refl refl
   moves_on (places.Access LoadingMeta) there = λ found. metas found (meta_reply_of seat.command found)
   moves_on (places.Access Walking) there = λ found. stays_on seat _ (stays_walk seat found)
-  moves_on (places.Access Locating) there = λ found. same_on seat _ tt refl refl
+  moves_on (places.Access LoadingSpot) there = λ found. same_on seat _ tt refl refl
   moves_on (places.Access Indexing) there = λ found. same_on seat _ tt refl refl
   moves_on (places.Access Getting) there = λ found. gets found (head_of found)
   moves_on (places.Access Naming) there = λ found. over_on seat _ tt refl refl

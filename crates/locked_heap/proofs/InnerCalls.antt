@@ -1,6 +1,7 @@
 -- What the seats have come to after an inner call of a collect.
 use Rattle.std.specs.Prelude.{slice_set, slice_get, nat_lt, if◌then◌else◌, Bool, true, false, Option, Some, None}
 use Rattle.std.proofs.Common.{◌≡◌, ◌≢◌, ℕ, ◌+◌, ◌*◌, ◌<◌, ◌≤◌, List, [], sym, ap, subst, refl, ◌∙◌, arith}
+use Rattle.heap_model.specs.Behind.{behind_of}
 use Rattle.heap_model.specs.declared.calls.collect.CollectReply.{CollectReply}
 use Rattle.heap_model.specs.declared.calls.collect.CollectReply.TheVariants as notes
 use Rattle.heap_model.specs.declared.calls.collect.Inner.{Inner}
@@ -11,7 +12,7 @@ use Rattle.heap_model.specs.declared.heap.Heap.{Heap}
 use Rattle.core_machine.specs.declared.table.address.Address.TheVariants as addresses
 use Rattle.core_machine.specs.machine.InnerCalls.{inner_entries, seat_after_inner}
 use Rattle.core_machine.specs.machine.Machine.{seat_at}
-use Rattle.core_machine.specs.declared.seat.looks.FoundBehind.{FoundBehind}
+use Rattle.heap_model.specs.declared.behind.Behind.{Behind}
 use Rattle.core_machine.specs.declared.seat.looks.Looks.{Looks}
 use Rattle.core_machine.specs.seat.Looks.{seen_phase, found_behind, first_of}
 use Rattle.core_machine.specs.seat.Seat.{Seat}
@@ -40,7 +41,7 @@ looked_some None None some fits found = absurd (some refl)
 looked_some (Some p) target some fits found = refl
 
 -- a comparison leaves the first look
-compared_first : (b : Bool) (found : FoundBehind) (looks : Looks) → (if b then found_behind found looks else record looks { behind = None }).first ≡ looks.first
+compared_first : (b : Bool) (found : Behind) (looks : Looks) → (if b then found_behind found looks else record looks { behind = None }).first ≡ looks.first
 compared_first true found looks = refl
 compared_first false found looks = refl
 
@@ -56,8 +57,8 @@ inner_on heap words number seat (inners.Behind other) quiet looked =
       left_same = refl;
       made_same = refl;
       sets_same = refl;
-      finds = compared_on (nat_lt word p) (record { seat = other; answered = word; phase = p }) (seen_phase p seat.looks);
-      first_same = compared_first (nat_lt word p) (record { seat = other; answered = word; phase = p }) (seen_phase p seat.looks);
+      finds = compared_on (nat_lt word p) (behind_of other word p) (seen_phase p seat.looks);
+      first_same = compared_first (nat_lt word p) (behind_of other word p) (seen_phase p seat.looks);
     }
 
 module _ (given : Given) (old new : Recorded) (seats : List Progress) (number : ℕ) (all : AllHaveCome given old.history old.machine.state seats) where

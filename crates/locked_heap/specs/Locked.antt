@@ -1,11 +1,13 @@
 -- What contracts see of the heap under the lock.
 use Rattle.std.specs.Prelude.{◌≡◌, ◌≢◌, ℕ, ◌+◌, ◌-◌, ◌*◌, ◌^◌, ◌<◌, ◌≤◌, ◌⊎◌, ◌==◌, if◌then◌else◌, Bool, true, false, min, List, ◌∷◌, [], ◌++◌, length, drop, slice_get, Some, None}
+use Rattle.heap_model.specs.Behind.{as_collect_reply}
+use Rattle.heap_model.specs.declared.behind.Behind.{Behind}
 use Rattle.heap_model.specs.declared.command.Command.{Command}
 use Rattle.heap_model.specs.declared.command.Command.TheVariants.{Collect}
 use Rattle.heap_model.specs.declared.calls.collect.CollectReply.{CollectReply}
 use Rattle.heap_model.specs.declared.calls.collect.CollectReply.TheVariants.{Cycle, Waits}
 use Rattle.heap_model.specs.declared.calls.collect.Inner.{Inner}
-use Rattle.heap_model.specs.declared.calls.collect.Inner.TheVariants.{Look, Answer, Behind, Note}
+use Rattle.heap_model.specs.declared.calls.collect.Inner.TheVariants as inners
 use Rattle.heap_model.specs.declared.calls.collector_calls.Turn.{Turn}
 use Rattle.heap_model.specs.declared.calls.collector_calls.Turn.TheVariants as turns
 use Rattle.heap_model.specs.declared.entry.Entry.{Entry}
@@ -14,7 +16,6 @@ use Rattle.heap_model.specs.declared.heap.Heap.{Heap}
 use Rattle.heap_model.specs.PhasePlan.{cycle_phases}
 use Rattle.heap_model.specs.account.Space.{total}
 use Rattle.core_machine.specs.machine.Machine.{State, seat_at, Event, BeginsInner, Can}
-use Rattle.core_machine.specs.declared.seat.looks.FoundBehind.{FoundBehind}
 use Rattle.core_machine.specs.seat.Looks.{noted_reply}
 use Rattle.slack_pace.specs.Slack.{MakesEach, last_made, HasWaited}
 use Rattle.locked_heap.specs.declared.progress.Progress.{Progress}
@@ -107,7 +108,7 @@ pub record OwesNoMore (old new : LockedValue) : Type 0 where
 
 -- the inner call tells no reply
 abbrev pub IsQuiet : Inner → Type 0
-IsQuiet (Note reply) = ⊥
+IsQuiet (inners.Note reply) = ⊥
 IsQuiet _ = Unit {0}
 
 -- since its collect began the seat has found another one behind as often as its patience asks, or as often as is counted
@@ -132,13 +133,13 @@ pub record TellsAnswer (old new : LockedValue) (number : ℕ) (came : CollectRep
 
 -- the collect is answered that it waits for the seat that was found behind last, where one was, and the seat was patient
 abbrev pub AnswersWait : Given → LockedValue → LockedValue → ℕ → Type 0
-AnswersWait given old new number = IsPatient given old number → (found : FoundBehind) → (seat_at old.recorded.machine.state number).looks.behind ≡ Some found
-    → TellsAnswer old new number (Waits found.seat found.answered found.phase)
+AnswersWait given old new number = IsPatient given old number → (found : Behind) → (seat_at old.recorded.machine.state number).looks.behind ≡ Some found
+    → TellsAnswer old new number (as_collect_reply found)
 
 -- the inner call by which the seat finds out what a turn of its collect came to: it answers the phase, or looks whether the other seat is behind, or how far the phase has come
 abbrev pub found_by_turn : ℕ → Turn → Inner
-found_by_turn number (turns.Waits other answered p) = if other == number then Answer else Behind other
-found_by_turn number _ = Look
+found_by_turn number (turns.Waits other answered p) = if other == number then inners.Answer else inners.Behind other
+found_by_turn number _ = inners.Look
 
 -- one turn was made for the seat's collect, the seat has found out what that came to, and the collect is answered where this answers it: first that its cycle has ended, and
 -- only else that it waits

@@ -5,6 +5,7 @@ pub mod Fields
 pub mod Inner
 pub mod KeptOn
 pub mod Opened
+pub mod Refusals
 pub mod Replied
 pub mod Running
 pub mod Since

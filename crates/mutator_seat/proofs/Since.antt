@@ -72,7 +72,7 @@ module _ (heap : Heap) (number : ℕ) (old : Seat) where
     making_since making.Granting stage = λ t. t
     making_since making.Withdrawing stage = λ t. t
     making_since making.Gathering stage = λ t. t
-    making_since making.Returning stage = λ t. t
+    making_since making.GivingBack stage = λ t. t
     making_since making.Refusing stage = refused_since seat seat.command _ found (ap (λ (k : Kept). k.answered) stage.0)
     making_since making.Placing stage = λ t. t
     making_since making.Listing stage = λ t. t
@@ -82,7 +82,7 @@ module _ (heap : Heap) (number : ℕ) (old : Seat) where
     access_since : (place : Access) → PlaceGoesOn (places.Access place)
     access_since access.LoadingMeta stage = meta_since seat told seat.reached found stage.0 mine
     access_since access.Walking stage = meta_since seat told seat.reached found stage.0 mine
-    access_since access.Locating stage = λ t. t
+    access_since access.LoadingSpot stage = λ t. t
     access_since access.Indexing stage = λ t. t
     access_since access.Getting stage = λ t. t
     access_since access.Naming stage = λ t. t

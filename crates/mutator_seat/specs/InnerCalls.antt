@@ -1,5 +1,7 @@
 -- An inner call of a collect, between whose steps others may step.
 use Rattle.std.specs.Prelude.{◌≡◌, ℕ, ◌+◌, ◌≤◌, ◌==◌, nat_lt, false, if◌then◌else◌, ◌++◌, List, [], ◌∷◌, length, Option, Some, None}
+use Rattle.heap_model.specs.Behind.{behind_of}
+use Rattle.heap_model.specs.declared.behind.Behind.{Behind}
 use Rattle.heap_model.specs.calls.SeatState.{SeatState, own_graph, own_graph_seat}
 use Rattle.heap_model.specs.declared.calls.collect.Inner.{Inner}
 use Rattle.heap_model.specs.declared.entry.Entry.{Entry}
@@ -10,7 +12,6 @@ use Rattle.core_machine.specs.declared.place.Place.TheVariants.{Idle}
 use Rattle.core_machine.specs.declared.step.Step.TheVariants.{PollLoad, Turning}
 use Rattle.core_machine.specs.declared.step.TurningStep.TheVariants.{LookLoad}
 use Rattle.core_machine.specs.machine.Machine.{after_inner_begin}
-use Rattle.core_machine.specs.declared.seat.looks.FoundBehind.{FoundBehind}
 use Rattle.heap_table.specs.Made.{Made, FoundIn, MakesSteps}
 use Rattle.heap_table.specs.SeatHeld.{SeatHeld}
 use Rattle.mutator_seat.specs.Resting.{seat_state, Rests}
@@ -54,11 +55,11 @@ pub record ShowsBehind (made : List Made) (other : ℕ) (shown : Option (ℕ × 
   pub shown_is : shown ≡ (if nat_lt word phase then Some (word, phase) else None)
 
 -- what is shown of who was found behind
-abbrev pub shown_of : Option FoundBehind → Option (ℕ × ℕ)
+abbrev pub shown_of : Option Behind → Option (ℕ × ℕ)
 shown_of None = None
 shown_of (Some found) = Some (found.answered, found.phase)
 
 -- who was found behind, where this was shown of the seat
-abbrev pub behind_of : ℕ → Option (ℕ × ℕ) → Option FoundBehind
-behind_of other None = None
-behind_of other (Some shown) = Some (record { seat = other; answered = shown.0; phase = shown.1 })
+abbrev pub behind_shown : ℕ → Option (ℕ × ℕ) → Option Behind
+behind_shown other None = None
+behind_shown other (Some shown) = Some (behind_of other shown.0 shown.1)

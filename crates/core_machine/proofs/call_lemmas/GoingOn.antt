@@ -10,7 +10,7 @@ use Rattle.core_machine.proofs.table_lemmas.Free.{sum_zero}
 use Rattle.core_machine.proofs.seat_lemmas.Fitting.{goes_on_cases, returning_cases, settled_cases}
 use Rattle.core_machine.proofs.call_lemmas.Asking.{AsksWords, asks_none}
 use Rattle.core_machine.proofs.call_lemmas.Restoring.{claims_none}
-use Rattle.core_machine.proofs.call_lemmas.Stages.{WhileGathering, WhileReturning, WhileMaking, AloneStage}
+use Rattle.core_machine.proofs.call_lemmas.Stages.{WhileGathering, WhileGivingBack, WhileMaking, AloneStage}
 
 -- each group is passed when as many were claimed as there are
 pub every_group : (groups cursor tried g : ℕ) (P : ℕ → Type 0) → cursor < groups → groups ≤ tried → g < groups
@@ -51,7 +51,7 @@ array_no_record _ an_array a_record = an_array
 module _ (heap : Heap) (old : State) (number : ℕ) (command : Command) where
   -- while what was claimed is given back, of which nothing was yet
   while_returning : (words : List ℕ) (seat : Seat) → seat.given ≡ 0 → WhileGathering heap old words command seat.cursor seat.tried seat.hand → free_count heap words ≡ 0
-      → WhileReturning heap old words command seat.hand seat.given
+      → WhileGivingBack heap old words command seat.hand seat.given
   while_returning words seat none while nothing = record { all = omega (arith, while.free, nothing, none); claims = while.claims }
 
   -- where the call goes on with what is gathered

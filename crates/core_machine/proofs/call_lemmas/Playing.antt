@@ -2,7 +2,7 @@
 use Rattle.std.proofs.Common.{◌≡◌, ℕ, ◌+◌, ◌*◌, ◌%◌, ◌^◌, ◌<◌, List, [], ◌∷◌, ◌++◌, length, refl, sym, ap, subst, inl, inr, length-append, bit_or, arith}
 use Rattle.std.proofs.lemmas.Bool.Decides.{eqb_tells}
 use Rattle.std.proofs.lemmas.List.Filters.{length-filter_both}
-use Rattle.core_machine.proofs.Terms.{Heap, Command, spine_need_of, Entry, Said, GivesBack, Address, Control, Granting, Withdrawing, Gathering, Returning, Refusing, Placing}
+use Rattle.core_machine.proofs.Terms.{Heap, Command, spine_need_of, Entry, Said, GivesBack, Address, Control, Granting, Withdrawing, Gathering, GivingBack, Refusing, Placing}
 use Rattle.core_machine.proofs.Terms.{Listing, Storing, Bearing, clear_in, part_in, part_out, in_group, out_of_group, at, put, InTable, table_length, all_taken, Seat, need}
 use Rattle.core_machine.proofs.Terms.{spine_need, with_entries, next_group_of, first_group_of, after_give_back, after_listing, after_store, store_place, next_object_id, Move}
 use Rattle.core_machine.proofs.Terms.{seat_after, listing_move, bearing_move, is_last_birth, making_move, State, seat_at, found_by, state_after_move, SeatIsGathering}
@@ -21,7 +21,7 @@ use Rattle.core_machine.proofs.table_lemmas.Filters.{out_shorter}
 use Rattle.core_machine.proofs.call_lemmas.Asking.{AsksWords, asks_small, refusal_restores}
 use Rattle.core_machine.proofs.call_lemmas.Restoring.{Claims, claims_more, claims_less, claims_over}
 use Rattle.core_machine.proofs.machine_lemmas.Runs.{seat_at-set}
-use Rattle.core_machine.proofs.call_lemmas.Stages.{WhileGathering, WhileReturning, WhileMaking, MakingAlone, AloneStage, AloneAfter}
+use Rattle.core_machine.proofs.call_lemmas.Stages.{WhileGathering, WhileGivingBack, WhileMaking, MakingAlone, AloneStage, AloneAfter}
 use Rattle.core_machine.proofs.call_lemmas.GoingOn.{own_kept, alone_goes_on}
 use Rattle.core_machine.proofs.call_lemmas.Granting.{alone_granted, alone_withdrawn}
 
@@ -76,7 +76,7 @@ module _ (heap : Heap) (old : State) (number : ℕ) (command : Command) (now : S
         };
       })
 
-  alone_given_back : SeatIsRefusing heap the_seat → 0 < length the_seat.hand → WhileReturning heap old now.words command (seat_at now number).hand (seat_at now number).given → Leads (give_back_move number the_seat)
+  alone_given_back : SeatIsRefusing heap the_seat → 0 < length the_seat.hand → WhileGivingBack heap old now.words command (seat_at now number).hand (seat_at now number).given → Leads (give_back_move number the_seat)
   alone_given_back is some while =
       let seat = the_seat in
       let fits = machine.fit number within in
@@ -87,7 +87,7 @@ module _ (heap : Heap) (old : State) (number : ℕ) (command : Command) (now : S
       let less = claims_less heap while.claims.base now.words seat.hand group machine.table there (omega arith) while.claims.claims in
       let entry = GivesBack number (length (part_in group seat.hand)) in
       let after_ = state_after_move heap now number (give_back_move number seat) in
-      let next : WhileReturning heap old after_.words command (part_out group seat.hand) (seat.given + length (part_in group seat.hand)) = record {
+      let next : WhileGivingBack heap old after_.words command (part_out group seat.hand) (seat.given + length (part_in group seat.hand)) = record {
         all = omega (arith, while.all);
         claims = record { base = while.claims.base; asked = while.claims.asked; granted = while.claims.granted; claims = less };
       } in
@@ -95,7 +95,7 @@ module _ (heap : Heap) (old : State) (number : ℕ) (command : Command) (now : S
       (part_out group seat.hand) (λ empty. next) (λ left. next)
 
   alone_refused : SeatIsRefusing heap the_seat → the_seat.hand ≡ [] → the_seat.command ≡ command → KeepsIt
-      → WhileReturning heap old now.words command (seat_at now number).hand (seat_at now number).given → Leads (refusal_move number the_seat)
+      → WhileGivingBack heap old now.words command (seat_at now number).hand (seat_at now number).given → Leads (refusal_move number the_seat)
   alone_refused is empty same kept while =
       let seat = the_seat in
       let after_ = state_after_move heap now number (refusal_move number seat) in
@@ -166,7 +166,7 @@ module _ (heap : Heap) (old : State) (number : ℕ) (command : Command) (now : S
   alone_making Granting here fits same mine own alone = alone_granted heap old number command now told machine within small fits same own.kept_stays alone
   alone_making Withdrawing here fits same mine own alone = alone_withdrawn heap old number command now told machine within small fits same own.0.kept_stays alone
   alone_making Gathering here fits same mine own alone = alone_claimed fits same own.0 alone
-  alone_making Returning here fits same mine own alone = alone_given_back fits.0 fits.1 alone
+  alone_making GivingBack here fits same mine own alone = alone_given_back fits.0 fits.1 alone
   alone_making Refusing here fits same mine own alone = alone_refused fits.0 fits.1 same own.0 alone
   alone_making Placing here fits same mine own alone = alone
   alone_making Listing here fits same mine own alone = alone_listed alone

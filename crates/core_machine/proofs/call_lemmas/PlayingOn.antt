@@ -2,7 +2,7 @@
 use Rattle.std.proofs.Common.{◌≡◌, ℕ, ◌+◌, ◌^◌, ◌<◌, length, eqb, List, [], ◌∷◌, ◌++◌, Option, Some, None, inl, inr, refl, sym, ap, subst, ◌∙◌, append-nil, append_assoc}
 use Rattle.std.specs.Prelude.{IfSome, nat_lt}
 use Rattle.std.proofs.lemmas.Bool.Decides.{eqb_tells}
-use Rattle.core_machine.proofs.Terms.{Heap, Command, Entry, Said, Answers, Reply, Address, Phase, Word, Place, LoadingMeta, Walking, Locating, Indexing, Getting, Naming}
+use Rattle.core_machine.proofs.Terms.{Heap, Command, Entry, Said, Answers, Reply, Address, Phase, Word, Place, LoadingMeta, Walking, LoadingSpot, Indexing, Getting, Naming}
 use Rattle.core_machine.proofs.Terms.{LoadingOld, ShadingOld, ShadingNew, Swapping, Register, IsPlaceRefusal, looks_refused, LeavesAll, MakesObject, IsRecordCall, IsArrayCall}
 use Rattle.core_machine.proofs.Terms.{source_of, at, put, InTable, address_of, word_after, head_of, array_length_of, stamp_of, id_of, register_in, register_head, at_access}
 use Rattle.core_machine.proofs.Terms.{with_field_place, field_place_of, way_place_of, after_link, after_walk, after_length, at_payload, meta_reply_of, after_meta, after_get}
@@ -189,7 +189,7 @@ module _ (heap : Heap) (old : State) (number : ℕ) (command : Command) (now : S
   alone_access Walking is same kept alone =
       let move = access_move heap number the_seat Walking in
       onward_alone (state_after_move heap now number move) (told_ ++ []) the_seat (found_by heap now move.step) []
-  alone_access Locating is same kept alone = tt
+  alone_access LoadingSpot is same kept alone = tt
   alone_access Indexing is same kept alone =
       let move = access_move heap number the_seat Indexing in
       field_alone (state_after_move heap now number move).words (told_ ++ []) (at_payload the_seat (found_by heap now move.step)) the_seat.command

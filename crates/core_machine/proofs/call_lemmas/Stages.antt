@@ -1,7 +1,7 @@
 -- How the words stand, while a call is made by itself, to those of its begin, beside where it stands by the seat's own data.
 use Rattle.std.proofs.Common.{◌≡◌, ℕ, ◌+◌, ◌%◌, ◌<◌, ◌≤◌, List, [], ◌∷◌, ◌++◌, length}
 use Rattle.core_machine.proofs.Terms.{Heap, Command, Poll, Entry, Said, Reply, spine_need_of, tells_nothing, OwnStage, Phase, Budget, Control, Place, Granting, Withdrawing}
-use Rattle.core_machine.proofs.Terms.{Gathering, Returning, Refusing, Placing, Listing, Storing, Bearing, clear_in, at, Seat, Move, seat_after, State, seat_at, found_by}
+use Rattle.core_machine.proofs.Terms.{Gathering, GivingBack, Refusing, Placing, Listing, Storing, Bearing, clear_in, at, Seat, Move, seat_after, State, seat_at, found_by}
 use Rattle.core_machine.proofs.Terms.{state_after_move, LoadingMeta, Naming, IsRecordCall, IsArrayCall, free_count, within_reach, AnswersNew, LacksSpineWords, AnswersArray}
 use Rattle.core_machine.proofs.Terms.{IsPlaceRefusal, LeavesAll}
 use Rattle.heap_model.specs.declared.reply.Reply.TheVariants as replies
@@ -27,7 +27,7 @@ pub record WhileGathering (heap : Heap) (old : State) (words : List ℕ) (comman
   pub claims : HasClaimed heap old words command hand
 
 -- while what was claimed is given back: it was all that was free
-pub record WhileReturning (heap : Heap) (old : State) (words : List ℕ) (command : Command) (hand : List ℕ) (given : ℕ) : Type 0 where
+pub record WhileGivingBack (heap : Heap) (old : State) (words : List ℕ) (command : Command) (hand : List ℕ) (given : ℕ) : Type 0 where
   pub all : length hand + given ≡ free_count heap old.words
   pub claims : HasClaimed heap old words command hand
 
@@ -58,8 +58,8 @@ abbrev pub MakingAlone : Heap → State → List ℕ → ℕ → Command → Sea
 MakingAlone heap old words number command seat Granting = words ≡ old.words
 MakingAlone heap old words number command seat Withdrawing = WhileWithdrawing heap old words command seat.used
 MakingAlone heap old words number command seat Gathering = WhileGathering heap old words command seat.cursor seat.tried seat.hand
-MakingAlone heap old words number command seat Returning = WhileReturning heap old words command seat.hand seat.given
-MakingAlone heap old words number command seat Refusing = WhileReturning heap old words command seat.hand seat.given
+MakingAlone heap old words number command seat GivingBack = WhileGivingBack heap old words command seat.hand seat.given
+MakingAlone heap old words number command seat Refusing = WhileGivingBack heap old words command seat.hand seat.given
 MakingAlone heap old words number command seat Placing = WhileMaking heap old number command
 MakingAlone heap old words number command seat Listing = WhileMaking heap old number command
 MakingAlone heap old words number command seat Storing = WhileMaking heap old number command

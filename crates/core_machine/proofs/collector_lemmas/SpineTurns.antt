@@ -35,8 +35,8 @@ fits_spine heap phase looked s marks within few below spot made =
     (λ more. record { on = record { marks = marks; fragment_within = within; words_few = few; index_within = more; spine_within = spot }; steps_made = made })
     (λ done. record { marks = marks; fragment_within = within; few_steps = omega (arith, made, below, few) })
 
-pub locate_stands : (scan : Scan) (words : ℕ) → StageStands (stages.Locating scan words)
-locate_stands scan words heap collector limits fits locating here =
+pub address_stands : (scan : Scan) (words : ℕ) → StageStands (stages.Addressing scan words)
+address_stands scan words heap collector limits fits addressing here =
     work_stands heap (Spine (AddressLoad scan.fragment)) (λ word. record collector { stage = after_address scan words word })
     (load_stands heap (Spine (AddressLoad scan.fragment)) refl (here.fragment_within, omega arith))
     (λ word small led. stage_fits heap collector (after_address scan words word) fits

@@ -1,14 +1,14 @@
 -- What is asked of each turn of the collector.
 use Rattle.std.proofs.Common.{◌≡◌, ℕ, ◌-◌, ◌<◌, ◌^◌, [], ◌∷◌, ◌++◌, length-append, arith}
-use Rattle.heap_model.specs.declared.calls.collector_calls.Turn.{Turn as TurnAnswer}
+use Rattle.heap_model.specs.declared.calls.collector_calls.Turn.{Turn}
 use Rattle.heap_model.specs.declared.calls.collector_calls.Turn.TheVariants.{Stepped}
 use Rattle.core_machine.proofs.Terms.{Entry, Heap, IsHeap, Step, FoundPointsWithin, address_of}
 use Rattle.core_machine.specs.declared.collector.stage.Stage.{Stage}
-use Rattle.core_machine.specs.collector.Collector.{Collector, Turn, after_advance, quiet_turn, work_turn, turn_at, collector_after}
+use Rattle.core_machine.specs.collector.Collector.{Collector, TurnMove, after_advance, quiet_turn, work_turn, turn_at, collector_after}
 use Rattle.core_machine.specs.collector.FitsTurns.{FitsStage, CollectorFits}
 use Rattle.core_machine.proofs.table_lemmas.StepStands.{StepStands}
 
-pub record TurnStands (heap : Heap) (turn : Turn) : Type 0 where
+pub record TurnStands (heap : Heap) (turn : TurnMove) : Type 0 where
   pub step : StepStands heap turn.step
   -- the collector's data fit together after it, where the word found has 64 bits and leads within the heap
   pub fits : (found : ℕ) → found < 2 ^ 64 → FoundPointsWithin heap (address_of turn.step) found → turn.may → CollectorFits heap (collector_after turn found)
@@ -19,7 +19,7 @@ StageStands stage = (heap : Heap) (collector : Collector) → IsHeap heap → Co
     → FitsStage heap collector.phase collector.looked stage → TurnStands heap (turn_at heap collector stage)
 
 -- a turn that adds no entry
-pub quiet_stands : (heap : Heap) (step : Step) (told : ℕ → Collector) (answer : ℕ → TurnAnswer) → StepStands heap step
+pub quiet_stands : (heap : Heap) (step : Step) (told : ℕ → Collector) (answer : ℕ → Turn) → StepStands heap step
     → ((found : ℕ) → found < 2 ^ 64 → FoundPointsWithin heap (address_of step) found → CollectorFits heap (told found)) → TurnStands heap (quiet_turn step told answer)
 quiet_stands heap step told answer stands fits = record {
   step = stands;

@@ -7,7 +7,7 @@ use Rattle.std.proofs.lemmas.List.Filters.{length-filter_both}
 use Rattle.std.proofs.lemmas.Nat.{and_le_r, or_lt}
 use Rattle.std.specs.List.{All}
 use Rattle.heap_model.specs.account.Space.{need_of}
-use Rattle.core_machine.proofs.Terms.{Command, New, Entry, Heap, refusal_step, Gathering, Returning, Refusing, PollLoad, found_by, MayBegin, after_begin, entries_awaited, Fits}
+use Rattle.core_machine.proofs.Terms.{Command, New, Entry, Heap, refusal_step, Gathering, GivingBack, Refusing, PollLoad, found_by, MayBegin, after_begin, entries_awaited, Fits}
 use Rattle.core_machine.proofs.Terms.{MakesNext, SeatIsGathering, SeatIsRefusing, FitsPlace, after_gather, after_claim, after_give_back, next_group_of, first_group_of}
 use Rattle.core_machine.proofs.Terms.{refusal_place, fragments_gathered, gather_next, Seat, need, spine_need, with_entries, clear_in, part_out, in_group, out_of_group, part_in}
 use Rattle.core_machine.proofs.Terms.{mask_of, all_taken, owes_making, making_steps, Nears, owes}
@@ -137,14 +137,14 @@ nears_given_back heap seat entry some =
     (λ empty. record { fewer = omega arith; paid = omega arith }) (λ left. record { fewer = omega arith; paid = omega arith })
 
 -- a group is given back
-pub give_back_stands : PlaceStands (places.Making Returning)
+pub give_back_stands : PlaceStands (places.Making GivingBack)
 give_back_stands heap number seat here = record {
   step = record {
     in_table = group_within heap seat.hand 0 here.hand.1 here.fits.hand.hand_within;
     wide = λ found small. let le = and_le_r found (2 ^ 64 - 1 - mask_of (first_part seat)) in omega arith;
     leads = λ found led. tt;
   };
-  fits = λ found small led. fits_given_back heap seat here.fits (aside_at heap number seat (places.Making Returning) here (λ e. cc) here.way here.answer) here.hand.0;
+  fits = λ found small led. fits_given_back heap seat here.fits (aside_at heap number seat (places.Making GivingBack) here (λ e. cc) here.way here.answer) here.hand.0;
   near = λ found. nears_given_back heap seat _ here.hand.1;
   adds = λ now. plain heap now number seat (give_back_move number seat) refl (rw here.placed refl) refl refl;
 }

@@ -1,7 +1,7 @@
 -- A call opens an object, by its meta.
 use Rattle.std.proofs.Common.{◌≡◌, ℕ, ◌+◌, ◌%◌, [], length, inl, refl, arith, List, subst, sym, Option, Some, None, ap}
 use Rattle.std.specs.Prelude.{IsSome}
-use Rattle.core_machine.proofs.Terms.{Command, Get, Set, Len, Heap, Reply, LoadingMeta, Locating, Register, Nil, Number, Object, found_by, entries_awaited, object_of, field_of}
+use Rattle.core_machine.proofs.Terms.{Command, Get, Set, Len, Heap, Reply, LoadingMeta, LoadingSpot, Register, Nil, Number, Object, found_by, entries_awaited, object_of, field_of}
 use Rattle.core_machine.proofs.Terms.{Fits, FitsRegister, IsLocal, NamesObject, NamesField, SeatIsAtHead, row_of, part_of, with_field_place, after_length, meta_reply_of}
 use Rattle.core_machine.proofs.Terms.{after_meta, access_start, register_head, register_in, Seat, with_entries, pointer_in, array_length_of, IsWithinHeap, Nears}
 use Rattle.heap_model.specs.declared.command.Command.TheVariants as commands
@@ -29,7 +29,7 @@ fits_length : (heap : Heap) (seat : Seat) (found : ℕ) (cells : Option ℕ) →
 fits_length heap seat found None rests is names led =
     fits_onward heap seat (row_of (field_of seat.command)) (part_of (field_of seat.command)) found rests is.works names is.none_loaded (omega arith) (omega arith) led
 fits_length heap seat found (Some cells) rests is names led =
-    fits_access heap seat seat.reached 0 (field_of seat.command % 4) seat.loaded Locating rests rests.fits.way.reached_within rests.fits.way.loaded_within
+    fits_access heap seat seat.reached 0 (field_of seat.command % 4) seat.loaded LoadingSpot rests rests.fits.way.reached_within rests.fits.way.loaded_within
     (record { works = is.works; names = names; no_links = refl; part_within = omega arith; none_loaded = is.none_loaded })
 
 nears_length : (heap : Heap) (seat : Seat) (found : ℕ) (cells : Option ℕ) → Nears heap (with_entries (after_length seat found cells) []) 1 (row_of (field_of seat.command) + 7) 0

@@ -1,6 +1,6 @@
 -- The way to a cell of an array, by its spine.
 use Rattle.std.proofs.Common.{ℕ, ◌*◌, ◌<◌, [], refl, arith}
-use Rattle.core_machine.proofs.Terms.{Heap, Locating, Indexing, found_by, after_index, field_place_of, row_of, field_of, Fits, SeatIsAtSentinel, Seat, with_entries, payload_in}
+use Rattle.core_machine.proofs.Terms.{Heap, LoadingSpot, Indexing, found_by, after_index, field_place_of, row_of, field_of, Fits, SeatIsAtSentinel, Seat, with_entries, payload_in}
 use Rattle.core_machine.proofs.Terms.{Nears}
 use Rattle.core_machine.specs.declared.place.Place.TheVariants as places
 use Rattle.heap_words.specs.Spot.{spot_in}
@@ -12,12 +12,12 @@ use Rattle.core_machine.proofs.seat_lemmas.FittingAccess.{Rests, fits_access, fi
 use Rattle.core_machine.proofs.table_lemmas.StepStands.{load_stands}
 
 -- the place of the spine is loaded
-pub locate_stands : PlaceStands (places.Access Locating)
+pub locate_stands : PlaceStands (places.Access LoadingSpot)
 locate_stands heap number seat here =
     let move = locate_move seat in
     record {
       step = load_stands heap move.step refl (here.fits.way.reached_within, omega arith);
-      fits = λ found small led. fits_addressed heap seat (spot_in found) Indexing (rests_at heap number seat Locating here) (record { half_within = omega arith; offset_within = omega arith }) here.way;
+      fits = λ found small led. fits_addressed heap seat (spot_in found) Indexing (rests_at heap number seat LoadingSpot here) (record { half_within = omega arith; offset_within = omega arith }) here.way;
       near = λ found. record { fewer = omega arith; paid = omega arith };
       adds = λ now. plain heap now number seat move refl (rw here.placed refl) refl refl;
     }

@@ -4,7 +4,7 @@ use Rattle.std.proofs.lemmas.List.Filters.{length-filter_both}
 use Rattle.std.specs.List.{AllByRecursion}
 use Rattle.heap_model.specs.calls.SeatCalls.{takes_of, gives_of}
 use Rattle.core_machine.proofs.Terms.{Command, Array, Entry, GivesBack, Heap, grant_move, withdraw_move, Kept, kept_of, StageAt, IsAnswered, Granting, Withdrawing, Gathering}
-use Rattle.core_machine.proofs.Terms.{Returning, Refusing, Step, IsBeside, next_group_of, first_group_of, after_gather, after_give_back, gather_next, Seat, need, spine_need}
+use Rattle.core_machine.proofs.Terms.{GivingBack, Refusing, Step, IsBeside, next_group_of, first_group_of, after_gather, after_give_back, gather_next, Seat, need, spine_need}
 use Rattle.core_machine.proofs.Terms.{with_entries, in_group, out_of_group, part_in, part_out, clear_in}
 use Rattle.heap_model.specs.declared.reply.Reply.TheVariants as replies
 use Rattle.core_machine.specs.Moves.{refusal_looks, refusal_move, takes_some}
@@ -119,7 +119,7 @@ module _ (tells : Step → ℕ → Type 0) where
       }
 
   -- a group was given back
-  pub give_back_leads : PlaceLeads tells (places.Making Returning)
+  pub give_back_leads : PlaceLeads tells (places.Making GivingBack)
   give_back_leads heap number before seat told here stage found tell =
       let group = first_group_of seat.hand in
       let both = length-filter_both (in_group group) (out_of_group group) (λ f. refl) seat.hand in

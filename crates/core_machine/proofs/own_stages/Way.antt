@@ -2,7 +2,7 @@
 use Rattle.std.proofs.Common.{◌≡◌, ℕ, suc, ◌-◌, ◌<◌, List, [], ◌∷◌, ◌++◌, Option, Some, None, refl, subst, ◌∙◌, inl, inr, arith}
 use Rattle.std.proofs.lemmas.Bool.Decides.{eqb_tells, leb_tells}
 use Rattle.core_machine.proofs.Terms.{link_of, length_of, array_length_of, Command, Get, Set, Len, Entry, Said, Heap, Reply, Kept, kept_of, KeepsAll, IsUntold, AccessStage}
-use Rattle.core_machine.proofs.Terms.{StageAt, StandsOn, IsAnswered, LoadingMeta, Walking, Locating, Indexing, Step, at_access, with_field_place, field_place_of, way_place_of}
+use Rattle.core_machine.proofs.Terms.{StageAt, StandsOn, IsAnswered, LoadingMeta, Walking, LoadingSpot, Indexing, Step, at_access, with_field_place, field_place_of, way_place_of}
 use Rattle.core_machine.proofs.Terms.{after_link, after_walk, field_reply_of, after_length, at_payload, after_index, meta_reply_of, after_meta, field_of, NamesObject, NamesField}
 use Rattle.core_machine.proofs.Terms.{Seat, with_entries}
 use Rattle.heap_model.specs.declared.reply.Reply.TheVariants.{NoField}
@@ -136,7 +136,7 @@ module _ (tells : Step → ℕ → Type 0) where
     length_leads (Some cells) is within = (
       refl,
       refl,
-      from_untold (λ b t. StageAt tells heap number b (with_entries (after_length seat found (Some cells)) []) (t ++ []) (places.Access Locating)) untold (
+      from_untold (λ b t. StageAt tells heap number b (with_entries (after_length seat found (Some cells)) []) (t ++ []) (places.Access LoadingSpot)) untold (
         record { kept_stays = refl; none_told = refl },
         record { meta = found; cells = cells; opened = opened; an_array = is; within = within; part_is = refl },
       ),
@@ -161,7 +161,7 @@ module _ (tells : Step → ℕ → Type 0) where
       record { kept = met.0; same = met.1; stage = met.2 }
 
   -- the place of the spine was loaded
-  pub locate_leads : PlaceLeads tells (places.Access Locating)
+  pub locate_leads : PlaceLeads tells (places.Access LoadingSpot)
   locate_leads heap number before seat told here stage found tell = record {
     kept = refl;
     same = refl;

@@ -1,8 +1,8 @@
 -- Where less is told of each word, a call stands so all the more; so what is told may grow while the call goes on.
 use Rattle.std.proofs.Common.{ℕ, zero, suc, List, [], ◌∷◌, ◌++◌, Option, Some, None, inl, inr}
 use Rattle.core_machine.proofs.Terms.{head_of, Command, Entry, Heap, Reply, Kept, kept_of, WasMade, HasAsked, MakingStage, AccessStage, PollingStage, StageAt, OwnStage, IsHeldOf}
-use Rattle.core_machine.proofs.Terms.{StandsOn, IsAnswered, LoadingMeta, Walking, Locating, Indexing, Getting, Naming, LoadingOld, ShadingOld, ShadingNew, Swapping, Granting}
-use Rattle.core_machine.proofs.Terms.{Withdrawing, Gathering, Returning, Refusing, Placing, Listing, Storing, Bearing, Place, Register, Step, Seat}
+use Rattle.core_machine.proofs.Terms.{StandsOn, IsAnswered, LoadingMeta, Walking, LoadingSpot, Indexing, Getting, Naming, LoadingOld, ShadingOld, ShadingNew, Swapping, Granting}
+use Rattle.core_machine.proofs.Terms.{Withdrawing, Gathering, GivingBack, Refusing, Placing, Listing, Storing, Bearing, Place, Register, Step, Seat}
 use Rattle.heap_words.specs.declared.spot.Spot.{Spot}
 use Rattle.heap_model.specs.declared.reply.Reply.TheVariants as replies
 use Rattle.core_machine.specs.calls.Claims.{Gathers, GivesUp}
@@ -146,7 +146,7 @@ module _ (tells less : Step → ℕ → Type 0) (so : (step : Step) (word : ℕ)
   making heap number before seat told Granting is = is
   making heap number before seat told Withdrawing is = (is.0, so _ _ is.1)
   making heap number before seat told Gathering is = (is.0, gathers is.1)
-  making heap number before seat told Returning is = (is.0, gives is.1)
+  making heap number before seat told GivingBack is = (is.0, gives is.1)
   making heap number before seat told Refusing is = (is.0, gives is.1)
   making heap number before seat told Placing is = object is
   making heap number before seat told Listing is = (object is.0, spine is.1)
@@ -156,7 +156,7 @@ module _ (tells less : Step → ℕ → Type 0) (so : (step : Step) (word : ℕ)
   access : (before : Kept) (seat : Seat) (place : Access) → AccessStage tells before seat place → AccessStage less before seat place
   access before seat LoadingMeta is = tt
   access before seat Walking is = by_links is
-  access before seat Locating is = by_spine is
+  access before seat LoadingSpot is = by_spine is
   access before seat Indexing is = located is
   access before seat Naming is = (reaches is.0, so _ _ is.1)
   access before seat Getting is = reaches is

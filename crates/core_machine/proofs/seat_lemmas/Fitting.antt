@@ -4,7 +4,7 @@ use Rattle.std.specs.List.{All}
 use Rattle.std.proofs.lemmas.Bool.Decides.{leb_tells, eqb_tells}
 use Rattle.std.proofs.lemmas.List.Elements.{All-append, All-drop, All-take, All-nil}
 use Rattle.heap_words.specs.declared.spot.Spot.{Spot}
-use Rattle.core_machine.proofs.Terms.{Heap, Command, New, Array, spine_need_of, Withdrawing, Gathering, Returning, Refusing, Placing, Listing, Storing, MakesObject, IsRecordCall}
+use Rattle.core_machine.proofs.Terms.{Heap, Command, New, Array, spine_need_of, Withdrawing, Gathering, GivingBack, Refusing, Placing, Listing, Storing, MakesObject, IsRecordCall}
 use Rattle.core_machine.proofs.Terms.{IsArrayCall, FitsSpot, Seat, need, spine_need, fragments_gathered, settled_place, after_gather, after_shortage, refusal_place, gather_next}
 use Rattle.core_machine.proofs.Terms.{after_budget, list_place, last_claimed, next_group_of, AreFragments, HasNoSpine, IsAtRest, MakesNext, SeatIsRefusing, HasBody, IsUnstored}
 use Rattle.core_machine.proofs.Terms.{SpineIsListed, FitsMaking, OwnFits, Fits}
@@ -55,7 +55,7 @@ goes_on_cases P heap seat enough more few =
     ]
 
 -- a refusal gives back, or is told
-pub returning_cases : (P : Making → Type 0) (hand : List ℕ) → (hand ≡ [] → P Refusing) → (0 < length hand → P Returning) → P (refusal_place hand)
+pub returning_cases : (P : Making → Type 0) (hand : List ℕ) → (hand ≡ [] → P Refusing) → (0 < length hand → P GivingBack) → P (refusal_place hand)
 returning_cases P [] none some = none refl
 returning_cases P (fragment ∷ more) none some = some (omega arith)
 

@@ -5,7 +5,7 @@ use Rattle.core_machine.specs.declared.place.Place.{Place}
 use Rattle.core_machine.specs.declared.place.Place.TheVariants as places
 use Rattle.core_machine.specs.declared.place.Making.{Making}
 use Rattle.core_machine.specs.declared.place.Access.{Access}
-use Rattle.core_machine.specs.declared.place.Access.TheVariants.{LoadingMeta, Walking, Locating, Indexing, Getting, Naming, LoadingOld, ShadingOld, ShadingNew, Swapping}
+use Rattle.core_machine.specs.declared.place.Access.TheVariants.{LoadingMeta, Walking, LoadingSpot, Indexing, Getting, Naming, LoadingOld, ShadingOld, ShadingNew, Swapping}
 use Rattle.core_machine.specs.declared.place.Polling.{Polling}
 use Rattle.core_machine.specs.declared.place.Polling.TheVariants.{Asking, Shading, Answering}
 use Rattle.core_machine.specs.declared.place.Collecting.{Collecting}
@@ -14,7 +14,7 @@ use Rattle.core_machine.specs.declared.place.Leaving.TheVariants.{Emptying, Part
 use Rattle.core_machine.specs.seat.Access.{row_of}
 use Rattle.core_machine.specs.seat.Commands.{field_of}
 use Rattle.core_machine.specs.seat.Handshake.{roots}
-use Rattle.core_machine.specs.declared.place.Making.TheVariants.{Granting, Withdrawing, Gathering, Returning, Refusing, Placing, Listing, Storing, Bearing}
+use Rattle.core_machine.specs.declared.place.Making.TheVariants.{Granting, Withdrawing, Gathering, GivingBack, Refusing, Placing, Listing, Storing, Bearing}
 use Rattle.core_machine.specs.seat.Seat.{Seat, need, spine_need}
 use Rattle.core_machine.specs.seat.Making.{fragments_gathered}
 
@@ -23,7 +23,7 @@ abbrev pub owes_making : Seat → Making → ℕ
 owes_making seat Granting = 2 * need seat
 owes_making seat Withdrawing = 1
 owes_making seat Gathering = 2 * need seat - length (fragments_gathered seat)
-owes_making seat Returning = length seat.hand + 1
+owes_making seat GivingBack = length seat.hand + 1
 owes_making seat Refusing = 1
 owes_making seat Placing = 1
 owes_making seat Listing = 1
@@ -50,7 +50,7 @@ abbrev pub making_steps : Heap → Seat → Making → ℕ
 making_steps heap seat Granting = heap.groups + 5 * need seat + spine_need seat + 2
 making_steps heap seat Withdrawing = 1
 making_steps heap seat Gathering = (heap.groups - seat.tried) + 5 * need seat + spine_need seat + 1
-making_steps heap seat Returning = length seat.hand + 1
+making_steps heap seat GivingBack = length seat.hand + 1
 making_steps heap seat Refusing = 1
 making_steps heap seat Placing = 5 * length seat.body + spine_need seat + 1
 making_steps heap seat Listing = 5 * length seat.body + (spine_need seat - seat.listed)
@@ -61,7 +61,7 @@ making_steps heap seat Bearing = length seat.hand
 abbrev pub access_steps : ℕ → ℕ → Access → ℕ
 access_steps rows links LoadingMeta = rows + 7
 access_steps rows links Walking = links + 4
-access_steps rows links Locating = 6
+access_steps rows links LoadingSpot = 6
 access_steps rows links Indexing = 5
 access_steps rows links Getting = 2
 access_steps rows links Naming = 1

@@ -11,11 +11,11 @@ use Rattle.core_machine.specs.calls.Making.{HasObject, HasSpine, name_after, Has
 use Rattle.core_machine.specs.calls.Reaching.{GoesByLinks, GoesBySpine, HasLocated, ReachesField}
 use Rattle.core_machine.specs.calls.Replies.{IsAnswered}
 use Rattle.core_machine.specs.declared.place.Access.{Access}
-use Rattle.core_machine.specs.declared.place.Access.TheVariants.{LoadingMeta, Walking, Locating, Indexing, Getting, Naming, LoadingOld, ShadingOld, ShadingNew, Swapping}
+use Rattle.core_machine.specs.declared.place.Access.TheVariants.{LoadingMeta, Walking, LoadingSpot, Indexing, Getting, Naming, LoadingOld, ShadingOld, ShadingNew, Swapping}
 use Rattle.core_machine.specs.declared.place.Leaving.{Leaving}
 use Rattle.core_machine.specs.declared.place.Leaving.TheVariants.{Emptying, Parting}
 use Rattle.core_machine.specs.declared.place.Making.{Making}
-use Rattle.core_machine.specs.declared.place.Making.TheVariants.{Granting, Withdrawing, Gathering, Returning, Refusing, Placing, Listing, Storing, Bearing}
+use Rattle.core_machine.specs.declared.place.Making.TheVariants.{Granting, Withdrawing, Gathering, GivingBack, Refusing, Placing, Listing, Storing, Bearing}
 use Rattle.core_machine.specs.declared.place.Place.{Place}
 use Rattle.core_machine.specs.declared.place.Place.TheVariants as places
 use Rattle.core_machine.specs.declared.place.Polling.{Polling}
@@ -45,7 +45,7 @@ abbrev pub MakingStage : (Step → ℕ → Type 0) → Heap → ℕ → Kept →
 MakingStage tells heap number before seat told Granting = IsUntold before (kept_of seat) told
 MakingStage tells heap number before seat told Withdrawing = IsUntold before (kept_of seat) told × tells (steps.Spine (BudgetAdd (spine_need seat))) seat.used
 MakingStage tells heap number before seat told Gathering = (kept_of seat ≡ before) × Gathers tells heap number seat.command before seat.hand seat.tried told
-MakingStage tells heap number before seat told Returning = (kept_of seat ≡ before) × GivesUp tells heap number seat.command before seat.hand seat.given told
+MakingStage tells heap number before seat told GivingBack = (kept_of seat ≡ before) × GivesUp tells heap number seat.command before seat.hand seat.given told
 MakingStage tells heap number before seat told Refusing = (kept_of seat ≡ before) × GivesUp tells heap number seat.command before seat.hand seat.given told
 MakingStage tells heap number before seat told Placing = HasObjectOf tells heap number before seat told
 MakingStage tells heap number before seat told Listing = HasObjectOf tells heap number before seat told × HasSpine tells seat.command seat.body seat.spine seat.listed
@@ -58,7 +58,7 @@ MakingStage tells heap number before seat told Bearing =
 abbrev pub AccessStage : (Step → ℕ → Type 0) → Kept → Seat → Access → Type 0
 AccessStage tells before seat LoadingMeta = Unit {0}
 AccessStage tells before seat Walking = GoesByLinks tells seat.command before seat.reached seat.links seat.part
-AccessStage tells before seat Locating = GoesBySpine tells seat.command before seat.reached seat.part
+AccessStage tells before seat LoadingSpot = GoesBySpine tells seat.command before seat.reached seat.part
 AccessStage tells before seat Indexing = HasLocated tells seat.command before seat.reached seat.part seat.address
 AccessStage tells before seat Naming =
     ReachesField tells seat.command before seat.reached seat.part × tells (steps.Access (GetLoad seat.reached seat.part)) seat.loaded

@@ -19,12 +19,12 @@ use Rattle.core_machine.specs.declared.step.Step.{Step}
 use Rattle.core_machine.specs.declared.step.Step.TheVariants as steps
 use Rattle.core_machine.specs.declared.step.TurningStep.TheVariants as turning
 use Rattle.core_machine.specs.collector.Copying.{next_half, after_visit, visit_on, after_inspected, after_located, after_claimed, after_copied}
-use Rattle.core_machine.specs.collector.Turn.{Collector, Turn, work_turn}
+use Rattle.core_machine.specs.collector.TurnMove.{Collector, TurnMove, work_turn}
 use Rattle.heap_words.specs.Loaded.{array_length_of}
 use Rattle.core_machine.specs.table.Decode.{id_of}
 
 -- the flip: the next spine begins at the first word of the other half
-abbrev pub flip_turn : Collector → Turn
+abbrev pub flip_turn : Collector → TurnMove
 flip_turn collector = work_turn (steps.Copying (FlipStore (next_half collector.phase))) (λ word. record collector { stage = stages.Advancing })
 
 -- the fragment at which a visit stands
@@ -63,7 +63,7 @@ copying_adds (copying.Swinging copy) = Swings copy.array.id ∷ []
 copying_adds _ = []
 
 -- the turn at each stage of copying
-abbrev pub copying_turn : Heap → Collector → Copying → Turn
+abbrev pub copying_turn : Heap → Collector → Copying → TurnMove
 copying_turn heap collector stage = record {
   step = copying_step stage;
   told = λ found. record collector { stage = after_copying heap collector.phase stage found };

@@ -45,7 +45,7 @@ pub record IsShading (heap : Heap) (phase looked : ℕ) (scan : Scan) (target ne
   pub few_steps : scan.steps ≤ 2 * scan.part + 1
 
 -- a scan has loaded the meta of an array with so many spine words, by its first step
-pub record IsLocating (heap : Heap) (phase looked : ℕ) (scan : Scan) (words : ℕ) : Type 0 where
+pub record IsAddressing (heap : Heap) (phase looked : ℕ) (scan : Scan) (words : ℕ) : Type 0 where
   pub marks : IsMarking heap.seats phase looked
   pub fragment_within : scan.fragment < group_fragments * heap.groups
   pub words_few : words ≤ spine_most
@@ -122,7 +122,7 @@ FitsStage heap phase looked stages.Looking = looked < heap.seats
 FitsStage heap phase looked (stages.Passing group found) = IsPassing heap phase looked group
 FitsStage heap phase looked (stages.Scanning scan) = IsScanning heap phase looked scan
 FitsStage heap phase looked (stages.Shading scan target next) = IsShading heap phase looked scan target next
-FitsStage heap phase looked (stages.Locating scan words) = IsLocating heap phase looked scan words
+FitsStage heap phase looked (stages.Addressing scan words) = IsAddressing heap phase looked scan words
 FitsStage heap phase looked (stages.Indexing s) = IsIndexing heap phase looked s
 FitsStage heap phase looked (stages.Spreading s target) = IsSpreading heap phase looked s target
 FitsStage heap phase looked (stages.Blackening scan) = IsBlackening heap phase looked scan

@@ -49,7 +49,7 @@ array_at part word = if part == 0 then array_length_of word else None
 -- a word was found: where it is an array's meta the place of its spine comes next
 abbrev pub after_first_load : Scan → Option ℕ → ℕ → Option ℕ → Stage
 after_first_load scan None next target = after_scan_load scan next target
-after_first_load scan (Some cells) next target = stages.Locating (scan_step scan) (array_words cells)
+after_first_load scan (Some cells) next target = stages.Addressing (scan_step scan) (array_words cells)
 
 -- the scan of a spine with one more step made
 abbrev pub spine_step : SpineScan → SpineScan

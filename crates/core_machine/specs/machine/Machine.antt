@@ -21,7 +21,7 @@ use Rattle.core_machine.specs.seat.Handshake.{leave_place}
 use Rattle.core_machine.specs.seat.Looks.{MayMake}
 use Rattle.core_machine.specs.seat.Collecting.{inner_place}
 use Rattle.core_machine.specs.Moves.{Move, next_move, seat_after}
-pub use Rattle.core_machine.specs.collector.Collector.{Collector, Turn, next_turn, collector_after}
+pub use Rattle.core_machine.specs.collector.Collector.{Collector, TurnMove, next_turn, collector_after}
 
 -- the words of the table, the seats in their order, and the collector
 pub record State : Type 0 where
@@ -82,7 +82,7 @@ pub record MayBeginInner (heap : Heap) (number : ℕ) (seat : Seat) (inner : Inn
   pub makes : MayMake heap number seat.looks inner
 
 -- the state after a turn of the collector: one word and the collector change
-abbrev pub state_after_turn : Heap → State → Turn → State
+abbrev pub state_after_turn : Heap → State → TurnMove → State
 state_after_turn heap state turn = record state {
   words = put heap state.words (address_of turn.step) (word_after turn.step (found_by heap state turn.step));
   collector = collector_after turn (found_by heap state turn.step);

@@ -9,7 +9,7 @@ use Rattle.heap_model.specs.declared.reply.Reply.TheVariants.{Length, NoField}
 use Rattle.heap_model.specs.PhasePlan.{cycle_phases, barriers, clearing}
 use Rattle.core_machine.specs.declared.place.Place.TheVariants as places
 use Rattle.core_machine.specs.declared.place.Access.{Access}
-use Rattle.core_machine.specs.declared.place.Access.TheVariants.{LoadingMeta, Walking, Locating, Indexing, Getting, Naming, LoadingOld, ShadingOld, ShadingNew, Swapping}
+use Rattle.core_machine.specs.declared.place.Access.TheVariants.{LoadingMeta, Walking, LoadingSpot, Indexing, Getting, Naming, LoadingOld, ShadingOld, ShadingNew, Swapping}
 use Rattle.core_machine.specs.declared.seat.register.Register.{Register}
 use Rattle.core_machine.specs.declared.seat.register.Register.TheVariants.{Nil, Number, Object}
 use Rattle.core_machine.specs.seat.Commands.{target_of, source_of, field_of}
@@ -104,7 +104,7 @@ with_cell_place seat = record seat { links = 0; part = field_of seat.command % 4
 -- the way from a record's meta goes by its links, and from an array's by its spine
 abbrev pub after_length : Seat → ℕ → Option ℕ → Seat
 after_length seat found None = after_walk (with_field_place seat) found
-after_length seat found (Some cells) = at_access (with_cell_place seat) Locating
+after_length seat found (Some cells) = at_access (with_cell_place seat) LoadingSpot
 
 -- the meta was found: it tells where the field stands
 abbrev pub after_meta : Seat → ℕ → Option Reply → Seat

@@ -9,7 +9,7 @@ use Rattle.heap_model.specs.declared.reply.Reply.TheVariants.{Got, Was}
 use Rattle.heap_model.specs.graph.Growth.{set_stamp}
 use Rattle.core_machine.specs.declared.table.address.Address.TheVariants.{Word}
 use Rattle.core_machine.specs.declared.place.Access.{Access}
-use Rattle.core_machine.specs.declared.place.Access.TheVariants.{LoadingMeta, Walking, Locating, Indexing, Getting, Naming, LoadingOld, ShadingOld, ShadingNew, Swapping}
+use Rattle.core_machine.specs.declared.place.Access.TheVariants.{LoadingMeta, Walking, LoadingSpot, Indexing, Getting, Naming, LoadingOld, ShadingOld, ShadingNew, Swapping}
 use Rattle.core_machine.specs.declared.seat.register.Register.{Register}
 use Rattle.core_machine.specs.declared.step.Step.TheVariants as steps
 use Rattle.core_machine.specs.declared.step.AccessStep.TheVariants.{WalkLoad, NameLoad, GetLoad, OldLoad, Shade, Swap}
@@ -121,7 +121,7 @@ swap_move number seat =
 abbrev pub access_move : Heap → ℕ → Seat → Access → Move
 access_move heap number seat LoadingMeta = open_move number seat
 access_move heap number seat Walking = walk_move seat
-access_move heap number seat Locating = locate_move seat
+access_move heap number seat LoadingSpot = locate_move seat
 access_move heap number seat Indexing = index_move seat
 access_move heap number seat Getting = get_move heap number seat
 access_move heap number seat Naming = name_move number seat

@@ -7,7 +7,7 @@ use Rattle.heap_model.specs.declared.reply.Reply.TheVariants.{Got}
 use Rattle.core_machine.specs.declared.table.address.Address.TheVariants.{Word}
 use Rattle.core_machine.specs.declared.place.Place.{Place}
 use Rattle.core_machine.specs.declared.place.Place.TheVariants as places
-use Rattle.core_machine.specs.declared.place.Access.TheVariants.{LoadingMeta, Walking, Locating, Indexing, Getting, Naming, LoadingOld, ShadingOld, ShadingNew, Swapping}
+use Rattle.core_machine.specs.declared.place.Access.TheVariants.{LoadingMeta, Walking, LoadingSpot, Indexing, Getting, Naming, LoadingOld, ShadingOld, ShadingNew, Swapping}
 use Rattle.core_machine.specs.table.Layout.{at}
 use Rattle.heap_words.specs.Loaded.{stamp_of}
 use Rattle.core_machine.specs.table.Decode.{id_of}
@@ -20,7 +20,7 @@ entries_awaited_at heap words number seat (places.Access Naming) =
     reply_entries number seat (Got (Object (id_of (at heap words (Word (loaded_head_of seat) 1)))) (stamp_of seat.loaded))
 entries_awaited_at heap words number seat (places.Access LoadingMeta) = []
 entries_awaited_at heap words number seat (places.Access Walking) = []
-entries_awaited_at heap words number seat (places.Access Locating) = []
+entries_awaited_at heap words number seat (places.Access LoadingSpot) = []
 entries_awaited_at heap words number seat (places.Access Indexing) = []
 entries_awaited_at heap words number seat (places.Access Getting) = []
 entries_awaited_at heap words number seat (places.Access LoadingOld) = []

@@ -5,7 +5,7 @@ use Rattle.heap_model.specs.declared.command.Command.{Command}
 use Rattle.heap_model.specs.declared.command.Command.TheVariants.{Get, Set, Len}
 use Rattle.heap_model.specs.Command.{IsCommand}
 use Rattle.core_machine.specs.declared.place.Access.{Access}
-use Rattle.core_machine.specs.declared.place.Access.TheVariants.{LoadingMeta, Walking, Locating, Indexing, Getting, Naming, LoadingOld, ShadingOld, ShadingNew, Swapping}
+use Rattle.core_machine.specs.declared.place.Access.TheVariants.{LoadingMeta, Walking, LoadingSpot, Indexing, Getting, Naming, LoadingOld, ShadingOld, ShadingNew, Swapping}
 use Rattle.core_machine.specs.declared.seat.register.Register.{Register}
 use Rattle.core_machine.specs.seat.Commands.{object_of, source_of, field_of}
 use Rattle.heap_words.specs.Loaded.{head_of}
@@ -113,7 +113,7 @@ SeatIsAtSet seat = WorksOnObject seat × IsSet seat.command × IsAtField seat.li
 abbrev pub FitsAccess : Seat → Access → Type 0
 FitsAccess seat LoadingMeta = SeatIsAtHead seat
 FitsAccess seat Walking = SeatIsOnWay seat
-FitsAccess seat Locating = SeatIsAtSentinel seat
+FitsAccess seat LoadingSpot = SeatIsAtSentinel seat
 FitsAccess seat Indexing = SeatIsAtSentinel seat
 FitsAccess seat Getting = SeatIsAtGet seat × (seat.loaded ≡ 0)
 FitsAccess seat Naming = SeatIsAtGet seat × IsSome (head_of seat.loaded)

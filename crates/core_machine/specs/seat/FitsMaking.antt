@@ -9,7 +9,7 @@ use Rattle.heap_model.specs.Limits.{group_fragments, name_limit}
 use Rattle.heap_model.specs.Needs.{array_words, spine_need_of}
 use Rattle.heap_model.specs.account.Space.{need_of}
 use Rattle.core_machine.specs.declared.place.Making.{Making}
-use Rattle.core_machine.specs.declared.place.Making.TheVariants.{Granting, Withdrawing, Gathering, Returning, Refusing, Placing, Listing, Storing, Bearing}
+use Rattle.core_machine.specs.declared.place.Making.TheVariants.{Granting, Withdrawing, Gathering, GivingBack, Refusing, Placing, Listing, Storing, Bearing}
 use Rattle.core_machine.specs.seat.Commands.{MakesObject, IsArrayCall}
 use Rattle.core_machine.specs.seat.Seat.{Seat, spine_need, no_spot}
 
@@ -116,7 +116,7 @@ abbrev pub FitsMaking : Heap → Seat → Making → Type 0
 FitsMaking heap seat Granting = SeatIsGranting seat
 FitsMaking heap seat Withdrawing = SeatIsWithdrawing heap seat
 FitsMaking heap seat Gathering = SeatIsGathering heap seat
-FitsMaking heap seat Returning = SeatIsRefusing heap seat × (0 < length seat.hand)
+FitsMaking heap seat GivingBack = SeatIsRefusing heap seat × (0 < length seat.hand)
 FitsMaking heap seat Refusing = SeatIsRefusing heap seat × (seat.hand ≡ [])
 FitsMaking heap seat Placing = HasArrayBody seat × HasNoSpine seat.used seat.spine seat.listed
 FitsMaking heap seat Listing = HasArrayBody seat × (seat.listed < spine_need seat)

@@ -1,15 +1,15 @@
 -- What a seat finds out by the inner calls of its collects.
-use Rattle.std.specs.Prelude.{◌≡◌, ◌≢◌, ℕ, ◌+◌, ◌*◌, ◌^◌, ◌<◌, ◌≤◌, nat_lt, if◌then◌else◌, Option, Some, None}
+use Rattle.std.specs.Prelude.{◌≡◌, ◌≢◌, ℕ, ◌+◌, ◌*◌, ◌^◌, ◌<◌, ◌≤◌, nat_lt, if◌then◌else◌, Option, Some, None, Result, Ok, Err}
 use Rattle.heap_model.specs.PhasePlan.{cycle_phases}
+use Rattle.heap_model.specs.Behind.{as_reply, behind_of, ended_or_behind}
+use Rattle.heap_model.specs.declared.behind.Behind.{Behind}
 use Rattle.heap_model.specs.declared.calls.collect.CollectReply.{CollectReply}
-use Rattle.heap_model.specs.declared.calls.collect.CollectReply.TheVariants.{Cycle, Waits}
 use Rattle.heap_model.specs.declared.calls.collect.Inner.{Inner}
-use Rattle.heap_model.specs.declared.calls.collect.Inner.TheVariants.{Look, Answer, Behind, Note}
+use Rattle.heap_model.specs.declared.calls.collect.Inner.TheVariants as inners
 use Rattle.heap_model.specs.declared.heap.Heap.{Heap}
 use Rattle.heap_model.specs.declared.reply.Reply.{Reply}
 use Rattle.heap_model.specs.declared.reply.Reply.TheVariants as replies
 pub use Rattle.core_machine.specs.declared.seat.looks.Looks.{Looks}
-pub use Rattle.core_machine.specs.declared.seat.looks.FoundBehind.{FoundBehind}
 
 -- at the opening nothing was found
 abbrev pub no_looks : Looks
@@ -37,13 +37,13 @@ abbrev pub counted_once_more : ℕ → ℕ
 counted_once_more n = if nat_lt (n + 1) (2 ^ 64) then n + 1 else n
 
 -- a seat was found to be behind
-abbrev pub found_behind : FoundBehind → Looks → Looks
+abbrev pub found_behind : Behind → Looks → Looks
 found_behind found looks = record looks { behind = Some found; waits = counted_once_more looks.waits }
 
 -- the word of another seat was compared with the phase: the seat is behind where the word is below it
 abbrev pub compared : ℕ → ℕ → ℕ → Looks → Looks
 compared other phase word looks =
-    if nat_lt word phase then found_behind (record { seat = other; answered = word; phase = phase }) looks
+    if nat_lt word phase then found_behind (behind_of other word phase) looks
     else record looks { behind = None }
 
 -- the first look since the last reply found this phase or an earlier one
@@ -51,19 +51,27 @@ abbrev pub FirstUpTo : Option ℕ → ℕ → Type 0
 FirstUpTo None p = ⊥
 FirstUpTo (Some first) p = first ≤ p
 
--- what was found allows this reply: a cycle that began after a look and was seen to end, or the seat that was found behind
+-- what was found allows a collect to tell this: a cycle that began after a look and was seen to end, or the seat that was found behind
+abbrev pub MayTell : Looks → Result ℕ Behind → Type 0
+MayTell looks (Ok j) = FirstUpTo looks.first (cycle_phases * j) × (cycle_phases * (j + 1) ≤ looks.seen)
+MayTell looks (Err behind) = looks.behind ≡ Some behind
+
+-- it allows the reply by which a collect tells that
 abbrev pub MayNote : Looks → CollectReply → Type 0
-MayNote looks (Cycle j) = FirstUpTo looks.first (cycle_phases * j) × (cycle_phases * (j + 1) ≤ looks.seen)
-MayNote looks (Waits other answered phase) = looks.behind ≡ Some (record { seat = other; answered = answered; phase = phase })
+MayNote looks reply = MayTell looks (ended_or_behind reply)
 
 -- the seat may make the inner call: it asks another seat of the heap, and notes only what it has found
 abbrev pub MayMake : Heap → ℕ → Looks → Inner → Type 0
-MayMake heap number looks Look = Unit {0}
-MayMake heap number looks Answer = Unit {0}
-MayMake heap number looks (Behind other) = (other < heap.seats) × (other ≢ number)
-MayMake heap number looks (Note reply) = MayNote looks reply
+MayMake heap number looks inners.Look = Unit {0}
+MayMake heap number looks inners.Answer = Unit {0}
+MayMake heap number looks (inners.Behind other) = (other < heap.seats) × (other ≢ number)
+MayMake heap number looks (inners.Note reply) = MayNote looks reply
+
+-- the reply that tells what a collect has come to
+abbrev pub telling : Result ℕ Behind → Reply
+telling (Ok j) = replies.Cycle j
+telling (Err behind) = as_reply behind
 
 -- the reply that is noted
 abbrev pub noted_reply : CollectReply → Reply
-noted_reply (Cycle j) = replies.Cycle j
-noted_reply (Waits other answered phase) = replies.Waits other answered phase
+noted_reply reply = telling (ended_or_behind reply)

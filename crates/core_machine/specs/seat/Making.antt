@@ -11,7 +11,7 @@ use Rattle.heap_model.specs.declared.id.Id.{Id}
 use Rattle.heap_model.specs.declared.id.Id.TheVariants.{Made}
 use Rattle.heap_model.specs.Limits.{group_fragments}
 use Rattle.core_machine.specs.declared.place.Making.{Making}
-use Rattle.core_machine.specs.declared.place.Making.TheVariants.{Withdrawing, Gathering, Returning, Refusing, Placing, Listing, Storing, Bearing}
+use Rattle.core_machine.specs.declared.place.Making.TheVariants.{Withdrawing, Gathering, GivingBack, Refusing, Placing, Listing, Storing, Bearing}
 use Rattle.core_machine.specs.declared.place.Place.TheVariants as places
 use Rattle.core_machine.specs.declared.seat.register.Register.TheVariants.{Object}
 use Rattle.core_machine.specs.seat.Commands.{target_of, fields_of}
@@ -50,7 +50,7 @@ after_gather heap seat = record seat {
 -- where a refusal stands while these fragments are to be given back
 abbrev pub refusal_place : List ℕ → Making
 refusal_place [] = Refusing
-refusal_place (fragment ∷ more) = Returning
+refusal_place (fragment ∷ more) = GivingBack
 
 -- too little is gathered: what was claimed is given back
 abbrev pub after_shortage : Seat → Seat

@@ -9,7 +9,7 @@ use Rattle.heap_model.specs.declared.entry.Entry.TheVariants.{Said, Takes, Gives
 use Rattle.heap_model.specs.declared.reply.Reply.TheVariants as replies
 use Rattle.heap_model.specs.PhasePlan.{cycle_phases, black_births, clearing}
 use Rattle.core_machine.specs.declared.place.Making.{Making}
-use Rattle.core_machine.specs.declared.place.Making.TheVariants.{Granting, Withdrawing, Gathering, Returning, Refusing, Placing, Listing, Storing, Bearing}
+use Rattle.core_machine.specs.declared.place.Making.TheVariants.{Granting, Withdrawing, Gathering, GivingBack, Refusing, Placing, Listing, Storing, Bearing}
 use Rattle.core_machine.specs.declared.step.Step.TheVariants as steps
 use Rattle.core_machine.specs.declared.step.MakingStep.{MakingStep}
 use Rattle.core_machine.specs.declared.step.MakingStep.TheVariants.{Claim, GiveBack, NewbornStore, Birth, LastBirth}
@@ -138,7 +138,7 @@ abbrev pub making_move : Heap → ℕ → Seat → Making → Move
 making_move heap number seat Granting = grant_move heap number seat
 making_move heap number seat Withdrawing = withdraw_move number seat
 making_move heap number seat Gathering = claim_move heap number seat
-making_move heap number seat Returning = give_back_move number seat
+making_move heap number seat GivingBack = give_back_move number seat
 making_move heap number seat Refusing = refusal_move number seat
 making_move heap number seat Placing = placing_move seat
 making_move heap number seat Listing = listing_move seat

@@ -2,7 +2,7 @@ ghost use Rattle.std.specs.Prelude.{◌≡◌, ◌+◌, ◌<◌, ◌≤◌};
 ghost use Rattle.core_machine.specs.collector.Copying.{left_half as left_half_of, next_half as next_half_of, after_visited, after_seen, after_visit, visit_on, after_inspected, after_located, copy_at, after_claimed, after_copied};
 ghost use Rattle.core_machine.specs.collector.CopyingTurns.{visited, copying_step, after_copying};
 ghost use Rattle.core_machine.specs.collector.FitsCopying.{FitsVisit, FitsCopying, spine_most};
-ghost use Rattle.core_machine.specs.collector.Turn.{Collector};
+ghost use Rattle.core_machine.specs.collector.TurnMove.{Collector};
 ghost use Rattle.heap_words.specs.Loaded.{array_length_of};
 ghost use Rattle.heap_model.specs.Heap.{IsHeap};
 ghost use Rattle.heap_model.specs.Limits.{group_fragments, most_groups};

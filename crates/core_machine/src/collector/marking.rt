@@ -108,7 +108,7 @@ impl Scan {
         let scan = self.stepped();
         if let Some(cells) = self.array_at(word) {
             let words = array_words(cells);
-            return Stage::Locating { scan, words };
+            return Stage::Addressing { scan, words };
         }
         let Some(target) = lead_in(self.part, word) else {
             return scan.at(next);
@@ -132,7 +132,7 @@ impl Scan {
     }
 
     /// The place of its array's spine was found, which has so many words.
-    pub fn located(&self, words: u16, found: u64) -> Stage
+    pub fn addressed(&self, words: u16, found: u64) -> Stage
         requires { self.now.steps ≤ 2 * spine_most + 2 }
         ensures { result ≡ after_address self.now words found }
     {

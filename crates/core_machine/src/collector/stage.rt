@@ -100,7 +100,7 @@ pub enum Stage {
         next: u8,
     },
     /// The place of an array's spine is loaded, which has so many words.
-    Locating {
+    Addressing {
         scan: Scan,
         words: u16,
     },

@@ -25,17 +25,9 @@ pub fn first_place(inner: Inner) -> Place
 pub fn noted(reply: CollectReply) -> Reply
     ensures { result ≡ noted_reply reply }
 {
-    match reply {
-        CollectReply::Cycle(cycle) => Reply::Cycle(cycle),
-        CollectReply::Waits {
-            seat,
-            answered,
-            phase,
-        } => Reply::Waits {
-            seat,
-            answered,
-            phase,
-        },
+    match reply.ended() {
+        Ok(cycle) => Reply::Cycle(cycle),
+        Err(behind) => Reply::from(behind),
     }
 }
 

@@ -28,7 +28,7 @@ impl<L: Entries> SeatParty<L> {
             Making::Gathering => Step::Making(MakingStep::Claim {
                 group: self.next_group(heap),
             }),
-            Making::Returning => Step::Making(self.give_back()),
+            Making::GivingBack => Step::Making(self.give_back()),
             Making::Refusing => self.refusal_step(),
             Making::Placing => Step::Spine(SpineStep::SpotClaim {
                 words: self.spine_need(),
@@ -51,7 +51,7 @@ impl<L: Entries> SeatParty<L> {
         let fragment = self.reached;
         let step = match place {
             Access::LoadingMeta | Access::Walking => AccessStep::WalkLoad { fragment },
-            Access::Locating => {
+            Access::LoadingSpot => {
                 return Step::Spine(SpineStep::AddressLoad { sentinel: fragment });
             }
             Access::Indexing => return Step::Spine(self.index_load()),

@@ -22,7 +22,7 @@ fn returning(hand: &[u16]) -> Making
     if hand.is_empty() {
         Making::Refusing
     } else {
-        Making::Returning
+        Making::GivingBack
     }
 }
 

@@ -3,7 +3,7 @@ ghost use Rattle.heap_model.specs.declared.calls.collect.CollectReply.TheVariant
 ghost use Rattle.core_machine.specs.seat.Looks.{no_looks, forgotten, looked, seen_phase, compared, FirstUpTo, MayNote, MayMake};
 
 use heap_model::phase_plan::CYCLE_PHASES;
-use heap_model::{CollectReply, Heap, Inner};
+use heap_model::{Behind, CollectReply, Heap, Inner};
 
 /// What a seat has found out by the inner calls of its collects.
 #[derive(Clone, Copy)]
@@ -13,17 +13,9 @@ pub struct Looks {
     /// The phase that it last loaded, in whatever call; 0 at the opening.
     pub seen: u64,
     /// What it last found since its last reply when it asked whether another seat is behind.
-    pub behind: Option<FoundBehind>,
+    pub behind: Option<Behind>,
     /// How often it found a seat behind, up to the largest number of 64 bits.
     pub waits: u64,
-}
-
-/// A seat whose last answer was found to be below the phase.
-#[derive(Clone, Copy, PartialEq, Eq)]
-pub struct FoundBehind {
-    pub seat: u8,
-    pub answered: u64,
-    pub phase: u64,
 }
 
 impl Looks {
@@ -72,7 +64,7 @@ impl Looks {
             self.behind = None;
             return;
         }
-        self.behind = Some(FoundBehind {
+        self.behind = Some(Behind {
             seat: other,
             answered: word,
             phase,
@@ -97,20 +89,9 @@ impl Looks {
     fn may_note(&self, reply: CollectReply) -> bool
         ensures { IsTrue result ↔ MayNote self.now reply }
     {
-        match reply {
-            CollectReply::Cycle(cycle) => self.saw_cycle(cycle),
-            CollectReply::Waits {
-                seat,
-                answered,
-                phase,
-            } => {
-                let told = FoundBehind {
-                    seat,
-                    answered,
-                    phase,
-                };
-                self.behind == Some(told)
-            }
+        match reply.ended() {
+            Ok(cycle) => self.saw_cycle(cycle),
+            Err(behind) => self.behind == Some(behind),
         }
     }
 

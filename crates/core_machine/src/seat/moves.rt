@@ -30,7 +30,7 @@ impl<L: Entries> SeatParty<L> {
             Making::Granting => self.learn_budget(heap, found),
             Making::Withdrawing => self.learn_withdrawal(number),
             Making::Gathering => self.learn_claim(heap, number, found),
-            Making::Returning => self.learn_give_back(heap, number),
+            Making::GivingBack => self.learn_give_back(heap, number),
             Making::Refusing => self.learn_refusal(number, found),
             Making::Placing => self.learn_spine(found),
             Making::Listing => self.learn_listing(),
@@ -55,7 +55,7 @@ impl<L: Entries> SeatParty<L> {
         match place {
             Access::LoadingMeta => self.learn_meta(number, found),
             Access::Walking => self.learn_link(found),
-            Access::Locating => self.learn_address(found),
+            Access::LoadingSpot => self.learn_address(found),
             Access::Indexing => self.learn_index(found),
             Access::Getting => self.learn_get(number, found),
             Access::Naming => self.learn_name(number, found),

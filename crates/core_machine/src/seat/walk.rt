@@ -138,7 +138,7 @@ impl<L: Entries> SeatParty<L> {
         if array_length(found).is_some() {
             self.links = 0;
             self.part = (Parts::of(&self.command).field % 4) as u8;
-            self.place = Place::Access(Access::Locating);
+            self.place = Place::Access(Access::LoadingSpot);
             return;
         }
         self.learn_field_place();

@@ -1,7 +1,7 @@
 -- How many spine words the calls of all seats have granted and refused at most.
 use Rattle.std.proofs.Common.{◌≡◌, ℕ, zero, suc, ◌+◌, ◌*◌, ◌<◌, ◌≤◌, inl, inr, sym, subst, arith}
 use Rattle.std.proofs.lemmas.Bool.Decides.{eqb_tells}
-use Rattle.core_rule.proofs.Terms.{Command, Heap, spine_need_of, Withdrawing, Gathering, Returning, Refusing, Placing, Listing, Bearing, Place, State, seat_at, sum_upto, IsMachine}
+use Rattle.core_rule.proofs.Terms.{Command, Heap, spine_need_of, Withdrawing, Gathering, GivingBack, Refusing, Placing, Listing, Bearing, Place, State, seat_at, sum_upto, IsMachine}
 use Rattle.core_rule.proofs.Terms.{FitsPlace, Seat, of_seats, granted_at, refused_at}
 use Rattle.heap_model.specs.declared.command.Command.TheVariants as commands
 use Rattle.heap_model.specs.Command.{IsCommand}
@@ -19,7 +19,7 @@ need_few _ range = omega arith
 weights_few : (heap : Heap) (seat : Seat) (place : Place) → FitsPlace heap seat place → granted_at seat place + refused_at seat place ≤ 1024
 weights_few heap seat (places.Making Withdrawing) fits = omega (arith, need_few seat.command fits.makes.in_range)
 weights_few heap seat (places.Making Gathering) fits = omega (arith, need_few seat.command fits.makes.in_range)
-weights_few heap seat (places.Making Returning) fits = omega (arith, need_few seat.command fits.0.makes.in_range)
+weights_few heap seat (places.Making GivingBack) fits = omega (arith, need_few seat.command fits.0.makes.in_range)
 weights_few heap seat (places.Making Refusing) fits = omega (arith, need_few seat.command fits.0.makes.in_range)
 weights_few heap seat (places.Making Placing) fits = omega (arith, need_few seat.command fits.0.0.makes.in_range)
 weights_few heap seat (places.Making Listing) fits = omega (arith, need_few seat.command fits.0.0.makes.in_range)

@@ -1,7 +1,7 @@
 -- A call in flight: its place, and where it began.
 use Rattle.std.proofs.Common.{◌≡◌, ℕ, ◌*◌, ◌≤◌, false, List, [], ◌∷◌, ◌++◌, length, drop, refl, subst, arith}
 use Rattle.std.proofs.lemmas.List.{drop-append-le, length-append}
-use Rattle.core_rule.proofs.Terms.{Entry, Heap, is_reply_to, Granting, Withdrawing, Gathering, Returning, Refusing, Placing, Listing, Bearing, Place, FitsPlace, Seat, Began}
+use Rattle.core_rule.proofs.Terms.{Entry, Heap, is_reply_to, Granting, Withdrawing, Gathering, GivingBack, Refusing, Placing, Listing, Bearing, Place, FitsPlace, Seat, Began}
 use Rattle.core_rule.proofs.Terms.{IsAnswered, IsAwaited}
 use Rattle.heap_model.proofs.account_lemmas.Windows.{any-more}
 use Rattle.core_machine.specs.declared.place.Making.{Making}
@@ -23,7 +23,7 @@ tried_within heap seat (places.Access place) fits = omega (arith, fits.none_trie
 tried_within heap seat (places.Polling place) fits = omega (arith, fits.none_tried)
 tried_within heap seat (places.Making Withdrawing) fits = omega (arith, fits.rests.none_tried)
 tried_within heap seat (places.Making Gathering) fits = omega (arith, fits.groups_left)
-tried_within heap seat (places.Making Returning) fits = omega (arith, fits.0.all_tried)
+tried_within heap seat (places.Making GivingBack) fits = omega (arith, fits.0.all_tried)
 tried_within heap seat (places.Making Refusing) fits = omega (arith, fits.0.all_tried)
 tried_within heap seat (places.Making Placing) fits = omega (arith, fits.0.0.none_tried)
 tried_within heap seat (places.Making Listing) fits = omega (arith, fits.0.0.none_tried)
@@ -38,7 +38,7 @@ stored_within heap seat (places.Making Granting) fits = omega (arith, fits.0.non
 stored_within heap seat (places.Making Withdrawing) fits = omega (arith, fits.rests.none_stored)
 stored_within heap seat (places.Making Placing) fits = omega (arith, fits.0.2.none_stored)
 stored_within heap seat (places.Making Listing) fits = omega (arith, fits.0.2.none_stored)
-stored_within heap seat (places.Making Returning) fits = omega (arith, fits.0.none_stored)
+stored_within heap seat (places.Making GivingBack) fits = omega (arith, fits.0.none_stored)
 stored_within heap seat (places.Making Refusing) fits = omega (arith, fits.0.none_stored)
 stored_within heap seat (places.Making Storing) fits = omega (arith, fits.2)
 stored_within heap seat (places.Making Bearing) fits = omega (arith, fits.3)

@@ -1,6 +1,6 @@
 -- Where the sources of what a seat has borne lead: to its own new object.
 use Rattle.std.proofs.Common.{◌≡◌, ◌≢◌, ℕ, ◌*◌, ◌<◌, ◌≤◌, [], length, refl, sym, subst}
-use Rattle.core_rule.proofs.Terms.{Heap, Granting, Withdrawing, Gathering, Returning, Refusing, Placing, Listing, Bearing, Place, State, seat_at, IsArrayCall, FitsPlace, HasBody}
+use Rattle.core_rule.proofs.Terms.{Heap, Granting, Withdrawing, Gathering, GivingBack, Refusing, Placing, Listing, Bearing, Place, State, seat_at, IsArrayCall, FitsPlace, HasBody}
 use Rattle.core_rule.proofs.Terms.{SpineIsListed, newborn_word_of, Seat, tally, Book, WordPointsTo, Taken, Borne, Rule, SeatStands, HasPlace}
 use Rattle.core_machine.specs.declared.place.Making.TheVariants.{Storing}
 use Rattle.core_machine.specs.declared.place.Place.TheVariants as places
@@ -44,7 +44,7 @@ module _ (heap : Heap) (state : State) (book : Book) (rule : Rule heap state boo
   birth_place (places.Making Granting) fits = absurd (some_body fits.0.no_body)
   birth_place (places.Making Withdrawing) fits = absurd (some_body fits.rests.no_body)
   birth_place (places.Making Gathering) fits = absurd (some_body fits.no_body)
-  birth_place (places.Making Returning) fits = absurd (some_body fits.0.no_body)
+  birth_place (places.Making GivingBack) fits = absurd (some_body fits.0.no_body)
   birth_place (places.Making Refusing) fits = absurd (some_body fits.0.no_body)
   birth_place (places.Making Placing) fits = absurd (some_borne fits.0.2.all_unborn)
   birth_place (places.Making Listing) fits = absurd (some_borne fits.0.2.all_unborn)

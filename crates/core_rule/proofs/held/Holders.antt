@@ -6,7 +6,7 @@ use Rattle.core_rule.proofs.Terms.{FitsWay, register_in, Seat, head_of, tally, B
 use Rattle.core_rule.proofs.Terms.{Finds, Locates, LoadedKept, OldKept, WayStands}
 use Rattle.core_machine.specs.declared.place.Place.TheVariants as places
 use Rattle.core_machine.specs.declared.place.Access.{Access}
-use Rattle.core_machine.specs.declared.place.Access.TheVariants.{Locating, Naming}
+use Rattle.core_machine.specs.declared.place.Access.TheVariants.{LoadingSpot, Naming}
 use Rattle.core_rule.specs.held.Held.{OwnsFragment, IsInRegister, AccessHolds, CallHolds, SeatHolds}
 use Rattle.core_rule.proofs.entries.AtRest.{seat_fits}
 use Rattle.core_rule.proofs.hand.Bodies.{body_own}
@@ -83,7 +83,7 @@ module _ (heap : Heap) (state : State) (book : Book) (rule : Rule heap state boo
       → Awaits (told_graph heap book) book.made book.owner book.fragments number seat (places.Access place) stands.told.list.awaited → AccessHolds seat place f → AliveNow f
   access_alive f LoadingMeta fits way awaits holds = either f (start_alive way) (nothing_loaded fits.none_loaded) holds
   access_alive f Walking fits way awaits holds = either f (reached_alive way) (nothing_loaded fits.none_loaded) holds
-  access_alive f Locating fits way awaits holds = either f (sentinel_alive way) (nothing_loaded fits.none_loaded) holds
+  access_alive f LoadingSpot fits way awaits holds = either f (sentinel_alive way) (nothing_loaded fits.none_loaded) holds
   access_alive f Indexing fits way awaits holds = either f (sentinel_alive way) (nothing_loaded fits.none_loaded) holds
   access_alive f Getting fits way awaits holds = either f (reached_alive way) (nothing_loaded fits.1) holds
   access_alive f Naming fits way awaits holds = named_alive f awaits holds

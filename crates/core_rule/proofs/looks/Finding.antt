@@ -4,6 +4,7 @@ use Rattle.std.proofs.Common.{◌≡◌, ◌≢◌, ℕ, suc, ◌+◌, ◌<◌, 
 use Rattle.std.proofs.lemmas.Bool.Decides.{leb_tells}
 use Rattle.std.proofs.lemmas.List.{append-nil}
 use Rattle.core_rule.proofs.Terms.{Entry, Heap, phase, last_answer, has_left, since_reply, is_reply_to, Place, State, at, Book, Rule}
+use Rattle.heap_model.specs.Behind.{behind_of}
 use Rattle.heap_model.specs.account.Phases.{IsBehind, WasBehind}
 use Rattle.heap_model.proofs.account_lemmas.Windows.{parts, all_since}
 use Rattle.core_machine.specs.declared.place.Access.TheVariants.{Naming}
@@ -86,9 +87,9 @@ module _ (heap : Heap) (state : State) (book : Book) (rule : Rule heap state boo
       → LooksStand heap history number places.Idle (compared other p (at heap state.words (Answer other)) looks)
   looks_compared other p looks stands =
       elim (leb_tells (suc word) p) as (λ _. LooksStand heap history number places.Idle (compared other p word looks)) [
-        | inl less ↦ subst (λ b. LooksStand heap history number places.Idle (if b then found_behind (record { seat = other; answered = word; phase = p }) looks else record looks { behind = None }))
+        | inl less ↦ subst (λ b. LooksStand heap history number places.Idle (if b then found_behind (behind_of other word p) looks else record looks { behind = None }))
             (sym less.0) record { seen = stands.seen; found = λ still. record { first = (stands.found (λ named. cc named)).first; behind = behind less.1 }; asks = tt; compares = over looks }
-        | inr more ↦ subst (λ b. LooksStand heap history number places.Idle (if b then found_behind (record { seat = other; answered = word; phase = p }) looks else record looks { behind = None }))
+        | inr more ↦ subst (λ b. LooksStand heap history number places.Idle (if b then found_behind (behind_of other word p) looks else record looks { behind = None }))
             (sym more.0) record { seen = stands.seen; found = λ still. record { first = (stands.found (λ named. cc named)).first; behind = tt }; asks = tt; compares = over looks }
       ]
     where
@@ -98,7 +99,7 @@ module _ (heap : Heap) (state : State) (book : Book) (rule : Rule heap state boo
       asks : HasCompared heap history number other p
       asks = stands.asks
 
-      behind : word < p → WasFound heap history number (record { seat = other; answered = word; phase = p })
+      behind : word < p → WasFound heap history number (behind_of other word p)
       behind less =
           let told = word_below heap state book rule other asks.asked.below word refl (omega (arith, less, asks.begun)) in
           let its = asks.behind told.0 (omega (arith, less, told.1)) in

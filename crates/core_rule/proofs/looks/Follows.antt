@@ -4,8 +4,9 @@ use Rattle.std.proofs.Common.{◌≡◌, ℕ, suc, ◌+◌, ◌^◌, Bool, true,
 use Rattle.std.proofs.lemmas.Bool.Decides.{leb_tells}
 use Rattle.core_rule.proofs.Terms.{Command, Heap, Reply, array_length_of, State, found_by, Move, last_birth_move, birth_move, refusal_step, refusal_looks, after_meta, after_get}
 use Rattle.core_rule.proofs.Terms.{after_old_load, Seat, with_seen}
+use Rattle.heap_model.specs.Behind.{behind_of}
 use Rattle.heap_model.specs.declared.command.Command.TheVariants as commands
-use Rattle.core_machine.specs.declared.seat.looks.FoundBehind.{FoundBehind}
+use Rattle.heap_model.specs.declared.behind.Behind.{Behind}
 use Rattle.core_machine.specs.declared.seat.looks.Looks.{Looks}
 use Rattle.core_machine.specs.declared.step.Step.{Step}
 use Rattle.core_machine.specs.declared.step.Step.TheVariants.{PollLoad, Turning}
@@ -23,18 +24,18 @@ IsBlind (Some (Turning (LookLoad other))) = ⊥
 IsBlind _ = Unit {0}
 
 -- a comparison counts what it finds, once
-compare_counts : (b : Bool) (found : FoundBehind) (looks : Looks) → CountsFind b looks.waits (if b then found_behind found looks else record looks { behind = None }).waits
+compare_counts : (b : Bool) (found : Behind) (looks : Looks) → CountsFind b looks.waits (if b then found_behind found looks else record looks { behind = None }).waits
 compare_counts true found looks = elim (leb_tells (suc (looks.waits + 1)) (2 ^ 64)) as (λ _. CountsFind true looks.waits (found_behind found looks).waits) [
   | inl more ↦ rw more.0 (λ few. refl, λ many. absurd (omega (arith, many, more.1)))
   | inr full ↦ rw full.0 (λ few. absurd (omega (arith, few, full.1)), λ many. refl)
 ]
 compare_counts false found looks = refl
 
-compare_behind : (b : Bool) (found : FoundBehind) (looks : Looks) → (if b then found_behind found looks else record looks { behind = None }).behind ≡ (if b then Some found else None)
+compare_behind : (b : Bool) (found : Behind) (looks : Looks) → (if b then found_behind found looks else record looks { behind = None }).behind ≡ (if b then Some found else None)
 compare_behind true found looks = refl
 compare_behind false found looks = refl
 
-compare_seen : (b : Bool) (found : FoundBehind) (looks : Looks) → (if b then found_behind found looks else record looks { behind = None }).seen ≡ looks.seen
+compare_seen : (b : Bool) (found : Behind) (looks : Looks) → (if b then found_behind found looks else record looks { behind = None }).seen ≡ looks.seen
 compare_seen true found looks = refl
 compare_seen false found looks = refl
 
@@ -59,8 +60,8 @@ module _ (heap : Heap) (state : State) where
       word : ℕ
       word = found_by heap state (Turning (LookLoad other))
 
-      found : FoundBehind
-      found = record { seat = other; answered = word; phase = looks.seen }
+      found : Behind
+      found = behind_of other word looks.seen
 
       below : Bool
       below = nat_lt word looks.seen

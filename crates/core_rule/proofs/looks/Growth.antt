@@ -10,7 +10,7 @@ use Rattle.core_machine.specs.declared.place.Collecting.{Collecting}
 use Rattle.core_machine.specs.declared.place.Collecting.TheVariants.{Looking, Asking, Comparing, Noting}
 use Rattle.core_machine.specs.declared.place.Place.TheVariants as places
 use Rattle.core_machine.specs.declared.seat.looks.Looks.{Looks}
-use Rattle.core_machine.specs.declared.seat.looks.FoundBehind.{FoundBehind}
+use Rattle.heap_model.specs.declared.behind.Behind.{Behind}
 use Rattle.core_machine.specs.seat.Looks.{forgotten}
 use Rattle.core_rule.specs.looks.Looks.{WasSeen, WasFound, HasCompared, CollectingStands, WhileCollecting, LooksStand}
 use Rattle.core_rule.proofs.entries.PhaseEntries.{answers_grow, was_present}
@@ -62,7 +62,7 @@ module _ (heap : Heap) (number : ℕ) (before added : List Entry) (none : NoneOf
   seen_on : (p : ℕ) → WasSeen before number p → WasSeen now number p
   seen_on p seen = record { since = rw up_to seen.since; begun = omega (arith, seen.begun, phase_grows before added) }
 
-  found_on : (found : FoundBehind) → WasFound heap before number found → WasFound heap now number found
+  found_on : (found : Behind) → WasFound heap before number found → WasFound heap now number found
   found_on found was = record { below = was.below; other = was.other; next = was.next; behind = behind_on found.seat found.answered found.phase was.behind }
 
   compares_on : (other p : ℕ) → HasCompared heap before number other p → HasCompared heap now number other p

@@ -30,7 +30,7 @@ abbrev pub OnlyMarks : Type 0 → Stage → Type 0
 OnlyMarks marks (stages.Passing group found) = marks
 OnlyMarks marks (stages.Scanning scan) = marks
 OnlyMarks marks (stages.Shading scan target next) = marks
-OnlyMarks marks (stages.Locating scan count) = marks
+OnlyMarks marks (stages.Addressing scan count) = marks
 OnlyMarks marks (stages.Indexing s) = marks × (s.index < s.words)
 OnlyMarks marks (stages.Spreading s target) = marks × (s.index < s.words)
 OnlyMarks marks (stages.Blackening scan) = marks
@@ -169,7 +169,7 @@ module _ (heap : Heap) (words now : List ℕ) (owner later : ℕ → Owner) (col
     after_on is scan.fragment scan.part next stands.3,
     none_on is scan.fragment stands.0.grey stands.4,
   )
-  scan_stays (stages.Locating scan count) is stands =
+  scan_stays (stages.Addressing scan count) is stands =
       (seen_on is scan.fragment 4 stands.0, stands.1 ∙ sym (leaves.spine is scan.fragment (grey_born scan.fragment stands.0.grey)).as_many)
   scan_stays (stages.Indexing s) is stands = (seen_on is.0 s.scan.fragment (4 + s.index) stands.0, spine_on is.0 s stands.0.grey is.1 stands.1)
   scan_stays (stages.Spreading s target) is stands = (

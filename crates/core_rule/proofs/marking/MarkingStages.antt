@@ -8,7 +8,7 @@ abbrev pub OfMarking : Stage → Type 0
 OfMarking (stages.Passing group found) = Unit {0}
 OfMarking (stages.Scanning scan) = Unit {0}
 OfMarking (stages.Shading scan target next) = Unit {0}
-OfMarking (stages.Locating scan count) = Unit {0}
+OfMarking (stages.Addressing scan count) = Unit {0}
 OfMarking (stages.Indexing s) = Unit {0}
 OfMarking (stages.Spreading s target) = Unit {0}
 OfMarking (stages.Blackening scan) = Unit {0}

@@ -7,7 +7,7 @@ use Rattle.heap_model.specs.PhasePlan.{clearing as clearing_phase, marking as ma
 use Rattle.core_machine.specs.declared.collector.stage.Stage.TheVariants as stages
 use Rattle.core_machine.specs.collector.FitsTurns.{FitsStage}
 use Rattle.core_machine.specs.declared.place.Access.{Access}
-use Rattle.core_machine.specs.declared.place.Access.TheVariants.{Locating, Naming}
+use Rattle.core_machine.specs.declared.place.Access.TheVariants.{LoadingSpot, Naming}
 use Rattle.core_machine.specs.declared.place.Place.TheVariants as places
 use Rattle.core_rule.specs.roots.Roots.{IsInMarking, AtCall, OfRoots, RootsAreReached}
 use Rattle.core_rule.proofs.colours.LeadsFrames.{SameSources, leads_same, same_leads}
@@ -28,7 +28,7 @@ roots_more P Q more seat roots = record {
     each : (place : Access) → AtCall P seat place → AtCall Q seat place
     each LoadingMeta holds = more seat.reached holds
     each Walking holds = more seat.reached holds
-    each Locating holds = more seat.reached holds
+    each LoadingSpot holds = more seat.reached holds
     each Indexing holds = more seat.reached holds
     each Getting holds = more seat.reached holds
     each Naming holds = if_some P Q more (head_of seat.loaded) holds
@@ -105,7 +105,7 @@ module _ (heap : Heap) (state : State) (book : Book) (rule : Rule heap state boo
   only_marks (stages.Passing group found) is fits = record { phase = fits.marks.for_marking; goes_on = subst HasMarked is }
   only_marks (stages.Scanning scan) is fits = record { phase = fits.marks.for_marking; goes_on = subst HasMarked is }
   only_marks (stages.Shading scan target next) is fits = record { phase = fits.marks.for_marking; goes_on = subst HasMarked is }
-  only_marks (stages.Locating scan count) is fits = record { phase = fits.marks.for_marking; goes_on = subst HasMarked is }
+  only_marks (stages.Addressing scan count) is fits = record { phase = fits.marks.for_marking; goes_on = subst HasMarked is }
   only_marks (stages.Indexing s) is fits = (record { phase = fits.on.marks.for_marking; goes_on = subst HasMarked is }, fits.on.index_within)
   only_marks (stages.Spreading s target) is fits = (record { phase = fits.on.marks.for_marking; goes_on = subst HasMarked is }, fits.on.index_within)
   only_marks (stages.Blackening scan) is fits = record { phase = fits.marks.for_marking; goes_on = subst HasMarked is }

@@ -4,7 +4,7 @@ use Rattle.core_rule.proofs.Terms.{Entry, Id, Value, Graph, Node, LoadingMeta, W
 use Rattle.core_rule.proofs.Terms.{register_in, register_head, Seat, head_of, Colour, fragment_at, IsMarked, Awaits, IsKept, Owner, HoldsValue, OnWay, Finds, Locates, LoadedKept}
 use Rattle.core_rule.proofs.Terms.{WayStands}
 use Rattle.heap_model.specs.declared.id.Value.TheVariants as values
-use Rattle.core_machine.specs.declared.place.Access.TheVariants.{Locating, Naming}
+use Rattle.core_machine.specs.declared.place.Access.TheVariants.{LoadingSpot, Naming}
 use Rattle.core_machine.specs.declared.place.Place.TheVariants as places
 use Rattle.core_machine.specs.declared.seat.register.Register.TheVariants as registers
 use Rattle.core_rule.proofs.lists.Options.{of_some}
@@ -60,7 +60,7 @@ module _ (made : List Id) (owner : ℕ → Owner) (colour : ℕ → Colour) (fra
     pub ways_later : (nodes : ℕ → Node) (place : Place) → WayStands nodes made owner fragments seat place → WayStands nodes made later fragments seat place
     ways_later nodes (places.Access LoadingMeta) way = record { index = way.index; way = way_later way.index 0 way.way }
     ways_later nodes (places.Access Walking) way = finds_later nodes way
-    ways_later nodes (places.Access Locating) way = locates_later nodes way
+    ways_later nodes (places.Access LoadingSpot) way = locates_later nodes way
     ways_later nodes (places.Access Indexing) way = locates_later nodes way
     ways_later nodes (places.Access Getting) way = finds_later nodes way
     ways_later nodes (places.Access LoadingOld) way = finds_later nodes way

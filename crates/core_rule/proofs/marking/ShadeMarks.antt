@@ -81,7 +81,7 @@ module _ (heap : Heap) (words now : List ℕ) (owner : ℕ → Owner) (colour : 
     stands.3,
     none_on scan.fragment stands.4,
   )
-  scan_shaded (stages.Locating scan count) stands =
+  scan_shaded (stages.Addressing scan count) stands =
       (seen_on scan.fragment 4 stands.0, stands.1 ∙ sym (ap spine_words_in ((same scan.fragment).parts 0 (omega arith))))
   scan_shaded (stages.Indexing s) stands = (seen_on s.scan.fragment (4 + s.index) stands.0, spine_on s stands.1)
   scan_shaded (stages.Spreading s target) stands = (

@@ -2,7 +2,7 @@
 use Rattle.std.proofs.Common.{◌≡◌, ◌≢◌, ℕ, ◌<◌, Bool, true, false, IfSome, refl, sym, ◌∙◌, subst, arith}
 use Rattle.core_rule.proofs.Terms.{Heap, phase, IsMarking, LoadingMeta, Walking, Indexing, Getting, LoadingOld, ShadingOld, ShadingNew, Swapping, Place, State, seat_at, FitsWay}
 use Rattle.core_rule.proofs.Terms.{Seat, head_of, Book, Grey, IsMarked, ShadedStands, WhileAccess, IsReached, Rule, HasMarked}
-use Rattle.core_machine.specs.declared.place.Access.TheVariants.{Locating, Naming}
+use Rattle.core_machine.specs.declared.place.Access.TheVariants.{LoadingSpot, Naming}
 use Rattle.core_machine.specs.declared.place.Place.TheVariants as places
 use Rattle.core_rule.specs.roots.Roots.{AtCall, OfRoots}
 use Rattle.core_rule.proofs.entries.AtRest.{seat_fits, in_flight}
@@ -44,7 +44,7 @@ module _ (heap : Heap) (state : State) (book : Book) (rule : Rule heap state boo
   loaded_by_place : (place : Place) → seat.place ≡ place → FitsWay seat place → WhileAccess (AtCall Marked seat) place → WhileAccess (ShadedStands book.colour seat) place → IfSome (head_of seat.loaded) Marked
   loaded_by_place (places.Access LoadingMeta) is fits call shaded = nothing_loaded fits.none_loaded
   loaded_by_place (places.Access Walking) is fits call shaded = nothing_loaded fits.none_loaded
-  loaded_by_place (places.Access Locating) is fits call shaded = nothing_loaded fits.none_loaded
+  loaded_by_place (places.Access LoadingSpot) is fits call shaded = nothing_loaded fits.none_loaded
   loaded_by_place (places.Access Indexing) is fits call shaded = nothing_loaded fits.none_loaded
   loaded_by_place (places.Access Getting) is fits call shaded = nothing_loaded fits.1
   loaded_by_place (places.Access Naming) is fits call shaded = call

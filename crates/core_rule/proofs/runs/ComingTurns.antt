@@ -3,7 +3,7 @@ use Rattle.std.proofs.Common.{◌/◌, ◌*◌, ◌≡◌, ℕ, ◌+◌, ◌-◌
 use Rattle.std.specs.List.{AllByRecursion}
 use Rattle.std.proofs.lemmas.List.{append-nil}
 use Rattle.std.proofs.lemmas.List.Elements.{filter-append}
-use Rattle.heap_model.specs.declared.calls.collector_calls.Turn.{Turn as TurnAnswer}
+use Rattle.heap_model.specs.declared.calls.collector_calls.Turn.{Turn}
 use Rattle.heap_model.specs.declared.calls.collector_calls.Turn.TheVariants as answers
 use Rattle.core_rule.proofs.Terms.{Entry, Advance, Ends, Heap, IsLegal, effect_of, phase, Stage, turn_at, next_turn, State, found_by, Turns, entries, Book, EachEventKeeps}
 use Rattle.core_rule.proofs.Terms.{IsToldBy, EachTurnComesTo, Rule}
@@ -11,7 +11,7 @@ use Rattle.heap_model.specs.account.Noting.{is_collectors}
 use Rattle.heap_model.specs.calls.CollectorCalls.{CollectorState, AddsNone, ComesTo}
 use Rattle.heap_model.proofs.Histories.{total-more}
 use Rattle.core_machine.specs.declared.collector.stage.Stage.TheVariants as stages
-use Rattle.core_machine.specs.collector.Collector.{Turn}
+use Rattle.core_machine.specs.collector.Collector.{TurnMove}
 use Rattle.core_rule.proofs.entries.TurnShapes.{StepsInPhase, TurnShape, adds_nothing, adds_one, begins_phase, ends_cycle, shape_collects}
 use Rattle.core_rule.proofs.steps.collector.{turn_kind}
 use Rattle.core_rule.proofs.runs.Plays.{keeps_there}
@@ -24,7 +24,7 @@ turn_collects heap state =
     shape_collects heap state.collector found state.collector.stage ((turn_kind state.collector.stage).shape heap state.collector found)
 
 module _ (heap : Heap) (state : State) (book : Book) (old new : CollectorState) (rule : Rule heap state book) where
-  abbrev turn : Turn
+  abbrev turn : TurnMove
   turn = next_turn heap state.collector
 
   abbrev found : ℕ
@@ -36,7 +36,7 @@ module _ (heap : Heap) (state : State) (book : Book) (old new : CollectorState) 
         let same : book.history ++ turn.adds ≡ book.history = rw none (append-nil book.history) in
         (then_.log_told ∙ ap (filter is_collectors) same ∙ sym told.log_told, then_.phase_told ∙ ap phase same ∙ sym told.phase_told)
 
-    quiet_comes : turn.adds ≡ [] → ((cycle kept : ℕ) → turn.answer found ≡ answers.Ended cycle kept → ⊥) → (answer : TurnAnswer) → turn.answer found ≡ answer → ComesTo old new answer
+    quiet_comes : turn.adds ≡ [] → ((cycle kept : ℕ) → turn.answer found ≡ answers.Ended cycle kept → ⊥) → (answer : Turn) → turn.answer found ≡ answer → ComesTo old new answer
     quiet_comes none goes_on answers.Stepped is = inl (adds_none none)
     quiet_comes none goes_on (answers.Waits seat answer p) is =
         let waits = each_wait_is_behind heap state book seat answer p rule is in

@@ -4,11 +4,12 @@ use Rattle.std.proofs.Common.{◌≡◌, ◌≢◌, ℕ, ◌+◌, ◌%◌, ◌^�
 use Rattle.std.proofs.lemmas.Bool.{eq-eqb}
 use Rattle.core_rule.proofs.Terms.{Command, Entry, Heap, KeepsSpace, is_of, words_granted, words_returned, phase, Withdrawing, Refusing, Place, SeatIsRefusing, State, seat_at}
 use Rattle.core_rule.proofs.Terms.{full_entry, spine_full_entry, Seat, need, spine_need, Book, GathersRight, IsBehindNow, Rule}
+use Rattle.heap_model.specs.Behind.{behind_of}
 use Rattle.heap_model.specs.declared.command.Command.TheVariants as commands
 use Rattle.heap_model.specs.declared.entry.Entry.TheVariants as entries
 use Rattle.heap_model.specs.declared.reply.Reply.TheVariants as replies
 use Rattle.heap_model.specs.account.Refusals.{FindsSpace}
-use Rattle.heap_model.specs.account.Phases.{IsBehind, SawBehind, ShowsPhases}
+use Rattle.heap_model.specs.account.Phases.{IsBehind, ShowsWait, ShowsPhases}
 use Rattle.heap_model.specs.declared.calls.collect.CollectReply.TheVariants as notes
 use Rattle.core_machine.specs.declared.place.Collecting.TheVariants.{Noting}
 use Rattle.core_machine.specs.seat.HandshakeMoves.{phase_told}
@@ -77,7 +78,7 @@ spine_refusal heap state book number rule found =
 noted_behind : (heap : Heap) (state : State) (book : Book) (number : ℕ) → Rule heap state book → (other answer p : ℕ) → IsBehindNow heap state.words other answer p → (command : Command)
     → ShowsPhases heap false book.history number command (replies.Waits other answer p) → command ≡ commands.Collect → IsBehind other answer p book.history
 noted_behind heap state book number rule other answer p now command shows collects =
-    let shown : (other < heap.seats) × (other ≢ number) × (answer < p) × SawBehind false book.history number other answer p
+    let shown : ShowsWait heap false book.history number (behind_of other answer p)
     = subst (λ c. ShowsPhases heap false book.history number c (replies.Waits other answer p)) collects shows in
     let is_phase : phase book.history ≡ p = sym rule.heap_stands.cycle.word ∙ now.here in
     let told = (rule.seats_stand other shown.0).cycle.answers_told in

@@ -5,7 +5,7 @@ use Rattle.core_rule.proofs.Terms.{Entry, Ends, Heap, cycle_phases, EndsCycle, S
 use Rattle.core_rule.proofs.Terms.{CollectorAgrees, Rule, HeapStands, SeatStands, MarksStand, SpaceStands}
 use Rattle.core_machine.specs.declared.table.address.Address.{Address}
 use Rattle.core_machine.specs.declared.collector.stage.Stage.TheVariants as stages
-use Rattle.core_machine.specs.collector.Collector.{Turn}
+use Rattle.core_machine.specs.collector.Collector.{TurnMove}
 use Rattle.core_machine.proofs.table_lemmas.Addresses.{put-at}
 use Rattle.core_rule.proofs.book.BookGoing.{BookGoesOn, book_stays}
 use Rattle.core_rule.proofs.budgets.BudgetSteps.{budgets_told}
@@ -15,7 +15,7 @@ use Rattle.core_rule.proofs.spines.OtherWords.{LeavesSpines, spines_left_none}
 use Rattle.core_rule.proofs.steps.Assemble.{Keeps, parts_keep}
 
 -- a turn of the collector keeps the rule
-abbrev pub TurnKeeps : Heap → State → Book → Turn → Type 0
+abbrev pub TurnKeeps : Heap → State → Book → TurnMove → Type 0
 TurnKeeps heap state book turn = IsMachine heap (state_after_turn heap state turn) → Keeps heap state (state_after_turn heap state turn) book book.begun turn.adds
 
 -- so does the turn that is due at this stage

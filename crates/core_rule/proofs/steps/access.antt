@@ -14,7 +14,7 @@ pub mod ShadeNewStep
 pub mod SwapStep
 use Rattle.core_machine.specs.declared.place.Access.{Access}
 use Rattle.core_rule.proofs.Terms.{LoadingMeta, Walking, Indexing, Getting, LoadingOld, ShadingOld, ShadingNew, Swapping}
-use Rattle.core_machine.specs.declared.place.Access.TheVariants.{Locating, Naming}
+use Rattle.core_machine.specs.declared.place.Access.TheVariants.{LoadingSpot, Naming}
 use Rattle.core_machine.specs.declared.place.Place.TheVariants as places
 use Rattle.core_rule.proofs.steps.StepKinds.{StepKind}
 
@@ -22,7 +22,7 @@ use Rattle.core_rule.proofs.steps.StepKinds.{StepKind}
 pub access_kind : (place : Access) → StepKind (places.Access place)
 access_kind LoadingMeta = OpenStep.open_kind
 access_kind Walking = OnwardStep.walk_kind
-access_kind Locating = LocateStep.locate_kind
+access_kind LoadingSpot = LocateStep.locate_kind
 access_kind Indexing = IndexStep.index_kind
 access_kind Getting = GetStep.get_kind
 access_kind Naming = NameStep.name_kind

@@ -9,7 +9,7 @@ pub mod LookStep
 pub mod MarkedTarget
 pub mod MarkShadeStep
 pub mod ScanStep
-pub mod LocateStep
+pub mod AddressStep
 pub mod IndexStep
 pub mod SpreadStep
 pub mod VisitStep
@@ -48,7 +48,7 @@ turn_kind stages.Looking = LookStep.look_kind
 turn_kind (stages.Passing group found) = PassStep.pass_kind group found
 turn_kind (stages.Scanning scan) = ScanStep.scan_kind scan
 turn_kind (stages.Shading scan target next) = MarkShadeStep.mark_shade_kind scan target next
-turn_kind (stages.Locating scan count) = LocateStep.locate_kind scan count
+turn_kind (stages.Addressing scan count) = AddressStep.address_kind scan count
 turn_kind (stages.Indexing s) = IndexStep.index_kind s
 turn_kind (stages.Spreading s target) = SpreadStep.spread_kind s target
 turn_kind (stages.Blackening scan) = BlackenStep.blacken_kind scan

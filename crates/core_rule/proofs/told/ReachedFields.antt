@@ -6,7 +6,7 @@ use Rattle.core_rule.proofs.Terms.{move_at, due_step, part_of, field_of, FitsWay
 use Rattle.core_rule.proofs.Terms.{node_at, IsAwaited, Rule, Kept, AccessStands, WayStands, Finds, Locates, SetsOut, OnWay}
 use Rattle.heap_model.specs.declared.id.Value.TheVariants as values
 use Rattle.core_machine.specs.declared.place.Access.{Access}
-use Rattle.core_machine.specs.declared.place.Access.TheVariants.{Locating, Naming}
+use Rattle.core_machine.specs.declared.place.Access.TheVariants.{LoadingSpot, Naming}
 use Rattle.core_machine.specs.declared.place.Place.TheVariants as places
 use Rattle.core_machine.specs.declared.step.AccessStep.TheVariants.{NameLoad}
 use Rattle.core_machine.specs.declared.step.Step.{Step}
@@ -84,7 +84,7 @@ module _ (heap : Heap) (state : State) (book : Book) (number : ℕ) (rule : Rule
   reaches_in : (place : Access) → seat.place ≡ places.Access place → FitsAccess seat place → AccessStands nodes book.made book.owner book.fragments seat place → ReachesOwn heap book number seat place
   reaches_in LoadingMeta is fits way = at_object is way
   reaches_in Walking is fits way = at_row Walking is (λ d r e. e) way
-  reaches_in Locating is fits way = at_array Locating is (λ d r e. e) way
+  reaches_in LoadingSpot is fits way = at_array LoadingSpot is (λ d r e. e) way
   reaches_in Indexing is fits way = at_array Indexing is (λ d r e. e) way
   reaches_in Getting is fits way = at_field Getting is (λ d r e. e) fits.0.2.arrived way
   reaches_in Naming is fits way = at_name is

@@ -1,7 +1,7 @@
 -- Each turn of the scan of an array's first fragment leaves fewer turns, where its spine has few words.
 use Rattle.std.proofs.Common.{◌≡◌, ℕ, ◌+◌, ◌-◌, ◌/◌, ◌<◌, List, refl, subst, bit_or, arith}
 use Rattle.heap_words.specs.Control.{shade_bit_of}
-use Rattle.core_rule.proofs.Terms.{Heap, IsLocating, IsIndexing, IsSpreading, Control, Word, Spine, payload_in, at, put, IsFewWords}
+use Rattle.core_rule.proofs.Terms.{Heap, IsAddressing, IsIndexing, IsSpreading, Control, Word, Spine, payload_in, at, put, IsFewWords}
 use Rattle.core_machine.specs.collector.Marking.{scan_step, spine_step, spine_scan_at, after_address, after_spread}
 use Rattle.core_machine.specs.declared.collector.stage.Scan.{Scan}
 use Rattle.core_machine.specs.declared.collector.stage.SpineScan.{SpineScan}
@@ -19,12 +19,12 @@ spine_at_leaves heap phase looked words scan s made few =
     let less : scanning_left heap words s.scan < scanning_left heap words scan = rw made (scan_goes_on heap phase looked words scan few) in
     spine_cases (λ stage. stage_left heap words phase looked stage < scanning_left heap words scan) s (λ more. less) (λ done. less)
 
-pub locate_leaves : (scan : Scan) (spine_words : ℕ) → StageLeavesFewer (stages.Locating scan spine_words)
-locate_leaves scan spine_words heap state book rule locating stepped =
-    let fits : IsLocating heap state.collector.phase state.collector.looked scan spine_words = rw locating at rule.machine.collector_fit.at_stage in
+pub address_leaves : (scan : Scan) (spine_words : ℕ) → StageLeavesFewer (stages.Addressing scan spine_words)
+address_leaves scan spine_words heap state book rule addressing stepped =
+    let fits : IsAddressing heap state.collector.phase state.collector.looked scan spine_words = rw addressing at rule.machine.collector_fit.at_stage in
     let word : ℕ = at heap state.words (Word scan.fragment 2) in
     rw (put-at heap state.words (Word scan.fragment 2))
-    (fewer_at heap state (stages.Locating scan spine_words) state.words state.collector.looked (after_address scan spine_words word) locating
+    (fewer_at heap state (stages.Addressing scan spine_words) state.words state.collector.looked (after_address scan spine_words word) addressing
     (spine_at_leaves heap state.collector.phase state.collector.looked state.words scan _ refl (omega (arith, fits.first_step))))
 
 pub index_leaves : (s : SpineScan) → IsFewWords (stages.Indexing s) → StageLeavesFewer (stages.Indexing s)

@@ -4,7 +4,7 @@ use Rattle.std.specs.Prelude.{if◌then◌else◌}
 use Rattle.core_rule.proofs.Terms.{Command, Id, Node, Place, LoadingMeta, Walking, Indexing, Getting, LoadingOld, ShadingOld, ShadingNew, Swapping, row_of, part_of, field_of, Seat}
 use Rattle.core_rule.proofs.Terms.{id_at, IsKept, Owner, LoadedKept, OnWay, FieldAhead, Finds, Locates, WayStands}
 use Rattle.core_machine.specs.declared.place.Place.TheVariants as places
-use Rattle.core_machine.specs.declared.place.Access.TheVariants.{Locating}
+use Rattle.core_machine.specs.declared.place.Access.TheVariants.{LoadingSpot}
 use Rattle.core_rule.proofs.graph.SameNodes.{SameShape}
 
 -- the object of this number is kept as before: under its id, in its fragments, of its kind and with as many cells
@@ -64,7 +64,7 @@ module _ (nodes now_nodes : ℕ → Node) (made now_made : List Id) (owner now_o
   pub ways_stay : (seat : Seat) (place : Place) → WayStands nodes made owner fragments seat place → WayStands now_nodes now_made now_owner now_fragments seat place
   ways_stay seat (places.Access LoadingMeta) way = record { index = way.index; way = way_stays seat way.index 0 way.way }
   ways_stay seat (places.Access Walking) way = finds_stays seat way
-  ways_stay seat (places.Access Locating) way = locates_stays seat way
+  ways_stay seat (places.Access LoadingSpot) way = locates_stays seat way
   ways_stay seat (places.Access Indexing) way = locates_stays seat way
   ways_stay seat (places.Access Getting) way = finds_stays seat way
   ways_stay seat (places.Access LoadingOld) way = finds_stays seat way

@@ -14,7 +14,7 @@ use Rattle.heap_words.specs.declared.spot.Spot.{Spot}
 use Rattle.core_machine.specs.declared.collector.stage.Copying.TheVariants as copying
 use Rattle.core_machine.specs.declared.collector.stage.Stage.{Stage}
 use Rattle.core_machine.specs.declared.collector.stage.Stage.TheVariants as stages
-use Rattle.core_machine.specs.declared.place.Making.TheVariants.{Withdrawing, Gathering, Returning, Refusing, Placing, Listing, Storing, Bearing}
+use Rattle.core_machine.specs.declared.place.Making.TheVariants.{Withdrawing, Gathering, GivingBack, Refusing, Placing, Listing, Storing, Bearing}
 use Rattle.core_machine.specs.declared.place.Place.{Place}
 use Rattle.core_machine.specs.declared.place.Place.TheVariants as places
 use Rattle.core_machine.specs.declared.table.address.Address.TheVariants.{Budget}
@@ -32,7 +32,7 @@ use Rattle.core_rule.specs.spines.Spines.{next_spine}
 -- the spine words that are granted to a seat's call
 abbrev pub granted_at : Seat → Place → ℕ
 granted_at seat (places.Making Gathering) = spine_need seat
-granted_at seat (places.Making Returning) = spine_need seat
+granted_at seat (places.Making GivingBack) = spine_need seat
 granted_at seat (places.Making Refusing) = spine_need seat
 granted_at seat (places.Making Placing) = spine_need seat
 granted_at seat (places.Making Listing) = spine_need seat

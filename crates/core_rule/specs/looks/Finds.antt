@@ -1,8 +1,9 @@
 -- What a seat finds out by its inner calls, by events and words alone.
 use Rattle.std.specs.Prelude.{◌≡◌, ◌==◌, ℕ, ◌+◌, ◌-◌, ◌^◌, ◌<◌, ◌≤◌, min, nat_lt, Bool, true, false, if◌then◌else◌, List, [], ◌∷◌, Option, Some, None}
+use Rattle.heap_model.specs.Behind.{behind_of}
+use Rattle.heap_model.specs.declared.behind.Behind.{Behind}
 use Rattle.heap_model.specs.Heap.{IsHeap}
 use Rattle.heap_model.specs.declared.heap.Heap.{Heap}
-use Rattle.core_machine.specs.declared.seat.looks.FoundBehind.{FoundBehind}
 use Rattle.core_machine.specs.declared.seat.looks.Looks.{Looks}
 use Rattle.core_machine.specs.declared.step.Step.{Step}
 use Rattle.core_machine.specs.declared.step.Step.TheVariants.{PollLoad, Turning}
@@ -48,12 +49,12 @@ loaded_by heap state loaded (Some PollLoad) = found_by heap state PollLoad
 loaded_by heap state loaded _ = loaded
 
 -- what a comparison finds: the seat whose word is below the phase that was loaded, or none
-abbrev pub behind_of : ℕ → ℕ → ℕ → Option FoundBehind
-behind_of other word loaded = if nat_lt word loaded then Some (record { seat = other; answered = word; phase = loaded }) else None
+abbrev pub comparison_of : ℕ → ℕ → ℕ → Option Behind
+comparison_of other word loaded = if nat_lt word loaded then Some (behind_of other word loaded) else None
 
 -- after a comparison the seat has found what it finds there
-abbrev pub TellsBehind : Heap → State → ℕ → Option Step → Option FoundBehind → Type 0
-TellsBehind heap state loaded (Some (Turning (LookLoad other))) behind = behind ≡ behind_of other (found_by heap state (Turning (LookLoad other))) loaded
+abbrev pub TellsBehind : Heap → State → ℕ → Option Step → Option Behind → Type 0
+TellsBehind heap state loaded (Some (Turning (LookLoad other))) behind = behind ≡ comparison_of other (found_by heap state (Turning (LookLoad other))) loaded
 TellsBehind heap state loaded _ behind = Unit {0}
 
 -- what a seat has found out follows its steps: each find counts once, a comparison tells what it finds, and each load of the phase is seen

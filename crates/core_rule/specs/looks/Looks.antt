@@ -12,7 +12,7 @@ use Rattle.core_machine.specs.declared.place.Place.{Place}
 use Rattle.core_machine.specs.declared.place.Place.TheVariants as places
 use Rattle.core_machine.specs.machine.Machine.{State, seat_at}
 use Rattle.core_machine.specs.declared.seat.looks.Looks.{Looks}
-use Rattle.core_machine.specs.declared.seat.looks.FoundBehind.{FoundBehind}
+use Rattle.heap_model.specs.declared.behind.Behind.{Behind}
 
 -- the phase was this one at some time since the seat's last reply
 pub record WasSeen (history : List Entry) (number p : ℕ) : Type 0 where
@@ -20,7 +20,7 @@ pub record WasSeen (history : List Entry) (number p : ℕ) : Type 0 where
   pub begun : p ≤ phase history
 
 -- the seat that was found to be behind is another one of the heap, and was behind by one phase at some time since the last reply
-pub record WasFound (heap : Heap) (history : List Entry) (number : ℕ) (found : FoundBehind) : Type 0 where
+pub record WasFound (heap : Heap) (history : List Entry) (number : ℕ) (found : Behind) : Type 0 where
   pub below : found.seat < heap.seats
   pub other : found.seat ≢ number
   pub next : found.phase ≡ found.answered + 1

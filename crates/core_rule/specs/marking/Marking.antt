@@ -57,7 +57,7 @@ ScanStands heap words owner colour fragments (stages.Scanning scan) =
 ScanStands heap words owner colour fragments (stages.Shading scan target next) =
     IsSeen heap words colour scan.fragment scan.part × DeletionBarrier heap words colour scan.fragment scan.part (Some target)
     × MayMark owner colour fragments target × ComesAfter owner scan.fragment scan.part next × TellsNoSpine heap words scan.fragment
-ScanStands heap words owner colour fragments (stages.Locating scan count) =
+ScanStands heap words owner colour fragments (stages.Addressing scan count) =
     IsSeen heap words colour scan.fragment 4 × (count ≡ spine_words_in (at heap words (Word scan.fragment 0)))
 ScanStands heap words owner colour fragments (stages.Indexing s) = IsSeen heap words colour s.scan.fragment (4 + s.index) × IsSpineOf heap words s
 ScanStands heap words owner colour fragments (stages.Spreading s target) =
@@ -79,7 +79,7 @@ IsFewCopied (copying.Swinging copy) = copy.array.words ≤ array_words most_cell
 
 -- no more spine words are scanned or copied than the largest array has, and a scan that is through took no more steps than that
 abbrev pub IsFewWords : Stage → Type 0
-IsFewWords (stages.Locating scan spine_words) = spine_words ≤ array_words most_cells
+IsFewWords (stages.Addressing scan spine_words) = spine_words ≤ array_words most_cells
 IsFewWords (stages.Indexing s) = s.words ≤ array_words most_cells
 IsFewWords (stages.Spreading s target) = s.words ≤ array_words most_cells
 IsFewWords (stages.Blackening scan) = scan.steps ≤ 2 + 2 * array_words most_cells

@@ -7,7 +7,7 @@ use Rattle.heap_model.specs.declared.id.Value.TheVariants as values
 use Rattle.heap_model.specs.graph.Graph.{Node}
 use Rattle.heap_model.specs.graph.Objects.{register_value}
 use Rattle.core_machine.specs.declared.place.Access.{Access}
-use Rattle.core_machine.specs.declared.place.Access.TheVariants.{LoadingMeta, Walking, Locating, Indexing, Getting, Naming, LoadingOld, ShadingOld, ShadingNew, Swapping}
+use Rattle.core_machine.specs.declared.place.Access.TheVariants.{LoadingMeta, Walking, LoadingSpot, Indexing, Getting, Naming, LoadingOld, ShadingOld, ShadingNew, Swapping}
 use Rattle.core_machine.specs.declared.seat.register.Register.TheVariants.{Object}
 use Rattle.core_machine.specs.machine.Machine.{State, seat_at, found_by}
 use Rattle.core_machine.specs.Moves.{due_step}
@@ -76,7 +76,7 @@ pub record AwaitsName (heap : Heap) (book : Book) (number : ℕ) (seat : Seat) :
 abbrev pub ReachesOwn : Heap → Book → ℕ → Seat → Access → Type 0
 ReachesOwn heap book number seat LoadingMeta = ReachesObject heap book number seat
 ReachesOwn heap book number seat Walking = ReachesRow heap book number seat seat.links
-ReachesOwn heap book number seat Locating = ReachesArray heap book number seat
+ReachesOwn heap book number seat LoadingSpot = ReachesArray heap book number seat
 ReachesOwn heap book number seat Indexing = ReachesArray heap book number seat
 ReachesOwn heap book number seat Getting = IsFieldPlace heap book number seat
 ReachesOwn heap book number seat Naming = AwaitsName heap book number seat

@@ -6,7 +6,7 @@ use Rattle.heap_model.specs.graph.Graph.{Node}
 use Rattle.core_machine.specs.declared.place.Place.{Place}
 use Rattle.core_machine.specs.declared.place.Place.TheVariants as places
 use Rattle.core_machine.specs.declared.place.Access.{Access}
-use Rattle.core_machine.specs.declared.place.Access.TheVariants.{LoadingMeta, Walking, Locating, Indexing, Getting, Naming, LoadingOld, ShadingOld, ShadingNew, Swapping}
+use Rattle.core_machine.specs.declared.place.Access.TheVariants.{LoadingMeta, Walking, LoadingSpot, Indexing, Getting, Naming, LoadingOld, ShadingOld, ShadingNew, Swapping}
 use Rattle.core_machine.specs.declared.seat.register.Register.TheVariants.{Object}
 use Rattle.core_machine.specs.seat.Commands.{object_of, field_of}
 use Rattle.heap_words.specs.Loaded.{head_of}
@@ -74,7 +74,7 @@ OldKept made owner fragments seat = IsSome (head_of seat.loaded) → LoadedKept 
 abbrev pub AccessStands : (ℕ → Node) → List Id → (ℕ → Owner) → (ℕ → List ℕ) → Seat → Access → Type 0
 AccessStands nodes made owner fragments seat LoadingMeta = SetsOut made owner fragments seat
 AccessStands nodes made owner fragments seat Walking = Finds nodes made owner fragments seat
-AccessStands nodes made owner fragments seat Locating = Locates nodes made owner fragments seat
+AccessStands nodes made owner fragments seat LoadingSpot = Locates nodes made owner fragments seat
 AccessStands nodes made owner fragments seat Indexing = Locates nodes made owner fragments seat
 AccessStands nodes made owner fragments seat Getting = Finds nodes made owner fragments seat
 AccessStands nodes made owner fragments seat Naming = Unit {0}

@@ -1,6 +1,8 @@
 -- What the seats and the collector may do and show of phases.
 use Rattle.std.specs.Prelude.{◌≡◌, ◌≢◌, ℕ, ◌+◌, ◌%◌, ◌<◌, Bool, true, false, List, ◌++◌}
+use Rattle.heap_model.specs.Behind.{behind_of}
 use Rattle.heap_model.specs.PhasePlan.{cycle_phases, rest}
+use Rattle.heap_model.specs.declared.behind.Behind.{Behind}
 use Rattle.heap_model.specs.declared.heap.Heap.{Heap}
 use Rattle.heap_model.specs.declared.command.Command.{Command}
 use Rattle.heap_model.specs.declared.command.Command.TheVariants as commands
@@ -36,23 +38,30 @@ WasBehind number other answer p history =
     (later rest : List Entry) × (since_reply number history ≡ later ++ rest) × IsBehind other answer p (up_to_reply number history ++ later)
 
 -- in a play the other seat is behind now; in a run it was, by one phase, at some time since this seat's last reply
-abbrev pub SawBehind : Bool → List Entry → ℕ → ℕ → ℕ → ℕ → Type 0
-SawBehind true before number other answer p = IsBehind other answer p before
-SawBehind false before number other answer p = (p ≡ answer + 1) × WasBehind number other answer p before
+abbrev pub SawBehind : Bool → List Entry → ℕ → Behind → Type 0
+SawBehind true before number other = IsBehind other.seat other.answered other.phase before
+SawBehind false before number other = (other.phase ≡ other.answered + 1) × WasBehind number other.seat other.answered other.phase before
+
+-- the collect of a seat shows that it waits for this one: another one of the heap, that it saw behind
+abbrev pub ShowsWait : Heap → Bool → List Entry → ℕ → Behind → Type 0
+ShowsWait heap play before number other = (other.seat < heap.seats) × (other.seat ≢ number) × (other.answered < other.phase) × SawBehind play before number other
 
 -- a poll shows the phase that its seat has answered; a collect a cycle begun and ended since its last reply, or another seat behind
 abbrev pub ShowsPhases : Heap → Bool → List Entry → ℕ → Command → Reply → Type 0
 ShowsPhases heap play before number commands.Poll (replies.Phase p) = (p ≡ phase before) × (p ≡ last_answer number before)
 ShowsPhases heap play before number commands.Collect (replies.Cycle cycle) = HasEnded cycle before × BeganSince number cycle before
-ShowsPhases heap play before number commands.Collect (replies.Waits other answer p) =
-    (other < heap.seats) × (other ≢ number) × (answer < p) × SawBehind play before number other answer p
+ShowsPhases heap play before number commands.Collect (replies.Waits other answer p) = ShowsWait heap play before number (behind_of other answer p)
 ShowsPhases heap play before number _ _ = Unit {0}
+
+-- a command of the collector shows that this seat of the heap is waited for, which is behind
+abbrev pub ShowsTurnWait : Heap → List Entry → Behind → Type 0
+ShowsTurnWait heap before other = (other.seat < heap.seats) × (other.answered < other.phase) × IsBehind other.seat other.answered other.phase before
 
 -- the answer to a command of the collector shows the cycle that has just ended, a seat that is behind, or nothing
 abbrev pub TurnShows : Heap → List Entry → TurnReply → Type 0
 TurnShows heap before turns.Done = Unit {0}
 TurnShows heap before (turns.Cycle cycle) = JustEnded cycle before
-TurnShows heap before (turns.Waits other answer p) = (other < heap.seats) × (answer < p) × IsBehind other answer p before
+TurnShows heap before (turns.Waits other answer p) = ShowsTurnWait heap before (behind_of other answer p)
 
 -- what the entry shows of phases is right
 abbrev pub ShowsRightly : Heap → Bool → List Entry → Entry → Type 0

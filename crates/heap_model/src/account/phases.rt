@@ -1,8 +1,9 @@
-ghost use Rattle.std.specs.Prelude.{◌≡◌, ◌≢◌, ◌<◌, ◌≤◌, ◌+◌, ◌*◌, ◌^◌, ◌↔◌, false, List, IsTrue, is_some};
+ghost use Rattle.std.specs.Prelude.{◌≡◌, ◌≢◌, ◌<◌, ◌≤◌, ◌+◌, ◌*◌, ◌^◌, ◌↔◌, false, List, IsTrue, IfSome, is_some};
 ghost use Rattle.heap_model.specs.declared.entry.Entry.{Entry as Entries};
 ghost use Rattle.heap_model.specs.declared.entry.Entry.TheVariants as entries;
 
 use crate::account::Account;
+use crate::behind::Behind;
 use crate::command::Command;
 use crate::phase_plan::{BARRIERS, CYCLE_PHASES, REST};
 use crate::reply::{Reply, TurnReply};
@@ -10,7 +11,7 @@ use crate::reply::{Reply, TurnReply};
 impl Account {
     ghost use Rattle.heap_model.specs.account.Books.{Tells, IsUpToDate};
     ghost use Rattle.heap_model.specs.account.SeatBooks.{account_at, first_behind, last_phase};
-    ghost use Rattle.heap_model.specs.account.Phases.{AnswersPhase, BeginsPhase, IsBehind, WasBehind, SawBehind, ShowsPhases, TurnShows};
+    ghost use Rattle.heap_model.specs.account.Phases.{AnswersPhase, BeginsPhase, IsBehind, WasBehind, SawBehind, ShowsWait, ShowsTurnWait, ShowsPhases, TurnShows};
     ghost use Rattle.heap_model.specs.account.PhaseCounts.{AllAnswered, HasEnded, BeganSince};
 
     pub(super) fn may_answer(&self, seat: u8, phase: u64) -> bool
@@ -61,37 +62,42 @@ impl Account {
             (Command::Collect, Reply::Cycle(cycle)) => {
                 self.has_ended(cycle) && self.began_since(seat, cycle)
             }
-            (
-                Command::Collect,
-                Reply::Waits {
-                    seat: other,
-                    answered,
-                    phase,
-                },
-            ) => {
-                other < self.heap.seats
-                    && other != seat
-                    && answered < phase
-                    && self.saw_behind(play, seat, other, answered, phase)
-            }
+            (Command::Collect, _) => self.shows_wait(play, seat, reply.behind()),
             _ => true,
         }
+    }
+
+    /// Whether the seat that a collect tells to be waited for, where it tells one, is another one and was seen to be behind.
+    fn shows_wait(&self, play: bool, seat: u8, found: Option<Behind>) -> bool
+        requires { seat < self.now.heap.seats }
+        ensures { (history : List Entries) → Tells self.now history → (IsTrue result ↔ IfSome found (ShowsWait self.now.heap play history seat)) }
+    {
+        let Some(behind) = found else {
+            return true;
+        };
+        behind.seat < self.heap.seats
+            && behind.seat != seat
+            && behind.answered < behind.phase
+            && self.saw_behind(play, seat, &behind)
     }
 
     pub(super) fn turn_shows(&self, reply: TurnReply) -> bool
         ensures { (history : List Entries) → Tells self.now history → (IsTrue result ↔ TurnShows self.now.heap history reply) }
     {
         match reply {
-            TurnReply::Done => true,
             TurnReply::Cycle(cycle) => self.ended == Some(cycle),
-            TurnReply::Waits {
-                seat,
-                answered,
-                phase,
-            } => {
-                seat < self.heap.seats && answered < phase && self.is_behind(seat, answered, phase)
-            }
+            TurnReply::Done | TurnReply::Waits { .. } => self.shows_turn_wait(reply.behind()),
         }
+    }
+
+    /// Whether the seat that the collector tells to be waited for, where it tells one, is behind.
+    fn shows_turn_wait(&self, found: Option<Behind>) -> bool
+        ensures { (history : List Entries) → Tells self.now history → (IsTrue result ↔ IfSome found (ShowsTurnWait self.now.heap history)) }
+    {
+        let Some(behind) = found else {
+            return true;
+        };
+        behind.seat < self.heap.seats && behind.answered < behind.phase && self.is_behind(&behind)
     }
 
     fn has_ended(&self, cycle: u64) -> bool
@@ -109,25 +115,27 @@ impl Account {
         (then.all_then.phases as u128) < begin && begin <= self.all.phases as u128
     }
 
-    fn is_behind(&self, seat: u8, answered: u64, phase: u64) -> bool
-        requires { seat < self.now.heap.seats }
-        ensures { (history : List Entries) → Tells self.now history → (IsTrue result ↔ IsBehind seat answered phase history) }
+    fn is_behind(&self, behind: &Behind) -> bool
+        requires { behind.now.seat < self.now.heap.seats }
+        ensures { (history : List Entries) → Tells self.now history → (IsTrue result ↔ IsBehind behind.now.seat behind.now.answered behind.now.phase history) }
     {
-        let own = self.seat(seat);
-        own.left.is_none() && own.own.answers == answered && self.all.phases == phase
+        let own = self.seat(behind.seat);
+        own.left.is_none()
+            && own.own.answers == behind.answered
+            && self.all.phases == behind.phase
     }
 
-    fn saw_behind(&self, play: bool, seat: u8, other: u8, answered: u64, phase: u64) -> bool
+    fn saw_behind(&self, play: bool, seat: u8, other: &Behind) -> bool
         requires seat { seat < self.now.heap.seats }
-        requires other { other < self.now.heap.seats }
-        requires not_own { other ≢ seat }
-        requires behind { answered < phase }
-        ensures { (history : List Entries) → Tells self.now history → (IsTrue result ↔ SawBehind play history seat other answered phase) }
+        requires other { other.now.seat < self.now.heap.seats }
+        requires not_own { other.now.seat ≢ seat }
+        requires behind { other.now.answered < other.now.phase }
+        ensures { (history : List Entries) → Tells self.now history → (IsTrue result ↔ SawBehind play history seat other.now) }
     {
         if play {
-            self.is_behind(other, answered, phase)
+            self.is_behind(other)
         } else {
-            phase - 1 == answered && self.was_behind(seat, other, answered)
+            other.phase - 1 == other.answered && self.was_behind(seat, other.seat, other.answered)
         }
     }
 

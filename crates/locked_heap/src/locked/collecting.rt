@@ -134,14 +134,7 @@ impl<N: Handed> Locked<N> {
         if !self.was_patient(seat) {
             return Ok(());
         }
-        self.note(
-            seat,
-            CollectReply::Waits {
-                seat: found.seat,
-                answered: found.answered,
-                phase: found.phase,
-            },
-        )
+        self.note(seat, CollectReply::from(found))
     }
 
     /// Answers the seat's collect, once what it has found answers it: first that its cycle has ended, and only else that it waits.

@@ -6,13 +6,13 @@ ghost use Rattle.core_machine.specs.declared.step.Step.TheVariants.{PollLoad};
 ghost use Rattle.core_machine.specs.machine.Machine.{MayBeginInner};
 ghost use Rattle.core_machine.specs.seat.Looks.{MayMake, MayNote, noted_reply, counted_once_more, looked, seen_phase};
 ghost use Rattle.heap_table.specs.Made.{FoundIn};
-ghost use Rattle.mutator_seat.specs.InnerCalls.{MayCollect, MakesInner, ByInner, ShowsBehind, newly_answered, shown_of, behind_of};
+ghost use Rattle.mutator_seat.specs.InnerCalls.{MayCollect, MakesInner, ByInner, ShowsBehind, newly_answered, shown_of, behind_shown};
 ghost use Rattle.mutator_seat.specs.Resting.{seat_state};
 
 use crate::run::run;
 use crate::seat::Seat;
-use core_machine::{FoundBehind, ShowsLast};
-use heap_model::{CollectReply, Inner};
+use core_machine::ShowsLast;
+use heap_model::{Behind, CollectReply, Inner};
 
 impl<L: ShowsLast> Seat<L> {
     /// Whether the seat may make the inner call now: it hasn't left, asks another seat of the heap, and notes only what it has found.
@@ -67,7 +67,7 @@ impl<L: ShowsLast> Seat<L> {
         requires other { (other < self.old.heap.seats) × (other ≢ self.old.number) }
         ensures made { MakesInner self.old self.new (Behind other) }
         ensures shown { ByInner self.old self.new (Behind other) (λ made. ShowsBehind made other result) }
-        ensures found { self.new.seat.looks.behind ≡ behind_of other result }
+        ensures found { self.new.seat.looks.behind ≡ behind_shown other result }
         ensures first { self.new.seat.looks.first ≡ self.old.seat.looks.first }
         ensures untold { self.new.seat.mine ≡ self.old.seat.mine }
         ensures waits { self.new.seat.looks.waits ≡ (if is_some result then counted_once_more self.old.seat.looks.waits else self.old.seat.looks.waits) }
@@ -89,7 +89,7 @@ impl<L: ShowsLast> Seat<L> {
 }
 
 /// What is shown of who was found behind.
-fn shown(found: Option<FoundBehind>) -> Option<(u64, u64)>
+fn shown(found: Option<Behind>) -> Option<(u64, u64)>
     ensures { result ≡ shown_of found }
 {
     let found = found?;

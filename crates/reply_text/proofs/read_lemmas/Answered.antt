@@ -1,5 +1,6 @@
 -- Each reply that was spelled is read again, as one that its command can give.
 use Rattle.std.proofs.Common.{◌≡◌, ℕ, ◌^◌, inr, List, [], ◌∷◌, true, Some, bytes_eq, codes, decimal, refl, arith}
+use Rattle.heap_model.specs.Behind.{behind_of}
 use Rattle.heap_model.specs.declared.command.Command.{Command}
 use Rattle.heap_model.specs.declared.command.Command.TheVariants.{New, Array, Get, Set, Num, Nil, Copy, Same, Len, Poll, Collect, Leave}
 use Rattle.heap_model.specs.declared.command.TurnCommand.TheVariants as commands
@@ -27,7 +28,7 @@ lack-again shown need number is h =
 
 -- a seat that is waited for
 wait-again : (seat answered phase : ℕ) → IsWait seat answered phase →
-    wait_at (decimal seat ∷ codes "answered" ∷ decimal answered ∷ codes "phase" ∷ decimal phase ∷ []) ≡ Some ((seat, answered, phase), [])
+    wait_at (decimal seat ∷ codes "answered" ∷ decimal answered ∷ codes "phase" ∷ decimal phase ∷ []) ≡ Some (behind_of seat answered phase, [])
 wait-again seat answered phase h =
     rw (
       number_at-decimal 16 seat (codes "answered" ∷ decimal answered ∷ codes "phase" ∷ decimal phase ∷ []) (omega arith) (omega (arith, h.0)),

@@ -1,5 +1,6 @@
 -- The reply that stands first in the words of a line, by its first word and the words after that.
 use Rattle.std.specs.Prelude.{ℕ, ◌^◌, List, [], ◌∷◌, Option, Some, None, bytes_eq, codes, if◌then◌else◌}
+use Rattle.heap_model.specs.Behind.{as_reply}
 use Rattle.heap_model.specs.declared.command.Command.{Command}
 use Rattle.heap_model.specs.declared.command.Command.TheVariants.{New, Array, Get, Set, Num, Nil, Copy, Same, Len, Poll, Collect, Leave}
 use Rattle.heap_model.specs.declared.reply.Reply.{Reply}
@@ -87,8 +88,8 @@ collecting_at word rest =
       j ← number_at (2 ^ 64) rest
       Some (replies.Cycle j.0, j.1))
     else if bytes_eq word (codes "waits") then (do
-      wait ← wait_at rest
-      Some (replies.Waits wait.0.0 wait.0.1 wait.0.2, wait.1))
+      behind ← wait_at rest
+      Some (as_reply behind.0, behind.1))
     else None
 
 -- how the replies to the command are read

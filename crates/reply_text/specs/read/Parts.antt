@@ -1,5 +1,7 @@
 -- Values, and what a reply tells of space and seats, as the first words of a line.
 use Rattle.std.specs.Prelude.{ℕ, ◌^◌, List, Option, Some, None, bytes_eq, codes, if◌then◌else◌}
+use Rattle.heap_model.specs.Behind.{behind_of}
+use Rattle.heap_model.specs.declared.behind.Behind.{Behind}
 use Rattle.heap_model.specs.Limits.{most_seats}
 use Rattle.heap_model.specs.declared.id.Value.{Value}
 use Rattle.heap_model.specs.declared.id.Value.TheVariants as values
@@ -27,11 +29,11 @@ lack_at shown words = do
   Some ((need.0, number.0), number.1)
 
 -- the seat that is waited for, what it answered and the phase, after `waits`
-abbrev pub wait_at : List (List ℕ) → Option ((ℕ × ℕ × ℕ) × List (List ℕ))
+abbrev pub wait_at : List (List ℕ) → Option (Behind × List (List ℕ))
 wait_at words = do
   seat ← number_at most_seats words
   told ← after_word (codes "answered") seat.1
   answered ← number_at (2 ^ 64) told
   now ← after_word (codes "phase") answered.1
   phase ← number_at (2 ^ 64) now
-  Some ((seat.0, answered.0, phase.0), phase.1)
+  Some (behind_of seat.0 answered.0 phase.0, phase.1)

@@ -1,5 +1,6 @@
 -- The reply of the collector that stands first in the words of a line.
 use Rattle.std.specs.Prelude.{ℕ, ◌^◌, List, Option, Some, None, bytes_eq, codes, if◌then◌else◌}
+use Rattle.heap_model.specs.Behind.{as_turn_reply}
 use Rattle.heap_model.specs.declared.reply.TurnReply.{TurnReply}
 use Rattle.heap_model.specs.declared.reply.TurnReply.TheVariants as turns
 use Rattle.reply_text.specs.read.Tokens.{◌>>=◌, by_first, number_at}
@@ -8,8 +9,8 @@ use Rattle.reply_text.specs.read.Parts.{wait_at}
 -- a seat is waited for, after `waits`
 abbrev pub waiting_at : List (List ℕ) → Option (TurnReply × List (List ℕ))
 waiting_at rest = do
-  wait ← wait_at rest
-  Some (turns.Waits wait.0.0 wait.0.1 wait.0.2, wait.1)
+  behind ← wait_at rest
+  Some (as_turn_reply behind.0, behind.1)
 
 -- a reply of the collector to `turns`, by its first word
 abbrev pub turning_to : List ℕ → List (List ℕ) → Option (TurnReply × List (List ℕ))

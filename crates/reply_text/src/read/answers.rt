@@ -1,16 +1,17 @@
 ghost use Rattle.std.specs.Prelude.{◌≡◌, ◌∷◌, ◌++◌, codes, decimal, IfOk};
+ghost use Rattle.heap_model.specs.Behind.{as_reply};
 ghost use Rattle.heap_model.specs.declared.reply.Reply.TheVariants as replies;
 ghost use Rattle.reply_text.specs.read.Tokens.{ReadsAs};
 ghost use Rattle.reply_text.specs.read.Parts.{value_at, lack_at, wait_at};
 ghost use Rattle.reply_text.specs.read.Answers.{making_at, arraying_at, nowhere_at, getting_at, setting_at, done_at, comparing_at, measuring_at, polling_at, collecting_at, answer_at};
-ghost use Rattle.reply_text.specs.write.Entries.{reply_words, value_words, waits_words};
-ghost use Rattle.reply_text.specs.Values.{IsValue, IsWait};
+ghost use Rattle.reply_text.specs.write.Entries.{reply_words, value_words};
+ghost use Rattle.reply_text.specs.Values.{IsValue};
 ghost use Rattle.reply_text.specs.Replies.{IsMaking, IsArraying, TellsNoPlace, IsGetting, IsSetting, IsComparing, IsMeasuring, IsPolling, IsCollecting, IsReply};
 
 use crate::read::misspelled::Misspelled;
 use crate::read::tokens::{count, id, literal, next_word, number, number_of_word, read_id, stamp};
 use heap_model::limits::{LAST_SEAT, NUMBER_LIMIT};
-use heap_model::{Command, Reply, Value};
+use heap_model::{Behind, Command, Reply, Value};
 use script_text::Parts;
 
 fn value(word: &[u8], words: &mut Parts<'_>) -> Result<Value, Misspelled>
@@ -44,10 +45,10 @@ fn lack(words: &mut Parts<'_>, shown: &[u8]) -> Result<(u32, u32), Misspelled>
 }
 
 /// The seat that is waited for, what it answered, and the phase.
-pub fn wait(words: &mut Parts<'_>) -> Result<(u8, u64, u64), Misspelled>
+pub fn wait(words: &mut Parts<'_>) -> Result<Behind, Misspelled>
     ensures found { IfOk result
-        (λ wait. codes "waits" ∷ words.old ≡ waits_words wait.0 wait.1 wait.2 ++ words.new) }
-    ensures range { IfOk result (λ wait. IsWait wait.0 wait.1 wait.2) }
+        (λ behind. codes "waits" ∷ words.old ≡ reply_words (as_reply behind) ++ words.new) }
+    ensures range { IfOk result (λ behind. IsCollecting (as_reply behind)) }
     ensures gives { ReadsAs result (wait_at words.old) words.new }
 {
     let seat = number(words, LAST_SEAT.into())? as u8;
@@ -55,7 +56,11 @@ pub fn wait(words: &mut Parts<'_>) -> Result<(u8, u64, u64), Misspelled>
     let answered = number(words, u64::MAX)?;
     literal(words, b"phase")?;
     let phase = number(words, u64::MAX)?;
-    Ok((seat, answered, phase))
+    Ok(Behind {
+        seat,
+        answered,
+        phase,
+    })
 }
 
 /// A reply to `new`.
@@ -183,14 +188,7 @@ fn collecting(word: &[u8], words: &mut Parts<'_>) -> Result<Reply, Misspelled>
 {
     match word {
         b"cycle" => Ok(Reply::Cycle(number(words, u64::MAX)?)),
-        b"waits" => {
-            let (seat, answered, phase) = wait(words)?;
-            Ok(Reply::Waits {
-                seat,
-                answered,
-                phase,
-            })
-        }
+        b"waits" => Ok(Reply::from(wait(words)?)),
         _ => Err(Misspelled),
     }
 }

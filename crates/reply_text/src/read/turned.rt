@@ -23,12 +23,7 @@ fn waiting(words: &mut Parts<'_>) -> Result<TurnReply, Misspelled>
     ensures cycle { IfOk result (IsTurnReply commands.Cycle) }
     ensures gives { ReadsAs result (waiting_at words.old) words.new }
 {
-    let (seat, answered, phase) = wait(words)?;
-    Ok(TurnReply::Waits {
-        seat,
-        answered,
-        phase,
-    })
+    Ok(TurnReply::from(wait(words)?))
 }
 
 /// A reply of the collector to `turns`.

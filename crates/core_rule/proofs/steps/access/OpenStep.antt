@@ -9,7 +9,7 @@ use Rattle.heap_model.specs.declared.command.Command.TheVariants as commands
 use Rattle.heap_model.specs.declared.reply.Reply.TheVariants as replies
 use Rattle.core_machine.specs.seat.Looks.{forgotten}
 use Rattle.core_machine.specs.declared.place.Place.TheVariants as places
-use Rattle.core_machine.specs.declared.place.Access.TheVariants.{Locating}
+use Rattle.core_machine.specs.declared.place.Access.TheVariants.{LoadingSpot}
 use Rattle.core_machine.specs.seat.FitsAccess.{NamesObject, NamesField, SeatIsAtHead}
 use Rattle.core_machine.specs.seat.AccessMoves.{open_move, reply_entries, reply_entries_if}
 use Rattle.core_rule.proofs.entries.AtRest.{seat_fits, spent_own, few_own}
@@ -94,7 +94,7 @@ module _ (heap : Heap) (state : State) (book : Book) (number : ℕ) (rule : Rule
       → Keeps heap state (loaded_state heap state number (Word seat.reached 0) (with_entries (after_length seat found length) [])) book book.begun [] in
       by_kind heap state.words g book.made book.owner book.fragments rule.machine.limits stands.control_words stands.ids stands.objects index way.below way.kept (goes (array_length_of found))
       (λ kind. let is : array_length_of found ≡ Some (length object.cells) = cells ∙ ap (λ b. if b then Some (length object.cells) else None) kind in subst goes (sym is)
-      (way_goes heap state book number rule here LoadingMeta place (λ answered. answered) (λ d r awaited. awaited) (Word seat.reached 0) seat.reached 0 (field_of seat.command % 4) seat.address Locating refl
+      (way_goes heap state book number rule here LoadingMeta place (λ answered. answered) (λ d r awaited. awaited) (Word seat.reached 0) seat.reached 0 (field_of seat.command % 4) seat.address LoadingSpot refl
       record {
         index = index;
         way = record { below = way.below; kept = way.kept; holds = way.holds; here = way.here };

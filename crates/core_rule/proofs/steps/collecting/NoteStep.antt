@@ -1,5 +1,6 @@
 -- The reply of a collect keeps the rule: what it tells was found since the seat's last reply.
 use Rattle.std.proofs.Common.{◌≡◌, ℕ, ◌+◌, ◌*◌, ◌<◌, ◌≤◌, Option, Some, None, IfSome, false, refl, sym, ◌∙◌, subst, arith}
+use Rattle.heap_model.specs.Behind.{behind_of}
 use Rattle.heap_model.specs.declared.calls.collect.CollectReply.{CollectReply}
 use Rattle.heap_model.specs.declared.calls.collect.CollectReply.TheVariants.{Cycle, Waits}
 use Rattle.heap_model.specs.declared.command.Command.TheVariants as commands
@@ -67,8 +68,8 @@ module _ (heap : Heap) (state : State) (book : Book) (number : ℕ) (rule : Rule
       }
   local (Waits other answered p) may =
       let was = looks.found (λ named. cc (place, named)) in
-      let found : WasFound heap book.history number (record { seat = other; answered = answered; phase = p })
-      = of_some (WasFound heap book.history number) seat.looks.behind (record { seat = other; answered = answered; phase = p }) may was.behind in
+      let found : WasFound heap book.history number (behind_of other answered p)
+      = of_some (WasFound heap book.history number) seat.looks.behind (behind_of other answered p) may was.behind in
       record {
         plain = record { none = refl; space = tt; spine = tt; phases = (found.below, found.other, omega (arith, found.next), (found.next, found.behind)); most = refl };
         says = tt;

@@ -83,10 +83,10 @@ module _ (heap : Heap) (state : State) (book : Book) (rule : Rule heap state boo
       tt tt tt
 
   -- of a fragment whose first word is an array's meta the place of its spine is loaded next
-  located : (cells : ℕ) → array_length_of (at heap state.words (Word f 0)) ≡ Some cells → MarksNow (stages.Locating (scan_step scan) (array_words cells))
+  located : (cells : ℕ) → array_length_of (at heap state.words (Word f 0)) ≡ Some cells → MarksNow (stages.Addressing (scan_step scan) (array_words cells))
   located cells told =
       let first = array_first heap state book rule f part_of cells told in
-      marks_after (stages.Locating (scan_step scan) (array_words cells)) tt
+      marks_after (stages.Addressing (scan_step scan) (array_words cells)) tt
       (sentinel_seen heap state book rule f part_of seen.grey first.0 first.1, ap (λ length. option_map_or array_words length 0) (sym told))
       (omega (arith, array_few heap state book rule f part_of first.1, first.2)) tt tt
 

@@ -1,7 +1,7 @@
 -- A give back keeps the rule.
 use Rattle.std.proofs.Common.{◌≡◌, ℕ, ◌+◌, ◌<◌, List, [], ◌∷◌, length, refl, arith}
 use Rattle.std.proofs.lemmas.Bool.{eq-eqb}
-use Rattle.core_rule.proofs.Terms.{Entry, graph_of, Graph, Control, Returning, target_of, SeatIsRefusing, part_in, part_out, at, seat_at, first_group_of, refusal_place}
+use Rattle.core_rule.proofs.Terms.{Entry, graph_of, Graph, Control, GivingBack, target_of, SeatIsRefusing, part_in, part_out, at, seat_at, first_group_of, refusal_place}
 use Rattle.core_rule.proofs.Terms.{after_give_back, give_back_move, Seat, spine_need, Book, fragments_in_hand}
 use Rattle.heap_model.specs.declared.entry.Entry.TheVariants as entries
 use Rattle.core_machine.specs.declared.place.Place.TheVariants as places
@@ -34,7 +34,7 @@ left_of_hand : (reserve hand body : List ℕ) (g : ℕ) → body ≡ [] → leng
 left_of_hand reserve hand body g none = rw (whole_empty (part_out g hand) body none, whole_empty hand body none) (omega (arith, parts_length g hand))
 
 -- a give back keeps the rule
-pub give_back_keeps : StepKeeps (places.Making Returning) (λ heap. give_back_move)
+pub give_back_keeps : StepKeeps (places.Making GivingBack) (λ heap. give_back_move)
 give_back_keeps heap state book number rule here place machine =
     let seat : Seat = seat_at state number in
     let stands = rule.seats_stand number here in
@@ -49,8 +49,8 @@ give_back_keeps heap state book number rule here place machine =
     let some = first_some seat.hand at_place.1 in
     let held = part_held book.owner number seat.reserve seat.hand seat.body stands.own.holding g in
     let once = part_once book.owner number seat.reserve seat.hand seat.body stands.own.holding g in
-    let present = present_at heap state book number Returning rule here place in
-    let list = making_list before book.history book.made book.owner book.fragments number seat Returning place stands.told.list in
+    let present = present_at heap state book number GivingBack rule here place in
+    let list = making_list before book.history book.made book.owner book.fragments number seat GivingBack place stands.told.list in
     let graph = graph_given heap state book number rule here g part below held once in
     let kept = kept_given heap state book number rule here g part below held once in
     let unplaced = unplaced_refusing now (part_out g seat.hand) refl in
@@ -70,7 +70,7 @@ give_back_keeps heap state book number rule here place machine =
       };
       names = record {
         registers = rw graph (λ r fresh. registers_owners book.owner later.owner kept book.made book.fragments before number seat.registers seat.place (target_of seat.command) stands.names.registers r
-            (awaits_none Returning seat.place (target_of seat.command) r place));
+            (awaits_none GivingBack seat.place (target_of seat.command) r place));
         way = tt;
         address = tt;
       };
@@ -78,7 +78,7 @@ give_back_keeps heap state book number rule here place machine =
         list = whole_list (graph_of heap later.history) later.history book.made later.owner book.fragments number now refl (own_grows number book.history seat.mine entry (eq-eqb number number refl) list);
         counts = rw graph (counts_own before before book.history number seat now stands.told.counts entry (eq-eqb number number refl)
             stands.told.counts.numbered stands.told.counts.stamped stands.told.counts.leaves (omega (arith, left_of_hand seat.reserve seat.hand seat.body g refuses.no_body)));
-        began = began_past book.history entry number (book.begun number) seat.place (places.Making (refusal_place (part_out g seat.hand))) refl (λ still. is_busy Returning seat.place place) stands.told.began;
+        began = began_past book.history entry number (book.begun number) seat.place (places.Making (refusal_place (part_out g seat.hand))) refl (λ still. is_busy GivingBack seat.place place) stands.told.began;
         used = unplaced.none_used heap later.history number;
         gathers = own_gives heap book.owner book.history number part once (held_within heap state.words book.owner rule.heap_stands.control_words number part held) rule.heap_stands.used
             (book.begun number) stands.told.began.earlier seat.cursor seat.tried seat.given held
@@ -94,11 +94,11 @@ give_back_keeps heap state book number rule here place machine =
     (owners_go heap state book later.history book.begun later.owner (give_goes (length book.made) book.owner part number held))
 
 -- all that is asked of it
-pub give_back_kind : StepKind (places.Making Returning)
+pub give_back_kind : StepKind (places.Making GivingBack)
 give_back_kind = record {
   keeps = λ heap state book number rule here looks. give_back_keeps heap state book number rule here;
   shows = λ heap state number. shows_one _ (gives _);
-  looks = on_its_way (places.Making Returning) (λ heap. give_back_move) (λ heap number seat. refl) record {
+  looks = on_its_way (places.Making GivingBack) (λ heap. give_back_move) (λ heap number seat. refl) record {
     unnamed = λ e. cc e;
     blind = λ heap number seat. tt;
     mute = λ heap number seat words found r. refl;
@@ -106,7 +106,7 @@ give_back_kind = record {
     comes = λ heap number seat found.
         from_usual _ (after_give_back seat).place (returning_cases (λ place. IsUsual (places.Making place)) (after_give_back seat).hand (λ none. tt) (λ some. tt));
   };
-  words = plain_words (places.Making Returning) (λ heap. give_back_move) (λ heap number seat. refl) (λ heap number seat is. is) (λ heap number seat low. low)
+  words = plain_words (places.Making GivingBack) (λ heap. give_back_move) (λ heap number seat. refl) (λ heap number seat is. is) (λ heap number seat low. low)
       (λ heap state book rule number here. spares _ refl (λ word i above below. born_bits word _ (λ j small. untaken_born word j small _ (mask-lt _)) i above below));
   found = λ heap state book number stands here placed. tt;
 }

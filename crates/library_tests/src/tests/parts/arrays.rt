@@ -83,7 +83,7 @@ fn reach_cell(holder: &mut Holder, cell: u16) -> Result<Option<Place>, Memory> {
     holder.step(&open);
     holder.room(3)?;
     let party = holder.party();
-    let core_machine::Place::Access(Access::Locating) = party.place() else {
+    let core_machine::Place::Access(Access::LoadingSpot) = party.place() else {
         return Ok(None);
     };
     let Command::Get { i, .. } = party.command() else {

@@ -1,6 +1,6 @@
 -- The load of the place of an array's spine keeps the rule.
 use Rattle.std.proofs.Common.{◌≡◌, ℕ, ◌≤◌, refl, subst, arith}
-use Rattle.core_rule.proofs.Terms.{spot_in, Heap, IsLocating, Word, State, spine_words_in, at, Book, IsSeen, IsFewWords, MarkingStands, Rule, HasMarked}
+use Rattle.core_rule.proofs.Terms.{spot_in, Heap, IsAddressing, Word, State, spine_words_in, at, Book, IsSeen, IsFewWords, MarkingStands, Rule, HasMarked}
 use Rattle.core_machine.specs.collector.Marking.{scan_step, after_address}
 use Rattle.core_machine.specs.declared.collector.stage.Scan.{Scan}
 use Rattle.core_machine.specs.declared.collector.stage.SpineScan.{SpineScan}
@@ -11,9 +11,9 @@ use Rattle.core_rule.proofs.steps.collector.ColourTurn.{marking_loads}
 use Rattle.core_rule.proofs.steps.TurnSteps.{StageKeeps}
 use Rattle.core_rule.proofs.turns.FewWords.{few_spine}
 use Rattle.core_rule.proofs.steps.TurnKinds.{TurnKind, load_kind, spine_at_inside}
-use Rattle.core_rule.proofs.turns.SpineTurns.{locate_leaves}
+use Rattle.core_rule.proofs.turns.SpineTurns.{address_leaves}
 
-module _ (heap : Heap) (state : State) (book : Book) (rule : Rule heap state book) (scan : Scan) (count : ℕ) (locating : state.collector.stage ≡ stages.Locating scan count) where
+module _ (heap : Heap) (state : State) (book : Book) (rule : Rule heap state book) (scan : Scan) (count : ℕ) (addressing : state.collector.stage ≡ stages.Addressing scan count) where
   abbrev found : ℕ
   found = at heap state.words (Word scan.fragment 2)
 
@@ -21,31 +21,31 @@ module _ (heap : Heap) (state : State) (book : Book) (rule : Rule heap state boo
   abbrev begun : SpineScan
   begun = record { scan = scan_step scan; spine = spot_in found; words = count; index = 0 }
 
-  fits : IsLocating heap state.collector.phase state.collector.looked scan count
-  fits = rw locating at rule.machine.collector_fit.at_stage
+  fits : IsAddressing heap state.collector.phase state.collector.looked scan count
+  fits = rw addressing at rule.machine.collector_fit.at_stage
 
   seen : IsSeen heap state.words book.colour scan.fragment 4 × (count ≡ spine_words_in (at heap state.words (Word scan.fragment 0)))
-  seen = rw locating at rule.marks_stand.heap_marks.scan
+  seen = rw addressing at rule.marks_stand.heap_marks.scan
 
   few : count ≤ 1024
-  few = subst IsFewWords locating rule.marks_stand.heap_marks.few
+  few = subst IsFewWords addressing rule.marks_stand.heap_marks.few
 
   marks : MarkingStands heap state.words book.owner book.colour book.fragments state.collector.phase (after_address scan count found)
   marks = marks_at heap state.words book.owner book.colour book.fragments state.collector.phase (after_address scan count found) fits.marks.for_marking (spine_on_marks begun)
       rule.marks_stand.heap_marks.grey
       (spine_stands heap state.words book.owner book.colour book.fragments begun record { as_many = seen.1; there = refl } seen.0)
       (few_spine begun few (omega arith) (omega (arith, fits.first_step))) (spine_passes book.colour begun) (spine_sweeps heap book.owner book.colour state.collector.phase begun)
-      (none_dead heap state book rule fits.marks.for_marking (subst HasMarked locating))
+      (none_dead heap state book rule fits.marks.for_marking (subst HasMarked addressing))
 
-pub locate_keeps : (scan : Scan) (count : ℕ) → StageKeeps (stages.Locating scan count)
-locate_keeps scan count heap state book rule locating machine =
-    marking_loads heap state book rule (stages.Locating scan count) _ locating (Word scan.fragment 2) machine (marks heap state book rule scan count locating) tt (spine_on_marks (begun heap state book rule scan count locating))
+pub address_keeps : (scan : Scan) (count : ℕ) → StageKeeps (stages.Addressing scan count)
+address_keeps scan count heap state book rule addressing machine =
+    marking_loads heap state book rule (stages.Addressing scan count) _ addressing (Word scan.fragment 2) machine (marks heap state book rule scan count addressing) tt (spine_on_marks (begun heap state book rule scan count addressing))
 
 -- all that is asked of it
-pub locate_kind : (scan : Scan) (count : ℕ) → TurnKind (stages.Locating scan count)
-locate_kind scan count = load_kind (stages.Locating scan count) (λ heap collector. record { adds_none = refl; steps = λ word. refl; loaded = λ word. refl; beside = tt }) record {
-  keeps = locate_keeps scan count;
-  fewer = λ few. locate_leaves scan count;
+pub address_kind : (scan : Scan) (count : ℕ) → TurnKind (stages.Addressing scan count)
+address_kind scan count = load_kind (stages.Addressing scan count) (λ heap collector. record { adds_none = refl; steps = λ word. refl; loaded = λ word. refl; beside = tt }) record {
+  keeps = address_keeps scan count;
+  fewer = λ few. address_leaves scan count;
   inside = λ heap state book rule cycle is. spine_at_inside heap state book rule cycle _;
   all = λ heap phase looked fits. fits.marks.all;
 }

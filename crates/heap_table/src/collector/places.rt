@@ -1,0 +1,83 @@
+ghost use Rattle.std.specs.Prelude.{◌≡◌, ◌<◌, ◌↔◌, true, replicate, None, is_some, IsTrue, IfOk};
+ghost use Rattle.std.specs.List.{list_all};
+ghost use Rattle.heap_table.specs.Folded.{AllFolded};
+ghost use Rattle.heap_table.specs.Handing.{with_handed, with_folded};
+ghost use Rattle.heap_table.specs.Opened.{EachOpens, IsOpened};
+
+use crate::collector::CollectorHolder;
+use crate::holder::Holder;
+use crate::plays::FoldsIn;
+use crate::touch::hand_out;
+use core_machine::{CountsEntries, Entries, SeatParty};
+use heap_model::Memory;
+use std::alloc::Global;
+use std::marker::Brand;
+
+/// A place for each seat, with none in it yet.
+pub fn empty_places<L: Entries>(alloc: Global, seats: u8) -> Result<Vec<Option<SeatParty<L>>>, Memory>
+    ensures { IfOk result (λ places. places.items ≡ replicate seats None) }
+{
+    let mut places = Vec::new(alloc);
+    for _ in 0..seats {
+        places.push(None)?;
+    }
+    Ok(places)
+}
+
+/// Whether there is a seat in each of these places.
+fn all_full<L: Entries>(places: &[Option<SeatParty<L>>]) -> bool
+    ensures { result ≡ list_all is_some places.now }
+{
+    places.iter().all(|place| place.is_some())
+}
+
+impl<L: Entries, C: CountsEntries> CollectorHolder<L, C> {
+    /// Hands out the next seat.
+    pub(crate) fn next_seat(&mut self, alloc: Global, number: u8) -> Result<Holder<L>, Memory>
+        requires opens { EachOpens self.old.heap }
+        requires next { (number ≡ self.old.known.handed) × (number < self.old.heap.seats) }
+        ensures handed { IfOk result (λ holder. self.new ≡ record self.old { known = with_handed self.old.known }) }
+        ensures seat { IfOk result (IsOpened self.old.table self.old.heap) }
+        ensures number { IfOk result (λ holder. holder.number ≡ number) }
+    {
+        let table = self.table.clone()?;
+        let token = hand_out::<Brand>(&self.table.shared, &mut self.token, &self.heap);
+        let party = SeatParty::opening(alloc, &self.heap, number);
+        Ok(Holder {
+            table,
+            token,
+            heap: self.heap,
+            number,
+            party,
+        })
+    }
+
+    /// The phase in which the last seat was folded in; 0 where none was.
+    pub fn folded(&self) -> u64
+        ensures { result ≡ self.now.known.folded }
+    {
+        self.folded
+    }
+
+    /// Whether every seat was folded in.
+    pub fn all_folded(&self) -> bool
+        ensures { IsTrue result ↔ AllFolded self.now.heap self.now.known.seats }
+    {
+        all_full(self.places.as_slice())
+    }
+
+    /// Takes in a seat that has left: its data with its log move into its place.
+    pub fn fold_in(&mut self, from: Holder<L>)
+        requires table { (from.table ≡ self.old.table) × (from.heap ≡ self.old.heap) }
+        requires left { from.seat.left ≡ true }
+        ensures { self.new ≡ record self.old { known = with_folded self.old.known from.number from.seat } }
+    {
+        let place = from.number() as usize;
+        let (token, party) = from.into_parts();
+        self.table
+            .shared
+            .join_seat::<FoldsIn>(&mut self.token, token);
+        self.folded = self.party.phase();
+        self.places[place] = Some(party);
+    }
+}
