@@ -50,12 +50,7 @@ fn find_out(seat: &mut Seat, turn: Turn) -> Result<Option<Behind>, Memory>
 }
 
 /// The reply to the collect, once there is one: first that the target has ended, and only else, once others were found behind so often, that it waits for this one.
-fn reply_to(
-    seat: &Seat,
-    target: u64,
-    enough: u64,
-    found: Option<Behind>,
-) -> Option<CollectReply>
+fn reply_to(seat: &Seat, target: u64, enough: u64, found: Option<Behind>) -> Option<CollectReply>
     requires { IfSome found (λ behind. seat.now.seat.looks.behind ≡ Some behind) }
     ensures { IfSome result (MayAnswer target enough seat.now.seat.looks) }
 {

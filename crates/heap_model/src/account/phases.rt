@@ -120,9 +120,7 @@ impl Account {
         ensures { (history : List Entries) → Tells self.now history → (IsTrue result ↔ IsBehind behind.now.seat behind.now.answered behind.now.phase history) }
     {
         let own = self.seat(behind.seat);
-        own.left.is_none()
-            && own.own.answers == behind.answered
-            && self.all.phases == behind.phase
+        own.left.is_none() && own.own.answers == behind.answered && self.all.phases == behind.phase
     }
 
     fn saw_behind(&self, play: bool, seat: u8, other: &Behind) -> bool

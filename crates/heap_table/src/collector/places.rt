@@ -14,7 +14,10 @@ use std::alloc::Global;
 use std::marker::Brand;
 
 /// A place for each seat, with none in it yet.
-pub fn empty_places<L: Entries>(alloc: Global, seats: u8) -> Result<Vec<Option<SeatParty<L>>>, Memory>
+pub fn empty_places<L: Entries>(
+    alloc: Global,
+    seats: u8,
+) -> Result<Vec<Option<SeatParty<L>>>, Memory>
     ensures { IfOk result (λ places. places.items ≡ replicate seats None) }
 {
     let mut places = Vec::new(alloc);

@@ -1,5 +1,5 @@
 ghost use Rattle.std.specs.Prelude.{◌≡◌, ◌≢◌, ◌<◌, ◌++◌, ◌∷◌, ◌↔◌, [], is_some, IsTrue, if◌then◌else◌};
-ghost use Rattle.heap_model.specs.declared.calls.collect.Inner.TheVariants.{Look, Answer, Behind, Note};
+ghost use Rattle.heap_model.specs.declared.calls.collect.Inner.TheVariants as inners;
 ghost use Rattle.heap_model.specs.declared.command.Command.TheVariants.{Collect};
 ghost use Rattle.heap_model.specs.declared.entry.Entry.TheVariants.{Said};
 ghost use Rattle.core_machine.specs.declared.step.Step.TheVariants.{PollLoad};
@@ -37,8 +37,8 @@ impl<L: ShowsLast> Seat<L> {
     /// Looks at the phase, and answers it.
     pub fn look(&mut self) -> u64
         requires { MayCollect (seat_state self.old) }
-        ensures made { MakesInner self.old self.new Look }
-        ensures loaded { ByInner self.old self.new Look (λ made. FoundIn made PollLoad result) }
+        ensures made { MakesInner self.old self.new inners.Look }
+        ensures loaded { ByInner self.old self.new inners.Look (λ made. FoundIn made PollLoad result) }
         ensures looks { self.new.seat.looks ≡ looked result self.old.seat.looks }
         ensures untold { self.new.seat.mine ≡ self.old.seat.mine }
         ensures waits { self.new.seat.looks.waits ≡ self.old.seat.looks.waits }
@@ -50,8 +50,8 @@ impl<L: ShowsLast> Seat<L> {
     /// Answers the phase where the seat hadn't answered it yet, and answers which it is.
     pub fn answer(&mut self) -> u64
         requires { MayCollect (seat_state self.old) }
-        ensures made { MakesInner self.old self.new Answer }
-        ensures loaded { ByInner self.old self.new Answer (λ made. FoundIn made PollLoad result) }
+        ensures made { MakesInner self.old self.new inners.Answer }
+        ensures loaded { ByInner self.old self.new inners.Answer (λ made. FoundIn made PollLoad result) }
         ensures told { self.new.seat.mine ≡ self.old.seat.mine ++ newly_answered self.old.number self.old.seat.answered result }
         ensures answered { self.new.seat.answered ≡ result }
         ensures looks { self.new.seat.looks ≡ seen_phase result self.old.seat.looks }
@@ -65,8 +65,8 @@ impl<L: ShowsLast> Seat<L> {
     pub fn behind(&mut self, other: u8) -> Option<(u64, u64)>
         requires ready { MayCollect (seat_state self.old) }
         requires other { (other < self.old.heap.seats) × (other ≢ self.old.number) }
-        ensures made { MakesInner self.old self.new (Behind other) }
-        ensures shown { ByInner self.old self.new (Behind other) (λ made. ShowsBehind made other result) }
+        ensures made { MakesInner self.old self.new (inners.Behind other) }
+        ensures shown { ByInner self.old self.new (inners.Behind other) (λ made. ShowsBehind made other result) }
         ensures found { self.new.seat.looks.behind ≡ behind_shown other result }
         ensures first { self.new.seat.looks.first ≡ self.old.seat.looks.first }
         ensures untold { self.new.seat.mine ≡ self.old.seat.mine }
@@ -80,7 +80,7 @@ impl<L: ShowsLast> Seat<L> {
     pub fn note(&mut self, reply: CollectReply)
         requires ready { MayCollect (seat_state self.old) }
         requires allowed { MayNote self.old.seat.looks reply }
-        ensures made { MakesInner self.old self.new (Note reply) }
+        ensures made { MakesInner self.old self.new (inners.Note reply) }
         ensures told { self.new.seat.mine ≡ self.old.seat.mine ++ Said self.old.number Collect (noted_reply reply) ∷ [] }
         ensures waits { self.new.seat.looks.waits ≡ self.old.seat.looks.waits }
     {

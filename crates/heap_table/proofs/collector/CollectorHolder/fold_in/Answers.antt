@@ -3,7 +3,7 @@ use Rattle.atomic_table.specs.Seated.{TableId}
 use Rattle.heap_table.specs.CollectorHeld.{CollectorHeld}
 use Rattle.heap_table.specs.Views.{seat_view}
 use Rattle.heap_table.proofs.CollectorHolders.{fold_allowed, keeps_folded, some_words}
-use Rattle.heap_table.proofs.collector.places.CollectorHolder.fold_in.Goals as goal
+use Rattle.heap_table.proofs.collector.CollectorHolder.fold_in.Goals as goal
 
 pub join_seat-requires : goal.join_seat-requires
 join_seat-requires g c =

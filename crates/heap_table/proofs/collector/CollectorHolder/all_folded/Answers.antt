@@ -3,7 +3,7 @@ use Rattle.std.specs.List.{list_all}
 use Rattle.std.specs.Prelude.{is_some}
 use Rattle.heap_table.specs.Views.{known_by}
 use Rattle.heap_table.proofs.CollectorHolders.{full_folded, folded_of}
-use Rattle.heap_table.proofs.collector.places.CollectorHolder.all_folded.Goals as goal
+use Rattle.heap_table.proofs.collector.CollectorHolder.all_folded.Goals as goal
 
 pub returns : goal.returns
 returns g c =

@@ -4,7 +4,7 @@ use Rattle.core_machine.specs.machine.Opening.{opening_seat}
 use Rattle.heap_table.specs.TokenOf.{IsTokenOf}
 use Rattle.heap_table.specs.Views.{seat_view}
 use Rattle.heap_table.proofs.OpeningHolders.{handing_as, keeps_handed, few_of, opens_of, next_of, within_of}
-use Rattle.heap_table.proofs.collector.places.CollectorHolder.next_seat.Goals as goal
+use Rattle.heap_table.proofs.collector.CollectorHolder.next_seat.Goals as goal
 
 pub hand_out-token-requires-clause-rule : goal.hand_out-token-requires-clause-rule
 hand_out-token-requires-clause-rule g c =
