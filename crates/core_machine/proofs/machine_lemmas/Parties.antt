@@ -58,3 +58,7 @@ each_other of parties last number p other within apart =
     let long = length-map parties of in
     rw (map-set of parties number p, ← set-append_left (map of parties) (last ∷ []) number (of p) (omega arith))
     (get_or-set_other (map of parties ++ last ∷ []) number other (of p) 0 apart)
+
+-- a seat that was put in its place
+pub seat_at-set : (seats : List Seat) (number : ℕ) (seat : Seat) → number < length seats → get_or (set seats number seat) number absent_seat ≡ seat
+seat_at-set seats number seat within = get_or-set_same seats number seat absent_seat within
