@@ -1,6 +1,5 @@
 -- What each step of a call leads to by the seat's own view, whatever word it has found, and that a call begins so.
 pub mod Answer
-pub mod Balance
 pub mod Begin
 pub mod Birth
 pub mod Claiming
@@ -12,11 +11,9 @@ pub mod InnerAnswer
 pub mod InnerLooks
 pub mod Leading
 pub mod Objects
-pub mod Once
 pub mod Sums
 pub mod Turns
 pub mod Way
-pub mod Weaker
 use Rattle.std.proofs.Common.{◌≡◌, ℕ, ◌^◌, ◌<◌, List, [], ◌∷◌, ◌++◌, length, Option, Some, None, refl, sym, ap, subst, ◌∙◌, append_assoc}
 use Rattle.std.specs.Prelude.{IfSome}
 use Rattle.core_machine.proofs.Terms.{IsHeap, Command, Entry, Heap, Move, next_move, due_step, seat_after, seat_after_due, Nears, owes, steps_left, FoundPointsWithin, address_of}
