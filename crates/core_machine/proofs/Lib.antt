@@ -1,6 +1,7 @@
 pub mod Terms
 pub mod call_lemmas
 pub mod collector_lemmas
+pub mod kinds
 pub mod machine_lemmas
 pub mod moves
 pub mod own_stages

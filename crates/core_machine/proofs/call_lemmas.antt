@@ -9,9 +9,13 @@ pub mod GoingOn
 pub mod Granting
 pub mod InnerCalls
 pub mod Playing
+pub mod PlayingAccess
 pub mod PlayingBegins
+pub mod PlayingEnds
 pub mod PlayingInner
+pub mod PlayingLeaves
 pub mod PlayingOn
+pub mod PlayingPolls
 pub mod RepliesAlone
 pub mod Restoring
 pub mod Stages

@@ -12,6 +12,7 @@ pub mod SpineTurns
 pub mod SweepTurn
 pub mod Turning
 pub mod Standing
+pub mod Works
 use Rattle.std.proofs.Common.{refl}
 use Rattle.core_machine.proofs.Terms.{Heap, IsHeap}
 use Rattle.core_machine.specs.declared.collector.stage.Stage.{Stage}

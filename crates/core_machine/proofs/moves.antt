@@ -17,75 +17,14 @@ use Rattle.std.specs.Prelude.{IfSome, option_map}
 use Rattle.core_machine.proofs.Terms.{Heap, IsHeap, Granting, Withdrawing, Gathering, GivingBack, Refusing, Placing, Listing, Storing, Bearing, Place, LoadingMeta, Walking}
 use Rattle.core_machine.proofs.Terms.{LoadingSpot, Indexing, Getting, Naming, LoadingOld, ShadingOld, ShadingNew, Swapping, Move, next_move, due_step, seat_after, Step, Nears, owes}
 use Rattle.core_machine.proofs.Terms.{steps_left, FoundPointsWithin, address_of, Fits, Seat, Command, MayBegin, after_begin}
-use Rattle.core_machine.specs.declared.place.Collecting.{Collecting}
-use Rattle.core_machine.specs.declared.place.Collecting.TheVariants.{Looking, Asking as AskingBehind, Comparing, Noting}
-use Rattle.core_machine.specs.declared.place.Leaving.{Leaving}
-use Rattle.core_machine.specs.declared.place.Leaving.TheVariants.{Emptying, Parting}
-use Rattle.core_machine.specs.declared.place.Making.{Making}
-use Rattle.core_machine.specs.declared.place.Place.TheVariants as places
-use Rattle.core_machine.specs.declared.place.Polling.{Polling}
-use Rattle.core_machine.specs.declared.place.Polling.TheVariants.{Asking, Shading, Answering}
-use Rattle.core_machine.specs.declared.place.Access.{Access}
+use Rattle.core_machine.proofs.kinds.{place_kind}
 use Rattle.core_machine.proofs.seat_lemmas.FittingEntries.{fits_entries}
 use Rattle.heap_model.specs.declared.command.Command.TheVariants as commands
 use Rattle.core_machine.proofs.moves.Standing.{MoveStands, PlaceStands, BeginStands, CommandStands}
 
--- each move of the making of an object stands
-making_stands : (place : Making) → PlaceStands (places.Making place)
-making_stands Granting = Array.grant_stands
-making_stands Withdrawing = Array.withdraw_stands
-making_stands Gathering = Gather.claim_stands
-making_stands GivingBack = Gather.give_back_stands
-making_stands Refusing = Gather.refusal_stands
-making_stands Placing = Array.placing_stands
-making_stands Listing = Array.listing_stands
-making_stands Storing = Birth.store_stands
-making_stands Bearing = Birth.bearing_stands
-
--- each of access
-access_stands : (place : Access) → PlaceStands (places.Access place)
-access_stands LoadingMeta = Open.open_stands
-access_stands Walking = Walk.walk_stands
-access_stands LoadingSpot = Spine.locate_stands
-access_stands Indexing = Spine.index_stands
-access_stands Getting = Get.get_stands
-access_stands Naming = Get.name_stands
-access_stands LoadingOld = Set.old_stands
-access_stands ShadingOld = Set.shade_old_stands
-access_stands ShadingNew = Set.shade_new_stands
-access_stands Swapping = Set.swap_stands
-
--- each of an answer to the phase
-polling_stands : (place : Polling) → PlaceStands (places.Polling place)
-polling_stands Asking = Poll.poll_stands
-polling_stands Shading = Poll.root_stands
-polling_stands Answering = Poll.answer_stands
-
--- each of an inner call
-collecting_stands : (place : Collecting) → PlaceStands (places.Collecting place)
-collecting_stands Looking = Collect.look_stands
-collecting_stands (AskingBehind other) = Collect.asking_stands other
-collecting_stands (Comparing other phase) = Collect.comparing_stands other phase
-collecting_stands (Noting reply) = Collect.note_stands reply
-
--- each of a leave
-leaving_stands : (place : Leaving) → PlaceStands (places.Leaving place)
-leaving_stands Emptying = Leave.empty_stands
-leaving_stands Parting = Leave.leave_stands
-
--- each move stands, by the place
-stands_at : (place : Place) → PlaceStands place
-stands_at places.Idle = λ heap number seat here. tt
-stands_at (places.Making place) = making_stands place
-stands_at places.Local = Local.telling_stands
-stands_at (places.Access place) = access_stands place
-stands_at (places.Polling place) = polling_stands place
-stands_at (places.Collecting place) = collecting_stands place
-stands_at (places.Leaving place) = leaving_stands place
-
 -- the move that is due
 pub move_stands : (heap : Heap) (number : ℕ) (seat : Seat) → IsHeap heap → number < 16 → Fits heap seat → IfSome (next_move heap number seat) (MoveStands heap number seat seat.place)
-move_stands heap number seat limits few fits = stands_at seat.place heap number seat
+move_stands heap number seat limits few fits = (place_kind seat.place).stands heap number seat
     record { limits = limits; few = few; fits = fits; placed = refl; hand = fits.at_place; way = fits.way_at_place; answer = fits.answer_at_place }
 
 -- so it is with a move that is known

@@ -1,6 +1,5 @@
 -- What each step of a call leads to by the seat's own view, whatever word it has found, and that a call begins so.
 pub mod Answer
-pub mod Balance
 pub mod Begin
 pub mod Birth
 pub mod Claiming
@@ -12,73 +11,19 @@ pub mod InnerAnswer
 pub mod InnerLooks
 pub mod Leading
 pub mod Objects
-pub mod Once
 pub mod Sums
 pub mod Turns
 pub mod Way
-pub mod Weaker
 use Rattle.std.proofs.Common.{◌≡◌, ℕ, ◌^◌, ◌<◌, List, [], ◌∷◌, ◌++◌, length, Option, Some, None, refl, sym, ap, subst, ◌∙◌, append_assoc}
 use Rattle.std.specs.Prelude.{IfSome}
 use Rattle.core_machine.proofs.Terms.{IsHeap, Command, Entry, Heap, Move, next_move, due_step, seat_after, seat_after_due, Nears, owes, steps_left, FoundPointsWithin, address_of}
 use Rattle.core_machine.proofs.Terms.{Kept, kept_of, StageAt, OwnStage, LoadingMeta, Walking, LoadingSpot, Indexing, Getting, Naming, LoadingOld, ShadingOld, ShadingNew, Swapping}
 use Rattle.core_machine.proofs.Terms.{Granting, Withdrawing, Gathering, GivingBack, Refusing, Placing, Listing, Storing, Bearing, Place, Step, MayBegin, after_begin, Fits, Seat}
+use Rattle.core_machine.proofs.kinds.{place_kind}
 use Rattle.core_machine.proofs.moves.{due_move, due_fits, due_nears}
-use Rattle.core_machine.specs.declared.place.Access.{Access}
-use Rattle.core_machine.specs.declared.place.Leaving.{Leaving}
-use Rattle.core_machine.specs.declared.place.Leaving.TheVariants.{Emptying, Parting}
-use Rattle.core_machine.specs.declared.place.Making.{Making}
-use Rattle.core_machine.specs.declared.place.Place.TheVariants as places
-use Rattle.core_machine.specs.declared.place.Polling.{Polling}
-use Rattle.core_machine.specs.declared.place.Polling.TheVariants.{Asking, Shading, Answering}
 use Rattle.core_machine.proofs.own_stages.Leading.{Leads, LeadsOn, PlaceLeads}
 
 module _ (tells : Step → ℕ → Type 0) where
-  -- each move of the making of an object
-  making_leads : (place : Making) → PlaceLeads tells (places.Making place)
-  making_leads Granting = Gather.grant_leads tells
-  making_leads Withdrawing = Gather.withdraw_leads tells
-  making_leads Gathering = Gather.claim_leads tells
-  making_leads GivingBack = Gather.give_back_leads tells
-  making_leads Refusing = Gather.refusal_leads tells
-  making_leads Placing = Birth.placing_leads tells
-  making_leads Listing = Birth.listing_leads tells
-  making_leads Storing = Birth.store_leads tells
-  making_leads Bearing = Birth.bearing_leads tells
-
-  -- each of access
-  access_leads : (place : Access) → PlaceLeads tells (places.Access place)
-  access_leads LoadingMeta = Way.open_leads tells
-  access_leads Walking = Way.walk_leads tells
-  access_leads LoadingSpot = Way.locate_leads tells
-  access_leads Indexing = Way.index_leads tells
-  access_leads Getting = Field.get_leads tells
-  access_leads Naming = Field.name_leads tells
-  access_leads LoadingOld = Field.old_leads tells
-  access_leads ShadingOld = Field.shade_old_leads tells
-  access_leads ShadingNew = Field.shade_new_leads tells
-  access_leads Swapping = Field.swap_leads tells
-
-  -- each of a poll
-  polling_leads : (place : Polling) → PlaceLeads tells (places.Polling place)
-  polling_leads Asking = Answer.poll_leads tells
-  polling_leads Shading = Answer.root_leads tells
-  polling_leads Answering = Answer.answer_leads tells
-
-  -- each of a leave
-  leaving_leads : (place : Leaving) → PlaceLeads tells (places.Leaving place)
-  leaving_leads Emptying = Answer.empty_leads tells
-  leaving_leads Parting = Answer.part_leads tells
-
-  -- each move, by the place
-  leads_at : (place : Place) → PlaceLeads tells place
-  leads_at places.Idle = λ heap number before seat told here stage. tt
-  leads_at (places.Making place) = making_leads place
-  leads_at places.Local = Answer.telling_leads tells
-  leads_at (places.Access place) = access_leads place
-  leads_at (places.Polling place) = polling_leads place
-  leads_at (places.Collecting place) = λ heap number before seat told here stage. absurd stage
-  leads_at (places.Leaving place) = leaving_leads place
-
   -- a call that stands so goes on to stand so, whatever word its next step finds of which so much is told
   pub own_leads : (heap : Heap) (number : ℕ) (command : Command) (old seat : Seat) (told : List Entry) (move : Move) (found : ℕ) → IsHeap heap → number < 16 → Fits heap seat
       → next_move heap number seat ≡ Some move → tells move.step found → OwnStage tells heap number command old seat told
@@ -86,7 +31,7 @@ module _ (tells : Step → ℕ → Type 0) where
   own_leads heap number command old seat told move found limits few fits next tell is =
       let leads : Leads tells heap number (kept_of old) seat told move found =
       subst (λ (m : Option Move). IfSome m (LeadsOn tells heap number (kept_of old) seat told)) next
-      (leads_at seat.place heap number (kept_of old) seat told
+      ((place_kind seat.place).leads tells heap number (kept_of old) seat told
       (record { limits = limits; few = few; fits = fits; placed = refl; hand = fits.at_place; way = fits.way_at_place; answer = fits.answer_at_place }) is.stage) found tell in
       record {
         same = leads.same ∙ is.same;

@@ -2,7 +2,6 @@
 pub mod FieldReplies
 pub mod InnerStage
 pub mod Kept
-pub mod Balance
 pub mod Claims
 pub mod Making
 pub mod Owes

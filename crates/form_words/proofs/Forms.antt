@@ -28,14 +28,6 @@ pub no_run : (words rest : List (List ℕ)) (found : Option Work) → words ≡ 
 no_run words rest None begins none = no_form (codes "run") words rest _ begins refl (none _ _ _)
 no_run words rest (Some work) begins none = tt
 
-pub no_check : (words rest : List (List ℕ)) (found : Option Work) → words ≡ codes "check" ∷ rest → IfNone found (¬ Completes rest Check) → IfNone found (¬ IsForm words)
-no_check words rest None begins none = no_form (codes "check") words rest Check begins refl none
-no_check words rest (Some work) begins none = tt
-
-pub no_make : (words rest : List (List ℕ)) (found : Option Work) → words ≡ codes "make" ∷ rest → IfNone found ((start seats lines : ℕ) → ¬ Completes rest (Make start seats lines)) → IfNone found (¬ IsForm words)
-no_make words rest None begins none = no_form (codes "make") words rest _ begins refl (none _ _ _)
-no_make words rest (Some work) begins none = tt
-
 -- what was found has its numbers in their ranges
 pub found_within : (form : List ℕ) (rest : List (List ℕ)) (found : Option Work) → IfSome found (λ work. (form_word work ≡ form) × Completes rest work) → IfSome found IsWork
 found_within form rest None is = tt

@@ -7,7 +7,8 @@ use Rattle.std.proofs.lemmas.Bool.{ne_eqb}
 use Rattle.std.proofs.lemmas.List.{length-set}
 use Rattle.heap_model.specs.account.Space.{need_of}
 use Rattle.core_machine.proofs.moves.Standing.{MoveStands}
-use Rattle.core_machine.proofs.machine_lemmas.Runs.{seat_at-set, machine_after, moves_stand}
+use Rattle.core_machine.proofs.machine_lemmas.Parties.{seat_at-set}
+use Rattle.core_machine.proofs.machine_lemmas.Runs.{machine_after, moves_stand}
 use Rattle.core_machine.proofs.moves.{begin_stands}
 
 -- a seat's entries are those of its party

@@ -11,7 +11,7 @@ use Rattle.core_machine.proofs.own_stages.{own_leads, own_begins}
 use Rattle.core_machine.proofs.seat_lemmas.Aside.{over_idle}
 use Rattle.core_machine.proofs.moves.{begin_stands}
 use Rattle.core_machine.proofs.call_lemmas.Underway.{Underway, underway_begun, underway_more, more_listed, found_due}
-use Rattle.core_machine.proofs.machine_lemmas.Runs.{seat_at-set}
+use Rattle.core_machine.proofs.machine_lemmas.Parties.{seat_at-set}
 
 -- a call is under way, and no other party made a step since its begin
 pub record Playing (heap : Heap) (old now : State) (number : ℕ) (command : Command) : Type 0 where

@@ -6,7 +6,7 @@ use Rattle.heap_model.specs.declared.reply.Reply.TheVariants as replies
 use Rattle.core_machine.proofs.seat_lemmas.Fitting.{budget_cases, words_of_array}
 use Rattle.core_machine.proofs.call_lemmas.Asking.{AsksWords, asks_some, asks_free, taken_back}
 use Rattle.core_machine.proofs.call_lemmas.Restoring.{claims_none}
-use Rattle.core_machine.proofs.machine_lemmas.Runs.{seat_at-set}
+use Rattle.core_machine.proofs.machine_lemmas.Parties.{seat_at-set}
 use Rattle.core_machine.proofs.call_lemmas.Stages.{WhileWithdrawing, AloneStage, AloneAfter}
 use Rattle.core_machine.proofs.call_lemmas.GoingOn.{own_kept, array_no_record, alone_goes_on}
 

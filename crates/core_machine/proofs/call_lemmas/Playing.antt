@@ -5,12 +5,11 @@ use Rattle.std.proofs.lemmas.List.Filters.{length-filter_both}
 use Rattle.core_machine.proofs.Terms.{Heap, Command, spine_need_of, Entry, Said, GivesBack, Address, Control, Granting, Withdrawing, Gathering, GivingBack, Refusing, Placing}
 use Rattle.core_machine.proofs.Terms.{Listing, Storing, Bearing, clear_in, part_in, part_out, in_group, out_of_group, at, put, InTable, table_length, all_taken, Seat, need}
 use Rattle.core_machine.proofs.Terms.{spine_need, with_entries, next_group_of, first_group_of, after_give_back, after_listing, after_store, store_place, next_object_id, Move}
-use Rattle.core_machine.proofs.Terms.{seat_after, listing_move, bearing_move, is_last_birth, making_move, State, seat_at, found_by, state_after_move, SeatIsGathering}
-use Rattle.core_machine.proofs.Terms.{SeatIsRefusing, FitsMaking, free_count, within_reach, KeepsOwn, IsRefused, IsMachine, Kept, kept_of, tells_nothing, MakingStage}
+use Rattle.core_machine.proofs.Terms.{seat_after, listing_move, bearing_move, is_last_birth, State, seat_at, found_by, state_after_move, SeatIsGathering}
+use Rattle.core_machine.proofs.Terms.{SeatIsRefusing, free_count, within_reach, KeepsOwn, IsRefused, IsMachine, Kept, kept_of}
 use Rattle.heap_model.specs.declared.reply.Reply.TheVariants as replies
 use Rattle.heap_model.specs.account.Space.{need_of}
 use Rattle.core_machine.specs.declared.place.Place.TheVariants as places
-use Rattle.core_machine.specs.declared.place.Making.{Making}
 use Rattle.core_machine.specs.Moves.{claim_move, give_back_move, refusal_move, store_move, takes_some}
 use Rattle.core_machine.proofs.table_lemmas.Addresses.{at-put_other, at-put_same}
 use Rattle.core_machine.proofs.table_lemmas.Bits.{bool_tells}
@@ -20,8 +19,8 @@ use Rattle.core_machine.proofs.table_lemmas.Owned.{group_within}
 use Rattle.core_machine.proofs.table_lemmas.Filters.{out_shorter}
 use Rattle.core_machine.proofs.call_lemmas.Asking.{AsksWords, asks_small, refusal_restores}
 use Rattle.core_machine.proofs.call_lemmas.Restoring.{Claims, claims_more, claims_less, claims_over}
-use Rattle.core_machine.proofs.machine_lemmas.Runs.{seat_at-set}
-use Rattle.core_machine.proofs.call_lemmas.Stages.{WhileGathering, WhileGivingBack, WhileMaking, MakingAlone, AloneStage, AloneAfter}
+use Rattle.core_machine.proofs.machine_lemmas.Parties.{seat_at-set}
+use Rattle.core_machine.proofs.call_lemmas.Stages.{WhileGathering, WhileGivingBack, WhileMaking, AloneStage, AloneAfter, PlaceLeadsAlone}
 use Rattle.core_machine.proofs.call_lemmas.GoingOn.{own_kept, alone_goes_on}
 use Rattle.core_machine.proofs.call_lemmas.Granting.{alone_granted, alone_withdrawn}
 
@@ -161,14 +160,34 @@ module _ (heap : Heap) (old : State) (number : ℕ) (command : Command) (now : S
         | inr more ↦ rw (more, place) while
       ]
 
-  pub alone_making : (place : Making) → the_seat.place ≡ places.Making place → FitsMaking heap the_seat place → the_seat.command ≡ command → (mine : List Entry)
-      → MakingStage tells_nothing heap number (kept_of (seat_at old number)) the_seat mine place → MakingAlone heap old now.words number command the_seat place → Leads (making_move heap number the_seat place)
-  alone_making Granting here fits same mine own alone = alone_granted heap old number command now told machine within small fits same own.kept_stays alone
-  alone_making Withdrawing here fits same mine own alone = alone_withdrawn heap old number command now told machine within small fits same own.0.kept_stays alone
-  alone_making Gathering here fits same mine own alone = alone_claimed fits same own.0 alone
-  alone_making GivingBack here fits same mine own alone = alone_given_back fits.0 fits.1 alone
-  alone_making Refusing here fits same mine own alone = alone_refused fits.0 fits.1 same own.0 alone
-  alone_making Placing here fits same mine own alone = alone
-  alone_making Listing here fits same mine own alone = alone_listed alone
-  alone_making Storing here fits same mine own alone = alone_stored alone
-  alone_making Bearing here fits same mine own alone = alone_bearing here same (ap (λ (k : Kept). k.made) own.0.kept_is) alone
+-- the spine words were asked for, and taken back where they were too many
+pub grants_alone : PlaceLeadsAlone (places.Making Granting)
+grants_alone heap old number command now told here = alone_granted heap old number command now told here.machine here.within here.small here.fits here.same here.own.kept_stays here.alone
+
+pub withdraws_alone : PlaceLeadsAlone (places.Making Withdrawing)
+withdraws_alone heap old number command now told here = alone_withdrawn heap old number command now told here.machine here.within here.small here.fits here.same here.own.0.kept_stays here.alone
+
+-- a group was claimed
+pub claims_alone : PlaceLeadsAlone (places.Making Gathering)
+claims_alone heap old number command now told here = alone_claimed heap old number command now told here.machine here.within here.small here.fits here.same here.own.0 here.alone
+
+-- what was claimed was given back, and the refusal told
+pub gives_back_alone : PlaceLeadsAlone (places.Making GivingBack)
+gives_back_alone heap old number command now told here = alone_given_back heap old number command now told here.machine here.within here.small here.fits.0 here.fits.1 here.alone
+
+pub refuses_alone : PlaceLeadsAlone (places.Making Refusing)
+refuses_alone heap old number command now told here = alone_refused heap old number command now told here.machine here.within here.small here.fits.0 here.fits.1 here.same here.own.0 here.alone
+
+-- the spine got its place, and a word; so did a fragment
+pub places_alone : PlaceLeadsAlone (places.Making Placing)
+places_alone heap old number command now told here = here.alone
+
+pub lists_alone : PlaceLeadsAlone (places.Making Listing)
+lists_alone heap old number command now told here = alone_listed heap old number command now told here.machine here.within here.small here.alone
+
+pub stores_alone : PlaceLeadsAlone (places.Making Storing)
+stores_alone heap old number command now told here = alone_stored heap old number command now told here.machine here.within here.small here.alone
+
+-- fragments were born
+pub bears_alone : PlaceLeadsAlone (places.Making Bearing)
+bears_alone heap old number command now told here = alone_bearing heap old number command now told here.machine here.within here.small here.placed here.same (ap (λ (k : Kept). k.made) here.own.0.kept_is) here.alone

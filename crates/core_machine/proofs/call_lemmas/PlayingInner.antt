@@ -13,7 +13,7 @@ use Rattle.core_machine.specs.calls.InnerStage.{OwnInnerStage}
 use Rattle.core_machine.proofs.call_lemmas.Underway.{Underway, underway_begun, underway_more, more_listed, found_due}
 use Rattle.core_machine.proofs.call_lemmas.InnerCalls.{IsOfStart, InnerAlone, InnerLeads, inner_alone, first_alone, inner_comes}
 use Rattle.core_machine.proofs.own_stages.Inner.{inner_leads, inner_begins, inner_ended}
-use Rattle.core_machine.proofs.machine_lemmas.Runs.{seat_at-set}
+use Rattle.core_machine.proofs.machine_lemmas.Parties.{seat_at-set}
 use Rattle.core_machine.proofs.moves.Collect.{inner_stands}
 use Rattle.core_machine.proofs.seat_lemmas.Aside.{over_idle}
 

@@ -1,9 +1,10 @@
 -- How the words stand, while a call is made by itself, to those of its begin, beside where it stands by the seat's own data.
-use Rattle.std.proofs.Common.{◌≡◌, ℕ, ◌+◌, ◌%◌, ◌<◌, ◌≤◌, List, [], ◌∷◌, ◌++◌, length}
+use Rattle.std.specs.Prelude.{IfSome}
+use Rattle.std.proofs.Common.{◌≡◌, ℕ, ◌+◌, ◌%◌, ◌^◌, ◌<◌, ◌≤◌, List, [], ◌∷◌, ◌++◌, length}
 use Rattle.core_machine.proofs.Terms.{Heap, Command, Poll, Entry, Said, Reply, spine_need_of, tells_nothing, OwnStage, Phase, Budget, Control, Place, Granting, Withdrawing}
 use Rattle.core_machine.proofs.Terms.{Gathering, GivingBack, Refusing, Placing, Listing, Storing, Bearing, clear_in, at, Seat, Move, seat_after, State, seat_at, found_by}
 use Rattle.core_machine.proofs.Terms.{state_after_move, LoadingMeta, Naming, IsRecordCall, IsArrayCall, free_count, within_reach, AnswersNew, LacksSpineWords, AnswersArray}
-use Rattle.core_machine.proofs.Terms.{IsPlaceRefusal, LeavesAll}
+use Rattle.core_machine.proofs.Terms.{IsPlaceRefusal, LeavesAll, Address, InTable, IsMachine, StageAt, call_over, kept_of, FitsPlace, FitsWay, move_at}
 use Rattle.heap_model.specs.declared.reply.Reply.TheVariants as replies
 use Rattle.heap_model.specs.account.Space.{need_of}
 use Rattle.core_machine.specs.declared.place.Place.TheVariants as places
@@ -94,3 +95,22 @@ abbrev pub AloneAfter : Heap → State → ℕ → Command → State → List En
 AloneAfter heap old number command now told move =
     let found = found_by heap now move.step in
     AloneStage heap old (state_after_move heap now number move) number command (told ++ move.shows now.words found) (seat_after move found) (seat_after move found).place
+
+-- a call that is made by itself stands at this place of its seat
+pub record IsAlone (heap : Heap) (old : State) (number : ℕ) (command : Command) (now : State) (told : List Entry) (place : Place) : Type 0 where
+  pub machine : IsMachine heap now
+  pub small : (a : Address) → InTable heap a → at heap old.words a < 2 ^ 64
+  pub within : number < length now.seats
+  pub resting : call_over (seat_at old number) ≡ seat_at old number
+  pub placed : (seat_at now number).place ≡ place
+  pub fits : FitsPlace heap (seat_at now number) place
+  pub way : FitsWay (seat_at now number) place
+  pub same : (seat_at now number).command ≡ command
+  pub mine : List Entry
+  pub own : StageAt tells_nothing heap number (kept_of (seat_at old number)) (seat_at now number) mine place
+  pub alone : AloneStage heap old now number command told (seat_at now number) place
+
+-- so the move at this place leads on, where the call is made by itself
+abbrev pub PlaceLeadsAlone : Place → Type 0
+PlaceLeadsAlone place = (heap : Heap) (old : State) (number : ℕ) (command : Command) (now : State) (told : List Entry) → IsAlone heap old number command now told place
+    → IfSome (move_at heap number (seat_at now number) place) (AloneAfter heap old number command now told)

@@ -6,7 +6,8 @@ use Rattle.core_machine.proofs.Terms.{Heap, Entry, Seat, entries_awaited, Move, 
 use Rattle.core_machine.proofs.Terms.{state_after_due, entries_shown, entries, Run, state_after_all, history, IsMachine}
 use Rattle.core_machine.proofs.call_lemmas.Awaits.{Adds}
 use Rattle.core_machine.proofs.moves.Standing.{MoveStands}
-use Rattle.core_machine.proofs.machine_lemmas.Runs.{runs_on, begun-more, seat_at-set, machine_after, moves_stand}
+use Rattle.core_machine.proofs.machine_lemmas.Parties.{seat_at-set}
+use Rattle.core_machine.proofs.machine_lemmas.Runs.{runs_on, begun-more, machine_after, moves_stand}
 
 -- from the old state on this event was made, and then steps of the seat alone, and this was told; by its own list and what it awaits the seat goes on as the history does
 pub record Underway (heap : Heap) (old now : State) (number : ℕ) (first : Event) (told : List Entry) : Type 0 where

@@ -1,44 +1,28 @@
 -- The collector looks at a seat's answer.
-use Rattle.std.proofs.Common.{suc, ◌≡◌, ℕ, ◌+◌, ◌%◌, ◌<◌, cond, eqb, inl, inr, refl, arith}
-use Rattle.std.proofs.lemmas.Bool.Decides.{eqb_tells, leb_tells}
-use Rattle.heap_model.specs.PhasePlan.{cycle_phases, sweep as sweep_phase, clearing as clearing_phase, marking as marking_phase, copying as copying_phase}
+use Rattle.std.proofs.Common.{suc, ◌≡◌, ℕ, ◌+◌, ◌<◌, inl, inr, refl, arith}
+use Rattle.std.proofs.lemmas.Bool.Decides.{leb_tells}
 use Rattle.core_machine.proofs.Terms.{Heap, IsHeap, Turning}
-use Rattle.core_machine.specs.declared.collector.stage.Copying.TheVariants.{Visiting}
-use Rattle.core_machine.specs.declared.collector.stage.Stage.{Stage}
 use Rattle.core_machine.specs.declared.collector.stage.Stage.TheVariants as stages
 use Rattle.core_machine.specs.declared.step.TurningStep.TheVariants as turning
 use Rattle.core_machine.specs.collector.Collector.{Collector, has_answered_of, first_work, after_last_look, after_counted_look, after_look, look_answer}
 use Rattle.core_machine.specs.collector.FitsTurns.{FitsStage, CollectorFits}
+use Rattle.core_machine.proofs.collector_lemmas.Works.{first_either}
 use Rattle.core_machine.proofs.collector_lemmas.Standing.{StageStands, quiet_stands}
 use Rattle.core_machine.proofs.table_lemmas.Bits.{bool_tells}
 use Rattle.core_machine.proofs.table_lemmas.StepStands.{load_stands}
-
--- what a phase is for that comes behind copying, or no work
-abbrev later_work : ℕ → Stage
-later_work phase = cond (eqb (phase % cycle_phases) sweep_phase) (stages.Sweeping 0) (cond (eqb (phase % cycle_phases) clearing_phase) (stages.Clearing 0 0) stages.Advancing)
 
 module _ (heap : Heap) (collector : Collector) (limits : IsHeap heap) (fits : CollectorFits heap collector) (looking : collector.stage ≡ stages.Looking) (within : collector.looked < heap.seats) where
   -- it stands before a seat of the heap
   fits_looking : (looked : ℕ) → looked < heap.seats → CollectorFits heap (record collector { looked = looked })
   fits_looking looked below = record { phase_within = fits.phase_within; phase_told = fits.phase_told; at_stage = rw looking below }
 
-  fits_later_work : FitsStage heap collector.phase heap.seats (later_work collector.phase)
-  fits_later_work = elim (eqb_tells (collector.phase % cycle_phases) sweep_phase) as (λ _. FitsStage heap collector.phase heap.seats (later_work collector.phase)) [
-    | inl sweeps ↦ rw sweeps.0 (record { all = refl; for_sweep = sweeps.1; group_within = limits.some_group })
-    | inr other ↦ rw other.0 (elim (eqb_tells (collector.phase % cycle_phases) clearing_phase) as (λ _. FitsStage heap collector.phase heap.seats (cond (eqb (collector.phase % cycle_phases) clearing_phase) (stages.Clearing 0 0) stages.Advancing)) [
-      | inl clears ↦ rw clears.0 (record { all = refl; for_clearing = clears.1; group_within = limits.some_group; kept_within = omega arith })
-      | inr goes ↦ rw goes.0 (record { all = refl; goes_on = goes.1 })
-    ])
-  ]
-
   fits_first_work : FitsStage heap collector.phase heap.seats (first_work collector.phase)
-  fits_first_work = elim (eqb_tells (collector.phase % cycle_phases) marking_phase) as (λ _. FitsStage heap collector.phase heap.seats (first_work collector.phase)) [
-    | inl marks ↦ rw marks.0 (record { marks = record { all = refl; for_marking = marks.1 }; group_within = limits.some_group })
-    | inr other ↦ rw other.0 (elim (eqb_tells (collector.phase % cycle_phases) copying_phase) as (λ _. FitsStage heap collector.phase heap.seats (cond (eqb (collector.phase % cycle_phases) copying_phase) (stages.Copying (Visiting 0)) (later_work collector.phase))) [
-      | inl copies ↦ rw copies.0 (record { all = refl; for_copying = copies.1 }, limits.some_group)
-      | inr later ↦ rw later.0 fits_later_work
-    ])
-  ]
+  fits_first_work = first_either (FitsStage heap collector.phase heap.seats) collector.phase
+      (λ marks. record { marks = record { all = refl; for_marking = marks }; group_within = limits.some_group })
+      (λ copies. (record { all = refl; for_copying = copies }, limits.some_group))
+      (λ sweeps. record { all = refl; for_sweep = sweeps; group_within = limits.some_group })
+      (λ clears. record { all = refl; for_clearing = clears; group_within = limits.some_group; kept_within = omega arith })
+      (λ nothing. record { all = refl; goes_on = nothing.uncleared })
 
   fits_looked_all : CollectorFits heap (after_last_look heap collector)
   fits_looked_all = record { phase_within = fits.phase_within; phase_told = fits.phase_told; at_stage = fits_first_work }

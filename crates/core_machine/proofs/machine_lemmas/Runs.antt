@@ -3,12 +3,13 @@ use Rattle.std.proofs.Common.{suc, ◌≡◌, ℕ, ◌+◌, ◌<◌, ◌^◌, Li
 use Rattle.std.specs.Prelude.{IsSome, IfSome, option_map}
 use Rattle.std.specs.List.{All}
 use Rattle.std.proofs.lemmas.Bool.Decides.{eqb_tells, leb_tells}
-use Rattle.std.proofs.lemmas.List.{length-set, get_or-set_same, get_or-set_other, get_or_past}
+use Rattle.std.proofs.lemmas.List.{length-set, get_or-set_other, get_or_past}
 use Rattle.std.proofs.lemmas.Grind.{replicate_next}
 use Rattle.core_machine.proofs.Terms.{Heap, Entry, put, InTable, PointersWithin, FoundPointsWithin, address_of, word_after, Seat, absent_seat, Step, Move, next_move, due_step}
 use Rattle.core_machine.proofs.Terms.{seat_after, State, seat_at, found_by, Event, Begins, BeginsInner, Steps, Turns, state_after_turn, Can, state_after, state_after_due, entries}
 use Rattle.core_machine.proofs.Terms.{Run, state_after_all, history, after_begin, after_inner_begin, Fits, IsMachine}
 use Rattle.core_machine.specs.collector.Collector.{next_turn}
+use Rattle.core_machine.proofs.machine_lemmas.Parties.{seat_at-set}
 use Rattle.core_machine.proofs.moves.Standing.{MoveStands}
 use Rattle.core_machine.proofs.moves.{move_stands, begin_stands}
 use Rattle.core_machine.proofs.moves.Collect.{inner_stands}
@@ -54,10 +55,6 @@ runs_on heap old now events more event told is runs can = record {
 -- a begin with one step more
 pub begun-more : (first : Event) (number n : ℕ) → first ∷ replicate (n + 1) (Steps number) ≡ (first ∷ replicate n (Steps number)) ++ Steps number ∷ []
 begun-more first number n = ap (λ (l : List Event). first ∷ l) (replicate_next n (Steps number))
-
--- a seat that was put in its place, and one beside it
-pub seat_at-set : (seats : List Seat) (number : ℕ) (seat : Seat) → number < length seats → get_or (set seats number seat) number absent_seat ≡ seat
-seat_at-set seats number seat within = get_or-set_same seats number seat absent_seat within
 
 -- another seat in the place of one, and other words
 pub machine_with : (heap : Heap) (state : State) (words : List ℕ) (number : ℕ) (seat : Seat) → IsMachine heap state → number < length state.seats

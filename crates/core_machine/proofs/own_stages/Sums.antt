@@ -2,7 +2,7 @@
 use Rattle.std.proofs.Common.{◌≡◌, ℕ, ◌+◌, List, [], ◌∷◌, ◌++◌, sum, cond, eqb, true, refl, sym, subst, eq-eqb, inl, inr, arith}
 use Rattle.std.proofs.lemmas.Bool.Decides.{eqb_tells}
 use Rattle.std.proofs.lemmas.List.Sums.{sum_by-append, sum_by-cons}
-use Rattle.core_machine.proofs.Terms.{made_by, Command, Entry, Said, Takes, GivesBack, Answers, Reply}
+use Rattle.core_machine.proofs.Terms.{made_by, Command, Entry, Said, Takes, GivesBack, Reply}
 use Rattle.heap_model.specs.account.Effects.{effect_of, is_of}
 use Rattle.heap_model.specs.account.PhaseCounts.{last_answer}
 use Rattle.heap_model.specs.account.Space.{taken_of, spent_of, total_of}
@@ -36,9 +36,6 @@ module _ (number : ℕ) where
 
   pub come_to-said : (command : Command) (reply : Reply) → ComeTo (Said number command reply ∷ []) 0 (made_by command reply) 0
   come_to-said command reply = record { takes = rw own (omega arith); spends = rw own (omega arith); replies = rw own (omega arith) }
-
-  pub come_to-answers : (phase : ℕ) → ComeTo (Answers number phase ∷ []) 0 0 1
-  come_to-answers phase = record { takes = rw own (omega arith); spends = rw own (omega arith); replies = rw own (omega arith) }
 
   come_to-take : (count : ℕ) → ComeTo (Takes number count ∷ []) count 0 0
   come_to-take count = record { takes = rw own (omega arith); spends = rw own (omega arith); replies = rw own (omega arith) }

@@ -1,5 +1,5 @@
 -- What making an object leaves alone.
-use Rattle.std.proofs.Common.{◌≡◌, ℕ, ◌*◌, ◌/◌, ◌^◌, ◌<◌, ◌≤◌, Bool, true, false, List, [], length, refl, subst, sym, ap, ◌∙◌, arith}
+use Rattle.std.proofs.Common.{◌≡◌, ℕ, ◌*◌, ◌/◌, ◌^◌, ◌<◌, ◌≤◌, Bool, true, false, List, [], length, refl, subst, sym, ◌∙◌, arith}
 use Rattle.std.specs.List.{All}
 use Rattle.std.proofs.lemmas.List.Elements.{All-nil}
 use Rattle.heap_words.specs.declared.spot.Spot.{Spot}
@@ -151,10 +151,6 @@ over_idle heap seat fits here =
     let nowhere : IsNowhere seat = subst (FitsWay seat) here fits.way_at_place in
     let silent : IsSilent seat = subst (FitsAnswer seat) here fits.answer_at_place in
     rest_over seat here rest nowhere silent
-
--- a reply alone makes it forget what it found
-pub over_forgets : (heap : Heap) (seat : Seat) → Fits heap seat → seat.place ≡ places.Idle → after_call seat ≡ record seat { looks = forgotten seat.looks }
-over_forgets heap seat fits here = ap (λ (s : Seat). record s { looks = forgotten seat.looks }) (over_idle heap seat fits here)
 
 -- a seat that makes nothing and answers no phase has its way alone of a call
 pub over_way : (seat : Seat) → IsAtRest seat → IsSilent seat → after_call seat ≡ record seat { reached = 0; links = 0; part = 0; address = no_spot; loaded = 0; place = places.Idle; looks = forgotten seat.looks }

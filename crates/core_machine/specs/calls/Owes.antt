@@ -10,7 +10,7 @@ use Rattle.core_machine.specs.declared.place.Polling.{Polling}
 use Rattle.core_machine.specs.declared.place.Polling.TheVariants.{Asking, Shading, Answering}
 use Rattle.core_machine.specs.declared.place.Collecting.{Collecting}
 use Rattle.core_machine.specs.declared.place.Collecting.TheVariants.{Looking, Asking as AskingBehind, Comparing, Noting}
-use Rattle.core_machine.specs.declared.place.Leaving.TheVariants.{Emptying, Parting}
+use Rattle.core_machine.specs.declared.place.Leaving.TheVariants as leaving
 use Rattle.core_machine.specs.seat.Access.{row_of}
 use Rattle.core_machine.specs.seat.Commands.{field_of}
 use Rattle.core_machine.specs.seat.Handshake.{roots}
@@ -38,8 +38,8 @@ owes_at seat places.Local = 1
 owes_at seat (places.Access place) = 1
 owes_at seat (places.Polling place) = 2
 owes_at seat (places.Collecting place) = 1
-owes_at seat (places.Leaving Emptying) = 2
-owes_at seat (places.Leaving Parting) = 1
+owes_at seat (places.Leaving leaving.Emptying) = 2
+owes_at seat (places.Leaving leaving.Parting) = 1
 
 -- the most entries that the seat's call still adds
 abbrev pub owes : Seat → ℕ
@@ -91,8 +91,8 @@ steps_at heap seat places.Local = 1
 steps_at heap seat (places.Access place) = access_steps (row_of (field_of seat.command)) seat.links place
 steps_at heap seat (places.Polling place) = polling_steps seat place
 steps_at heap seat (places.Collecting place) = collecting_steps place
-steps_at heap seat (places.Leaving Emptying) = 2
-steps_at heap seat (places.Leaving Parting) = 1
+steps_at heap seat (places.Leaving leaving.Emptying) = 2
+steps_at heap seat (places.Leaving leaving.Parting) = 1
 
 -- the most steps that the seat's call still makes
 abbrev pub steps_left : Heap → Seat → ℕ

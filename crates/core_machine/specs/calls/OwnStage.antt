@@ -13,7 +13,7 @@ use Rattle.core_machine.specs.calls.Replies.{IsAnswered}
 use Rattle.core_machine.specs.declared.place.Access.{Access}
 use Rattle.core_machine.specs.declared.place.Access.TheVariants.{LoadingMeta, Walking, LoadingSpot, Indexing, Getting, Naming, LoadingOld, ShadingOld, ShadingNew, Swapping}
 use Rattle.core_machine.specs.declared.place.Leaving.{Leaving}
-use Rattle.core_machine.specs.declared.place.Leaving.TheVariants.{Emptying, Parting}
+use Rattle.core_machine.specs.declared.place.Leaving.TheVariants as leaving
 use Rattle.core_machine.specs.declared.place.Making.{Making}
 use Rattle.core_machine.specs.declared.place.Making.TheVariants.{Granting, Withdrawing, Gathering, GivingBack, Refusing, Placing, Listing, Storing, Bearing}
 use Rattle.core_machine.specs.declared.place.Place.{Place}
@@ -87,8 +87,8 @@ pub record HasEmptied (number : ℕ) (before kept : Kept) (told : List Entry) : 
 
 -- at each place of a leave
 abbrev pub LeavingStage : ℕ → Kept → Seat → List Entry → Leaving → Type 0
-LeavingStage number before seat told Emptying = IsUntold before (kept_of seat) told
-LeavingStage number before seat told Parting = HasEmptied number before (kept_of seat) told
+LeavingStage number before seat told leaving.Emptying = IsUntold before (kept_of seat) told
+LeavingStage number before seat told leaving.Parting = HasEmptied number before (kept_of seat) told
 
 -- at each place of a served call
 abbrev pub StageAt : (Step → ℕ → Type 0) → Heap → ℕ → Kept → Seat → List Entry → Place → Type 0

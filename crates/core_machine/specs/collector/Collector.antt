@@ -1,5 +1,5 @@
 -- The collector, and how it goes on from turn to turn.
-use Rattle.std.specs.Prelude.{ℕ, ◌+◌, ◌-◌, ◌/◌, ◌%◌, ◌<◌, ◌^◌, ◌==◌, nat_lt, Bool, true, false, if◌then◌else◌, [], ◌∷◌}
+use Rattle.std.specs.Prelude.{ℕ, ◌≢◌, ◌+◌, ◌-◌, ◌/◌, ◌%◌, ◌<◌, ◌^◌, ◌==◌, nat_lt, Bool, true, false, if◌then◌else◌, [], ◌∷◌}
 use Rattle.heap_words.specs.declared.phase.TheConstants.{LEFT}
 use Rattle.heap_model.specs.declared.heap.Heap.{Heap}
 use Rattle.heap_model.specs.declared.calls.collector_calls.Turn.{Turn}
@@ -28,14 +28,25 @@ opening_collector = record { phase = 0; stage = stages.Looking; looked = 0; log 
 abbrev pub has_answered_of : ℕ → ℕ → Bool
 has_answered_of phase word = if word == phase then true else word == LEFT
 
+-- one of five by what the phase is for: marking, copying, the sweep, the clearing, or nothing
+abbrev pub by_work : {A : Type 0} → ℕ → A → A → A → A → A → A
+by_work phase marks copies sweeps clears none =
+    if phase % cycle_phases == marking then marks
+    else if phase % cycle_phases == copying_phase then copies
+    else if phase % cycle_phases == sweep then sweeps
+    else if phase % cycle_phases == clearing then clears
+    else none
+
+-- the phase is for nothing
+pub record IsForNothing (phase : ℕ) : Type 0 where
+  pub unmarked : phase % cycle_phases ≢ marking
+  pub uncopied : phase % cycle_phases ≢ copying_phase
+  pub unswept : phase % cycle_phases ≢ sweep
+  pub uncleared : phase % cycle_phases ≢ clearing
+
 -- where every seat has answered: what the phase is for begins, or the next phase where it is for nothing
 abbrev pub first_work : ℕ → Stage
-first_work phase =
-    if phase % cycle_phases == marking then stages.Passing 0 false
-    else if phase % cycle_phases == copying_phase then stages.Copying (Visiting 0)
-    else if phase % cycle_phases == sweep then stages.Sweeping 0
-    else if phase % cycle_phases == clearing then stages.Clearing 0 0
-    else stages.Advancing
+first_work phase = by_work phase (stages.Passing 0 false) (stages.Copying (Visiting 0)) (stages.Sweeping 0) (stages.Clearing 0 0) stages.Advancing
 
 -- the collector once every seat was seen to have answered
 abbrev pub after_last_look : Heap → Collector → Collector

@@ -3,9 +3,9 @@ use Rattle.std.specs.Prelude.{◌≡◌, ◌≢◌, ℕ, ◌<◌, List, [], leng
 use Rattle.heap_model.specs.declared.command.Command.{Command}
 use Rattle.heap_model.specs.declared.command.Command.TheVariants as commands
 use Rattle.core_machine.specs.declared.place.Polling.{Polling}
-use Rattle.core_machine.specs.declared.place.Polling.TheVariants.{Asking, Shading, Answering}
+use Rattle.core_machine.specs.declared.place.Polling.TheVariants as polling
 use Rattle.core_machine.specs.declared.place.Leaving.{Leaving}
-use Rattle.core_machine.specs.declared.place.Leaving.TheVariants.{Emptying, Parting}
+use Rattle.core_machine.specs.declared.place.Leaving.TheVariants as leaving
 use Rattle.core_machine.specs.declared.seat.register.Register.{Register}
 use Rattle.core_machine.specs.seat.Handshake.{roots}
 use Rattle.core_machine.specs.seat.Registers.{register_in, register_head}
@@ -24,8 +24,8 @@ IsLocal registers _ = ⊥
 
 -- the reserve is given back before the seat leaves
 abbrev pub FitsLeaving : Seat → Leaving → Type 0
-FitsLeaving seat Emptying = 0 < length seat.reserve
-FitsLeaving seat Parting = seat.reserve ≡ []
+FitsLeaving seat leaving.Emptying = 0 < length seat.reserve
+FitsLeaving seat leaving.Parting = seat.reserve ≡ []
 
 -- the command answers the phase: a poll, or a collect
 abbrev pub AnswersThePhase : Command → Type 0
@@ -53,6 +53,6 @@ SeatIsAnswering seat = IsNew seat.command seat.asked seat.answered
 
 -- what is true of the seat's data at each place of a poll
 abbrev pub FitsPolling : Seat → Polling → Type 0
-FitsPolling seat Asking = IsSilent seat × AnswersThePhase seat.command
-FitsPolling seat Shading = SeatIsAnswering seat × (seat.shaded < length (roots seat))
-FitsPolling seat Answering = SeatIsAnswering seat × (seat.shaded ≡ length (roots seat))
+FitsPolling seat polling.Asking = IsSilent seat × AnswersThePhase seat.command
+FitsPolling seat polling.Shading = SeatIsAnswering seat × (seat.shaded < length (roots seat))
+FitsPolling seat polling.Answering = SeatIsAnswering seat × (seat.shaded ≡ length (roots seat))

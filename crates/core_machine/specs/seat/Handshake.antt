@@ -6,9 +6,9 @@ use Rattle.heap_model.specs.declared.command.Command.TheVariants.{Collect}
 use Rattle.heap_model.specs.PhasePlan.{cycle_phases, marking}
 use Rattle.core_machine.specs.declared.place.Place.TheVariants as places
 use Rattle.core_machine.specs.declared.place.Polling.{Polling}
-use Rattle.core_machine.specs.declared.place.Polling.TheVariants.{Shading, Answering}
+use Rattle.core_machine.specs.declared.place.Polling.TheVariants as polling
 use Rattle.core_machine.specs.declared.place.Leaving.{Leaving}
-use Rattle.core_machine.specs.declared.place.Leaving.TheVariants.{Emptying, Parting}
+use Rattle.core_machine.specs.declared.place.Leaving.TheVariants as leaving
 use Rattle.core_machine.specs.declared.seat.register.Register.TheVariants.{Nil}
 use Rattle.core_machine.specs.seat.Registers.{heads_of}
 use Rattle.core_machine.specs.seat.Seat.{Seat, call_over, after_call}
@@ -19,7 +19,7 @@ roots seat = if seat.asked % cycle_phases == marking then heads_of seat.register
 
 -- the next root is shaded, or where none is left the answer is stored
 abbrev pub answer_place : Seat → Polling
-answer_place seat = if nat_lt seat.shaded (length (roots seat)) then Shading else Answering
+answer_place seat = if nat_lt seat.shaded (length (roots seat)) then polling.Shading else polling.Answering
 
 -- the seat at its next shade, or at its answer
 abbrev pub answer_next : Seat → Seat
@@ -44,12 +44,12 @@ after_answer seat = polling_over seat.command (record seat { answered = seat.ask
 
 -- a reserve is given back before the seat leaves
 abbrev pub leave_place : List ℕ → Leaving
-leave_place [] = Parting
-leave_place (fragment ∷ more) = Emptying
+leave_place [] = leaving.Parting
+leave_place (fragment ∷ more) = leaving.Emptying
 
 -- the reserve was given back
 abbrev pub after_emptying : Seat → Seat
-after_emptying seat = record seat { reserve = []; place = places.Leaving Parting }
+after_emptying seat = record seat { reserve = []; place = places.Leaving leaving.Parting }
 
 -- the seat has left
 abbrev pub after_leave : Seat → Seat

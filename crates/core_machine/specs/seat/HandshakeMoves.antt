@@ -6,9 +6,9 @@ use Rattle.heap_model.specs.declared.entry.Entry.{Entry}
 use Rattle.heap_model.specs.declared.entry.Entry.TheVariants.{Said, GivesBack, Answers}
 use Rattle.heap_model.specs.declared.reply.Reply.TheVariants.{Phase, Done}
 use Rattle.core_machine.specs.declared.place.Polling.{Polling}
-use Rattle.core_machine.specs.declared.place.Polling.TheVariants.{Asking, Shading, Answering}
+use Rattle.core_machine.specs.declared.place.Polling.TheVariants as polling
 use Rattle.core_machine.specs.declared.place.Leaving.{Leaving}
-use Rattle.core_machine.specs.declared.place.Leaving.TheVariants.{Emptying, Parting}
+use Rattle.core_machine.specs.declared.place.Leaving.TheVariants as leaving
 use Rattle.core_machine.specs.declared.step.Step.TheVariants as steps
 use Rattle.core_machine.specs.declared.step.MakingStep.TheVariants.{GiveBack}
 use Rattle.core_machine.specs.declared.step.AccessStep.TheVariants.{Shade}
@@ -50,9 +50,9 @@ answer_move number seat =
 
 -- the move at each place of a poll, and of the answer of a collect
 abbrev pub polling_move : ℕ → Seat → Polling → Move
-polling_move number seat Asking = poll_move number seat
-polling_move number seat Shading = root_move seat
-polling_move number seat Answering = answer_move number seat
+polling_move number seat polling.Asking = poll_move number seat
+polling_move number seat polling.Shading = root_move seat
+polling_move number seat polling.Answering = answer_move number seat
 
 -- the reserve is given back
 abbrev pub empty_move : ℕ → Seat → Move
@@ -67,5 +67,5 @@ leave_move number seat =
 
 -- the move at each place of a leave
 abbrev pub leaving_move : ℕ → Seat → Leaving → Move
-leaving_move number seat Emptying = empty_move number seat
-leaving_move number seat Parting = leave_move number seat
+leaving_move number seat leaving.Emptying = empty_move number seat
+leaving_move number seat leaving.Parting = leave_move number seat

@@ -1,6 +1,6 @@
 -- The marked and the scanned bits of the control words after a step.
 use Rattle.std.specs.Int.{bit_at}
-use Rattle.std.proofs.Common.{◌≡◌, ◌≢◌, ℕ, ◌+◌, ◌/◌, ◌%◌, ◌<◌, List, length, inl, inr, ◌∙◌, subst, arith}
+use Rattle.std.proofs.Common.{◌≡◌, ◌≢◌, ℕ, ◌/◌, ◌<◌, List, length, inl, inr, ◌∙◌, subst, arith}
 use Rattle.std.proofs.lemmas.Bool.Decides.{eqb_tells}
 use Rattle.core_rule.proofs.Terms.{marked_at, scanned_at, Heap, Control, at, put, table_length, Colour, Marks, marked_bit, scanned_bit}
 use Rattle.core_rule.proofs.words.Addresses.{control_same, control_other}

@@ -93,10 +93,6 @@ module _ (heap : Heap) (state : State) (book : Book) (rule : Rule heap state boo
   fits_copying : (state.collector.looked ≡ heap.seats) × (state.collector.phase % cycle_phases ≡ copying_phase) × FitsCopying heap from
   fits_copying = let fits = subst (FitsStage heap state.collector.phase state.collector.looked) was rule.machine.collector_fit.at_stage in (fits.0.all, fits.0.for_copying, fits.1)
 
-  -- all have answered
-  pub all_looked : state.collector.looked ≡ heap.seats
-  all_looked = fits_copying.0
-
   -- the phase is that of copying
   pub in_copying : state.collector.phase % cycle_phases ≡ copying_phase
   in_copying = fits_copying.1

@@ -72,6 +72,3 @@ module _ (heap : Heap) (words : List ℕ) (table : length words ≡ table_length
 
   pub leads_swung : (f source g : ℕ) → WordPointsTo heap words_swung f source g → WordPointsTo heap words f source g
   leads_swung f source g leads = record { within = leads.within; to = sym (sources_swung f source) ∙ leads.to }
-
-  pub swung_leads : (f source g : ℕ) → WordPointsTo heap words f source g → WordPointsTo heap words_swung f source g
-  swung_leads f source g leads = record { within = leads.within; to = sources_swung f source ∙ leads.to }

@@ -28,6 +28,3 @@ module _ (heap : Heap) (history : List Entry) (own : ℕ → ℕ) (has : (q : �
   counted_brought =
       let each : sum_upto heap.seats own ≤ sum_upto heap.seats (λ q. brings q history) = sum_le heap.seats own (λ q. brings q history) (λ q below. brings_unspent q (own q) history (has q below)) in
       omega (arith, each, sum_counted heap.seats (λ q. brings q history))
-
-  pub unborn_brought : sum_by own (range_with_len 0 heap.seats) ≤ all_bring heap history
-  unborn_brought = omega (arith, counted_brought, sum_counted heap.seats own)

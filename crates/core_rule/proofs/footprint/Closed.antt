@@ -80,15 +80,3 @@ module _ (heap : Heap) (history : List Entry) (begun : List Id) (legal : IsObjec
   -- and so is what a cell of what is inside holds
   pub cells_inside : (holder id : Id) → is_inside earlier begun holder ≡ true → Points now holder id → is_inside earlier begun id ≡ true
   cells_inside = closed_now.cells
-
-  -- what is reached now and was made then was reached then
-  pub both_begun : (id : Id) → IsMade earlier id → Reaches now id → Contains begun id
-  both_begun id made reached = (reach.reached id).1
-      (unreached_stays_so heap (up_to_cycle history) (since_cycle history) id legal_parts made (subst (λ h. Reaches (graph_of heap h) id) (sym (parts begins_cycle history)) reached))
-
-  -- so all that is reached now is inside
-  pub reached_inside : (id : Id) → Reaches now id → is_inside earlier begun id ≡ true
-  reached_inside id reached = elim (made_or_new earlier id) [
-    | inl made ↦ inside_begun earlier begun id (both_begun id made reached)
-    | inr unmade ↦ inside_new earlier begun id unmade
-  ]

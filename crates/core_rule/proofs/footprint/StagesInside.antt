@@ -36,9 +36,6 @@ module _ (heap : Heap) (state : State) (book : Book) (rule : Rule heap state boo
   abbrev pub Inside : Stage → Type 0
   Inside stage = StageStandsInside heap book.made cycle.begun inside book.owner cycle.most stage
 
-  abbrev g : Graph
-  g = graph_of heap book.history
-
   -- in the last phase all is inside that is kept, and nothing is to be freed
   begins_clearing : state.collector.phase % cycle_phases ≡ clearing_phase → ClearedWithin heap book.made cycle.begun book.owner cycle.most 0 0
   begins_clearing last =

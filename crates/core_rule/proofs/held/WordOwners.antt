@@ -104,9 +104,6 @@ module _ (heap : Heap) (state : State) (book : Book) (rule : Rule heap state boo
     here : number < heap.seats
     here = (borne_by_seat heap state book rule number f bears).0
 
-    in_hand : IsAmong seat.spine (spine_need seat) half offset → (IsArrayCall seat.command → HasPlace seat seat.place) → IsArrayCall seat.command → IsInHandOf state number half offset
-    in_hand among placed an_array = record { has = placed an_array; among = among }
-
     by_command : (command : Command) → seat.command ≡ command → MakesObject command → IsCommand command → (IsArrayCall command → HasPlace seat seat.place) → k < length seat.body
         → ((part : ℕ) → part < 4 → at heap state.words (Word f part) ≡ newborn_word command (next_name number seat) seat.spine seat.body k part) → IsInHandOf state number half offset
     by_command (commands.New d fields) is made range placed within stored =

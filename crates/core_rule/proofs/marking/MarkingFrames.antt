@@ -55,9 +55,6 @@ module _ (heap : Heap) (words now : List ℕ) (owner later : ℕ → Owner) (col
   same_colour : (f : ℕ) → born_bit (owner f) ≡ 1 → coloured f ≡ colour f
   same_colour f born = (leaves.born f born).1
 
-  not_white : (c : Colour) → c ≢ White → (f : ℕ) → colour f ≡ c → IsMarked colour f
-  not_white c some f is white = some (sym is ∙ white)
-
   grey_born : (f : ℕ) → colour f ≡ Grey → born_bit (owner f) ≡ 1
   grey_born f grey = marked_born f (λ white. absurd (cc (grey, white)))
 

@@ -4,28 +4,12 @@ use Rattle.heap_words.specs.declared.spot.Spot.{Spot}
 use Rattle.core_rule.proofs.Terms.{Heap, Id, Graph, tally, fragment_at, Holding, Objects, IsKept, Owner, Kept, IsBoards, OwnersStand}
 use Rattle.core_rule.proofs.hand.Bodies.{body_own}
 use Rattle.core_rule.proofs.owners.Handed.{none_or_some}
-use Rattle.core_rule.proofs.owners.OwnerLemmas.{IsOwn, boards_not_held, own_not_boards}
+use Rattle.core_rule.proofs.owners.OwnerLemmas.{IsOwn, own_not_boards}
 
 module _ (seats : ℕ) (owner : ℕ → Owner) (owners : OwnersStand seats owner) where
   -- a fragment that is part k of object number i is 0 where both are
   pub board_alone : (f i k : ℕ) → owner f ≡ Kept i k → f ≡ 0 → (i ≡ 0) × (k ≡ 0)
   board_alone f i k is first = subst IsBoards (sym (ap owner first) ∙ is) owners.board
-
-  -- what a seat has isn't fragment 0
-  pub own_not_zero : (number f : ℕ) → IsOwn number (owner f) → f ≢ 0
-  own_not_zero number f own first = own_not_boards number (owner f) own (subst IsBoards (sym (ap owner first)) owners.board)
-
-  -- which is in no reserve, no hand and no body
-  pub none_at_hand : (number : ℕ) (reserve hand body : List ℕ) → Holding owner number reserve hand body → (tally 0 reserve ≡ 0) × (tally 0 hand ≡ 0) × (tally 0 body ≡ 0)
-  none_at_hand number reserve hand body holding =
-      let none = boards_not_held number (owner 0) owners.board in (
-        omega (arith, holding.held 0, none),
-        omega (arith, holding.held 0, none),
-        elim (none_or_some (tally 0 body)) [
-          | inl away ↦ away
-          | inr there ↦ absurd (own_not_zero number 0 (body_own owner number reserve hand body holding 0 there) refl)
-        ],
-      )
 
   module _ (heap : Heap) (words : List ℕ) (g : Graph) (made : List Id) (fragments : ℕ → List ℕ) {spines : ℕ → Spot} (objects : Objects heap words g made owner fragments spines) where
     -- no fragment of a kept object behind its first is 0
@@ -33,7 +17,3 @@ module _ (seats : ℕ) (owner : ℕ → Owner) (owners : OwnersStand seats owner
     chain_not_zero i k below kept within later first =
         let both = board_alone (fragment_at (fragments i) k) i k ((objects.kept i below kept).owned k within) first in
         omega (arith, later, both.1)
-
-    -- and so no other object begins with it
-    pub head_not_zero : (i : ℕ) → IsKept owner fragments i → i ≢ 0 → fragment_at (fragments i) 0 ≢ 0
-    head_not_zero i kept other first = other (board_alone (fragment_at (fragments i) 0) i 0 kept first).0

@@ -73,13 +73,6 @@ own_keeps_none number i k o own e = let none : holds_bit number o + bears_bit nu
 pub own_undead : (number i k : ℕ) (o : Owner) → IsOwn number o → o ≢ Dead i k
 own_undead number i k o own is = let none : holds_bit number o + bears_bit number o ≡ 0 = ap (λ x. holds_bit number x + bears_bit number x) is in omega arith
 
--- the board's first part is no seat's
-pub boards_not_held : (number : ℕ) (o : Owner) → IsBoards o → holds_bit number o ≡ 0
-boards_not_held number Free boards = refl
-boards_not_held number (Kept i k) boards = refl
-boards_not_held number (Dead i k) boards = refl
-boards_not_held number _ boards = absurd boards
-
 pub own_not_boards : (number : ℕ) (o : Owner) → IsOwn number o → ¬ IsBoards o
 own_not_boards number Free own boards = omega (arith, own)
 own_not_boards number (Kept i k) own boards = omega (arith, own)

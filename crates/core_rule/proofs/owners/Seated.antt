@@ -13,13 +13,6 @@ borne_in_body owner number f reserve hand (x ∷ body) holding bears =
     omega (arith, body_borne owner number reserve hand (x ∷ body) holding (omega arith) f, one)
 
 module _ (heap : Heap) (state : State) (book : Book) (rule : Rule heap state book) (number f : ℕ) where
-  -- a held fragment is in the reserve or the hand of one of the heap's seats
-  pub held_by_seat : book.owner f ≡ Taken number → (number < heap.seats) × (1 ≤ tally f (seat_at state number).reserve + tally f (seat_at state number).hand)
-  held_by_seat holds =
-      let here : number < heap.seats = subst (IsSeated heap.seats) holds (rule.heap_stands.owners.seated f) in
-      let one : holds_bit number (book.owner f) ≡ 1 = ap (holds_bit number) holds ∙ one_at_same number number refl in
-      (here, omega (arith, (rule.seats_stand number here).own.holding.held f, one))
-
   -- a borne one is of the object that such a seat makes
   pub borne_by_seat : book.owner f ≡ Borne number → (number < heap.seats) × (1 ≤ tally f (seat_at state number).body)
   borne_by_seat bears =

@@ -13,9 +13,6 @@ use Rattle.core_rule.proofs.words.Addresses.{at-put_apart, spine_other}
 placed_apart : (o : SpineOwner) (number r j k : ℕ) → o ≡ Placed number j → o ≡ Placed r k → r ≡ number
 placed_apart o number r j k here there = cc
 
-placed_once : (o : SpineOwner) (number j k : ℕ) → o ≡ Placed number j → o ≡ Placed number k → k ≡ j
-placed_once o number j k here there = cc
-
 placed_unspined : (o : SpineOwner) (number j i k : ℕ) → o ≡ Placed number j → o ≢ Spined i k
 placed_unspined o number j i k here there = absurd (cc (here, there))
 

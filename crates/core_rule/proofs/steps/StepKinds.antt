@@ -1,7 +1,7 @@
 -- All that is asked of a kind of step of a seat, in one record for its place.
 use Rattle.std.specs.Int.{bit_at}
 use Rattle.std.specs.Prelude.{IfSome, option_map}
-use Rattle.std.proofs.Common.{◌≡◌, ◌≢◌, ℕ, ◌+◌, ◌*◌, ◌-◌, ◌%◌, ◌<◌, ◌≤◌, ◌⊎◌, List, Option, Some, sym, ◌∙◌, subst, arith, [], ◌∷◌, ap}
+use Rattle.std.proofs.Common.{◌≡◌, ◌≢◌, ℕ, ◌+◌, ◌*◌, ◌-◌, ◌<◌, ◌≤◌, ◌⊎◌, List, Option, Some, sym, ◌∙◌, subst, arith, [], ◌∷◌, ap}
 use Rattle.core_rule.proofs.Terms.{born_at, Heap, last_answer, Listing, Place, State, seat_at, state_after_due, entries_shown, found_by, IsMachine, Move, move_at, seat_after_due}
 use Rattle.core_rule.proofs.Terms.{Said, Reply, Seat, InTable, HasWord, address_of, Book, HasBirthColour, IsBorn, Rule}
 use Rattle.core_machine.specs.declared.place.Access.TheVariants.{Naming}

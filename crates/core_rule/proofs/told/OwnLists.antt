@@ -20,9 +20,6 @@ pub total_of-filter : (number : ℕ) (part : Effect → ℕ) (history : List Ent
 total_of-filter number part [] = refl
 total_of-filter number part (entry ∷ history) = by (is_of number entry) refl (total_of-filter number part history)
   where
-    counted : Entry → ℕ
-    counted e = cond (is_of number e) (part (effect_of e)) 0
-
     by : (own : Bool) → is_of number entry ≡ own → total_of number part (filter (is_of number) history) ≡ total_of number part history
         → total_of number part (cond own (entry ∷ filter (is_of number) history) (filter (is_of number) history)) ≡ total_of number part (entry ∷ history)
     by true own same =

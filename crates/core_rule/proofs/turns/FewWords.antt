@@ -15,10 +15,3 @@ few_at scan part few = scan_cases IsFewWords scan part tt (λ behind. omega (ari
 -- a scan of a spine makes two steps before its first word, and two for each one
 pub few_spine : (s : SpineScan) → s.words ≤ 1024 → s.index ≤ s.words → s.scan.steps ≡ 2 + 2 * s.index → IsFewWords (spine_scan_at s)
 few_spine s few below made = spine_cases IsFewWords s (λ more. few) (λ done. omega (arith, made, below, few))
-
--- an array's first word leads to few spine words where it tells no more cells than an array has
-pub few_loaded : (scan : Scan) (length : Option ℕ) (next : ℕ) (target : Option ℕ) → scan.steps ≤ 6 → IfSome length (λ cells. cells ≤ 4096)
-    → IsFewWords (after_first_load scan length next target)
-few_loaded scan None next None few told = few_at (scan_step scan) next (omega (arith, few))
-few_loaded scan None next (Some target) few told = tt
-few_loaded scan (Some cells) next target few told = omega (arith, told)

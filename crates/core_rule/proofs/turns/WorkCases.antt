@@ -1,10 +1,11 @@
 -- What a phase is for, and the most turns of that; and where copying goes on.
 use Rattle.std.specs.Prelude.{if◌then◌else◌, nat_lt}
-use Rattle.std.proofs.Common.{◌≡◌, ◌≢◌, ℕ, ◌+◌, ◌*◌, ◌%◌, ◌==◌, Bool, true, false, Option, Some, None, inl, inr}
-use Rattle.std.proofs.lemmas.Bool.Decides.{eqb_tells}
+use Rattle.std.proofs.Common.{◌≡◌, ℕ, ◌+◌, ◌*◌, ◌%◌, ◌==◌, Bool, true, false, Option, Some, None}
 use Rattle.core_rule.proofs.Terms.{cycle_phases, Heap, first_work, Stage}
 use Rattle.heap_model.specs.PhasePlan.{marking as marking_phase, copying as copying_phase, sweep as sweep_phase, clearing as clearing_phase}
 use Rattle.heap_words.specs.declared.spot.Spot.{Spot}
+use Rattle.core_machine.specs.collector.Collector.{IsForNothing}
+use Rattle.core_machine.proofs.collector_lemmas.Works.{work_cases}
 use Rattle.core_machine.specs.collector.Copying.{left_half, after_visited, after_seen, visit_on, after_inspected, after_located, copy_at}
 use Rattle.core_machine.specs.declared.collector.stage.ArrayAt.{ArrayAt}
 use Rattle.core_machine.specs.declared.collector.stage.Copying.{Copying}
@@ -14,45 +15,12 @@ use Rattle.core_machine.specs.declared.collector.stage.Stage.TheVariants as stag
 use Rattle.core_machine.specs.declared.collector.stage.Visit.{Visit}
 use Rattle.core_rule.specs.turns.TurnsLeft.{fragment_most, visit_most, sweep_most, work_most}
 
--- the phase is for nothing
-pub record IsForNothing (phase : ℕ) : Type 0 where
-  pub unmarked : phase % cycle_phases ≢ marking_phase
-  pub uncopied : phase % cycle_phases ≢ copying_phase
-  pub unswept : phase % cycle_phases ≢ sweep_phase
-  pub uncleared : phase % cycle_phases ≢ clearing_phase
-
-module _ (P : Stage → ℕ → Type 0) (groups phase : ℕ) where
-  -- a phase that is for nothing begins as phase 0 does
-  abbrev ForNothing : Type 0
-  ForNothing = P (first_work 0) (work_most groups 0)
-
-  -- it sweeps, clears marks, or does nothing
-  late_work : (phase % cycle_phases ≡ sweep_phase → P (stages.Sweeping 0) (sweep_most * groups)) → (phase % cycle_phases ≡ clearing_phase → P (stages.Clearing 0 0) groups) → (phase % cycle_phases ≢ sweep_phase → phase % cycle_phases ≢ clearing_phase → ForNothing)
-      → P (if phase % cycle_phases == sweep_phase then stages.Sweeping 0 else if phase % cycle_phases == clearing_phase then stages.Clearing 0 0 else first_work 0)
-      (if phase % cycle_phases == sweep_phase then sweep_most * groups else if phase % cycle_phases == clearing_phase then groups else work_most groups 0)
-  late_work sweeps clears none = elim (eqb_tells (phase % cycle_phases) sweep_phase) as (λ _. P (if phase % cycle_phases == sweep_phase then stages.Sweeping 0 else if phase % cycle_phases == clearing_phase then stages.Clearing 0 0 else first_work 0)
-      (if phase % cycle_phases == sweep_phase then sweep_most * groups else if phase % cycle_phases == clearing_phase then groups else work_most groups 0)) [
-        | inl fifth ↦ rw fifth.0 (sweeps fifth.1)
-        | inr unswept ↦ rw unswept.0 (elim (eqb_tells (phase % cycle_phases) clearing_phase) as (λ _. P (if phase % cycle_phases == clearing_phase then stages.Clearing 0 0 else first_work 0) (if phase % cycle_phases == clearing_phase then groups else work_most groups 0)) [
-          | inl last ↦ rw last.0 (clears last.1)
-          | inr other ↦ rw other.0 (none unswept.1 other.1)
-        ])
-      ]
-
-  -- it marks, copies, or does what comes later
-  pub work_either : (phase % cycle_phases ≡ marking_phase → P (stages.Passing 0 false) (16 * groups * fragment_most groups + groups + 1)) → (phase % cycle_phases ≡ copying_phase → P (stages.Copying (copying.Visiting 0)) (visit_most * groups))
-      → (phase % cycle_phases ≡ sweep_phase → P (stages.Sweeping 0) (sweep_most * groups)) → (phase % cycle_phases ≡ clearing_phase → P (stages.Clearing 0 0) groups) → (IsForNothing phase → ForNothing)
-      → P (first_work phase) (work_most groups phase)
-  work_either marks copies sweeps clears none = elim (eqb_tells (phase % cycle_phases) marking_phase) as (λ _. P (first_work phase) (work_most groups phase)) [
-    | inl third ↦ rw third.0 (marks third.1)
-    | inr unmarked ↦ rw unmarked.0 (elim (eqb_tells (phase % cycle_phases) copying_phase) as (λ _.
-        P (if phase % cycle_phases == copying_phase then stages.Copying (copying.Visiting 0) else if phase % cycle_phases == sweep_phase then stages.Sweeping 0 else if phase % cycle_phases == clearing_phase then stages.Clearing 0 0 else first_work 0)
-        (if phase % cycle_phases == copying_phase then visit_most * groups else if phase % cycle_phases == sweep_phase then sweep_most * groups else if phase % cycle_phases == clearing_phase then groups else work_most groups 0)) [
-          | inl fourth ↦ rw fourth.0 (copies fourth.1)
-          | inr uncopied ↦ rw uncopied.0 (late_work sweeps clears
-              (λ unswept uncleared. none record { unmarked = unmarked.1; uncopied = uncopied.1; unswept = unswept; uncleared = uncleared }))
-        ])
-  ]
+-- it marks, copies, sweeps, clears marks, or does nothing; a phase that is for nothing begins as phase 0 does
+pub work_either : (P : Stage → ℕ → Type 0) (groups phase : ℕ) → (phase % cycle_phases ≡ marking_phase → P (stages.Passing 0 false) (16 * groups * fragment_most groups + groups + 1))
+    → (phase % cycle_phases ≡ copying_phase → P (stages.Copying (copying.Visiting 0)) (visit_most * groups)) → (phase % cycle_phases ≡ sweep_phase → P (stages.Sweeping 0) (sweep_most * groups))
+    → (phase % cycle_phases ≡ clearing_phase → P (stages.Clearing 0 0) groups) → (IsForNothing phase → P (first_work 0) (work_most groups 0)) → P (first_work phase) (work_most groups phase)
+work_either P groups phase = work_cases P phase (stages.Passing 0 false) (stages.Copying (copying.Visiting 0)) (stages.Sweeping 0) (stages.Clearing 0 0) (first_work 0)
+    (16 * groups * fragment_most groups + groups + 1) (visit_most * groups) (sweep_most * groups) groups (work_most groups 0)
 
 module _ (P : Stage → Type 0) (each : (stage : Copying) → P (stages.Copying stage)) (done : P stages.Advancing) (heap : Heap) where
   -- copying goes on with copying, or the next phase begins

@@ -57,10 +57,6 @@ module _ (heap : Heap) (words : List ℕ) (g : Graph) (made : List Id) (owner : 
     the_object : KeptObject heap words owner (object_head made fragments) index (id_at made index) object (fragments index) (spines index)
     the_object = objects.kept index below kept
 
-    -- it has as many fragments as the graph says
-    pub size_of : length (fragments index) ≡ fragments_at g (id_at made index)
-    size_of = the_object.whole ∙ made_size _ (ids.in_graph index below)
-
     few : (1 ≤ length object.cells) × (length object.cells ≤ 4096)
     few = sized_few object.array (length object.cells) the_object.sized
 

@@ -9,19 +9,12 @@ use Rattle.core_rule.proofs.graph.SameNodes.{node_cases}
 pub field_back : (i : ℕ) → 3 * row_of i + part_of i - 2 ≡ i
 field_back i = omega arith
 
-pub part_within : (i : ℕ) → part_of i < 4
-part_within i = omega arith
-
 -- a cell stands there
 pub cell_there : (i : ℕ) → is_cell (row_of i) (part_of i) ≡ true
 cell_there i = elim (eqb_tells (row_of i) 0) as (λ _. is_cell (row_of i) (part_of i) ≡ true) [
   | inl head ↦ rw (head.0, lt-ltb 1 (part_of i) (omega (arith, head.1))) refl
   | inr other ↦ rw (other.0, lt-ltb 0 (part_of i) (omega arith)) refl
 ]
-
--- the record has that row
-pub row_within : (i length : ℕ) → i < length → row_of i < record_fragments length
-row_within i length within = omega (arith, within)
 
 -- the cell of a row behind the first and a part
 pub cell_back : (i : ℕ) → 4 * (i / 4 + 1 - 1) + i % 4 ≡ i

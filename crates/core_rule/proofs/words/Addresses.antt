@@ -55,10 +55,3 @@ module _ (heap : Heap) (words : List ℕ) (n : ℕ) where
   pub spine_other : (half offset half' offset' : ℕ) → half < 2 → half' < 2 → (half' ≡ half → offset' ≡ offset → ⊥)
       → at heap (put heap words (Spine half offset) n) (Spine half' offset') ≡ at heap words (Spine half' offset')
   spine_other half offset half' offset' here there apart = at-put_other heap words (Spine half offset) (Spine half' offset') n here there (λ e. apart (cc (e)) (cc (e)))
-
-  -- and all words of fragments, and the control words
-  pub word_after_spine : (half offset f j : ℕ) → f < 16 * heap.groups → j < 4 → at heap (put heap words (Spine half offset) n) (Word f j) ≡ at heap words (Word f j)
-  word_after_spine half offset f j below part = at-put_apart heap words (Spine half offset) (Word f j) n (λ e. omega (arith, e, below, part))
-
-  pub control_after_spine : (half offset g : ℕ) → g < heap.groups → at heap (put heap words (Spine half offset) n) (Control g) ≡ at heap words (Control g)
-  control_after_spine half offset g below = at-put_apart heap words (Spine half offset) (Control g) n (λ e. omega (arith, e, below))

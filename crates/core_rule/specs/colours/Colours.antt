@@ -1,5 +1,5 @@
 -- The colours of fragments: their bits in the control words, and what is true of them in each phase of a cycle.
-use Rattle.std.specs.Prelude.{◌≡◌, ◌≢◌, ℕ, ◌+◌, ◌*◌, ◌%◌, ◌<◌, ◌≤◌, List, Some}
+use Rattle.std.specs.Prelude.{◌≡◌, ◌≢◌, ℕ, ◌*◌, ◌%◌, ◌<◌, ◌≤◌, List, Some}
 use Rattle.std.specs.Int.{bit_at}
 use Rattle.heap_words.specs.Control.{marked_at, scanned_at}
 use Rattle.heap_model.specs.declared.heap.Heap.{Heap}

@@ -1,12 +1,12 @@
 -- How many turns the collector makes at most up to the end of its cycle, where no seat makes a step between and it waits for none.
-use Rattle.std.specs.Prelude.{◌≡◌, ℕ, ◌+◌, ◌-◌, ◌*◌, ◌/◌, ◌%◌, ◌<◌, ◌==◌, Bool, if◌then◌else◌, List}
+use Rattle.std.specs.Prelude.{◌≡◌, ℕ, ◌+◌, ◌-◌, ◌*◌, ◌/◌, ◌%◌, ◌<◌, Bool, if◌then◌else◌, List}
 use Rattle.std.specs.Int.{bit_at}
 use Rattle.heap_words.specs.Control.{scanned_at}
 use Rattle.heap_model.specs.declared.calls.collector_calls.Turn.TheVariants.{Stepped}
 use Rattle.heap_model.specs.declared.heap.Heap.{Heap}
 use Rattle.heap_model.specs.Limits.{group_fragments}
-use Rattle.heap_model.specs.PhasePlan.{cycle_phases, marking, copying as copying_phase, sweep, clearing}
-use Rattle.core_machine.specs.collector.Collector.{next_turn}
+use Rattle.heap_model.specs.PhasePlan.{cycle_phases, clearing}
+use Rattle.core_machine.specs.collector.Collector.{by_work, next_turn}
 use Rattle.core_machine.specs.declared.collector.stage.Copying.{Copying}
 use Rattle.core_machine.specs.declared.collector.stage.Copying.TheVariants as copying
 use Rattle.core_machine.specs.declared.collector.stage.Scan.{Scan}
@@ -73,12 +73,7 @@ sweep_most = 19
 
 -- the most turns of a phase's work: of marking with the flip, of copying, of the sweep, of the clearing; in the others none
 abbrev pub work_most : ℕ → ℕ → ℕ
-work_most groups phase =
-    if phase % cycle_phases == marking then group_fragments * groups * fragment_most groups + groups + 1
-    else if phase % cycle_phases == copying_phase then visit_most * groups
-    else if phase % cycle_phases == sweep then sweep_most * groups
-    else if phase % cycle_phases == clearing then groups
-    else 0
+work_most groups phase = by_work phase (group_fragments * groups * fragment_most groups + groups + 1) (visit_most * groups) (sweep_most * groups) groups 0
 
 -- how many turns are left before the one with which the next phase begins or the cycle ends
 abbrev pub stage_left : Heap → List ℕ → ℕ → ℕ → Stage → ℕ

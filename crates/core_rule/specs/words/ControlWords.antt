@@ -1,5 +1,5 @@
 -- A fragment's bits in its group's control word. The taken and the born ones are those of its owner.
-use Rattle.std.specs.Prelude.{◌≡◌, ℕ, ◌+◌, ◌*◌, ◌/◌, ◌%◌, ◌<◌, ◌≤◌, List}
+use Rattle.std.specs.Prelude.{◌≡◌, ℕ, ◌*◌, ◌/◌, ◌<◌, ◌≤◌, List}
 use Rattle.std.specs.Int.{bit_at}
 use Rattle.heap_words.specs.Control.{born_at, marked_at, taken_at}
 use Rattle.heap_model.specs.declared.heap.Heap.{Heap}

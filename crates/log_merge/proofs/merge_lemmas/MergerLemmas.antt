@@ -68,12 +68,6 @@ stuck_by_gets logs m number x merging within next waits entry is ready =
     not_ready m.heap logs m.placed.items merging.rest number x some.0 merging.completion (number_there logs m number merging within) next
     (ap (λ g. replaced_by g x) (sym merging.graph) ∙ some.1) (let all = merging.pending some.0 in let more = some.2 in omega (arith, all, more)) here
 
--- so is an entry that the graph refuses
-pub stuck_by_graph : (logs : List (List Entry)) (m : Merger) (number : ℕ) (x : Entry) → IsMerging logs m → IsNext m.heap logs m.placed.items number x → (Accepts m.graph x → ⊥) → IsStuck logs m number
-stuck_by_graph logs m number x merging next refused entry is ready =
-    let same = same_next m.heap logs m.placed.items number entry x is next in
-    refused (subst (λ g. Accepts g x) (sym merging.graph) (subst (Accepts (graph_of m.heap m.placed.items)) same ready.accepted))
-
 -- an entry that neither stops is ready
 pub ready_next : (logs : List (List Entry)) (m : Merger) (number : ℕ) (x : Entry) → IsMerging logs m → Accepts m.graph x
     → (Accepts m.graph x → ForSome (replaced_by m.graph x) (λ get. 0 < pending_count m.pending get → ⊥)) → IsReady m.heap logs m.placed.items number x

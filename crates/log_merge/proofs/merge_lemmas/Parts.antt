@@ -89,10 +89,6 @@ part_of-collector heap number es past = filter_agree (is_in_log heap number) is_
 pub part_of-append : (heap : Heap) (number : ℕ) (one other : List Entry) → part_of heap number (one ++ other) ≡ part_of heap number one ++ part_of heap number other
 part_of-append heap number one other = filter-append (is_in_log heap number) one other
 
--- the logs of a history, one by one
-seat_logs : Heap → List Entry → List (List Entry)
-seat_logs heap history = map (λ number. filter (is_of number) history) (range_with_len 0 heap.seats)
-
 pub length-logs_of : (heap : Heap) (history : List Entry) → length (logs_of heap history) ≡ heap.seats + 1
 length-logs_of heap history =
     omega (arith, length-append (map (λ number. filter (is_of number) history) (range_with_len 0 heap.seats)) (filter is_collectors history ∷ []), length-map-range_with_len (λ number. filter (is_of number) history) 0 heap.seats)

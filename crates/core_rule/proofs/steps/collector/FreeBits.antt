@@ -1,6 +1,6 @@
 -- A free clears the taken bits of fragments that are to be freed alone, and bears nothing.
 use Rattle.std.specs.Int.{bit_at}
-use Rattle.std.proofs.Common.{◌≡◌, ◌≢◌, ℕ, ◌+◌, ◌*◌, ◌/◌, ◌%◌, ◌<◌, List, inl, inr, sym, ap, ◌∙◌, subst, arith, bit_and}
+use Rattle.std.proofs.Common.{◌≡◌, ◌≢◌, ℕ, ◌*◌, ◌/◌, ◌%◌, ◌<◌, List, inl, inr, sym, ap, ◌∙◌, subst, arith, bit_and}
 use Rattle.std.proofs.lemmas.Bool.Decides.{eqb_tells}
 use Rattle.std.proofs.lemmas.Nat.Bits.{bit_at-lt, bit_at_and}
 use Rattle.core_rule.proofs.Terms.{born_at, taken_at, Heap, IsFreeing, Control, State, at, put, Book, IsTaken, IsBorn, control_of, dead_bit, Rule, SweepStands, AreDead}

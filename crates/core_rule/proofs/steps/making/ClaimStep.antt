@@ -1,7 +1,7 @@
 -- A claim keeps the rule.
 use Rattle.core_rule.proofs.objects.BoardKept.{board_kept}
 use Rattle.std.specs.Int.{bit_at}
-use Rattle.std.proofs.Common.{◌≡◌, ◌≢◌, ℕ, ◌+◌, ◌*◌, ◌/◌, ◌%◌, ◌<◌, ◌≤◌, List, [], ◌++◌, length, drop, bit_or, refl, sym, ap, ◌∙◌, subst, arith}
+use Rattle.std.proofs.Common.{◌≡◌, ◌≢◌, ℕ, ◌+◌, ◌*◌, ◌/◌, ◌<◌, ◌≤◌, List, [], ◌++◌, length, drop, bit_or, refl, sym, ap, ◌∙◌, subst, arith}
 use Rattle.std.proofs.lemmas.List.{length-append}
 use Rattle.core_rule.proofs.Terms.{taken_at, Entry, Heap, graph_of, graph_seat, phase, last_answer, has_left, Graph, Node, Control, Gathering, target_of, SeatIsGathering, clear_in}
 use Rattle.core_rule.proofs.Terms.{tally, at, put, table_length, seat_at, next_group_of, after_claim, claim_move, takes_some, all_taken, Seat, spine_need, Bits, AreUsed}
