@@ -31,11 +31,6 @@ cause_of : (patience target enough : ℕ) (old first found : SeatHeld) (reply : 
 cause_of patience target enough old first found (Cycle cycle) may is behind such = record { behind = omega (arith, may.0, behind); first_such = omega (arith, may.0, such); ended = may.1.1 }
 cause_of patience target enough old first found (Waits other answered phase) may is behind such = (patient_enough patience old.seat.looks.waits found.seat.looks.waits enough is may.0, may.1)
 
--- what the seat may answer it may note
-pub may_note : (target enough : ℕ) (looks : Looks) (reply : CollectReply) → MayAnswer target enough looks reply → MayNote looks reply
-may_note target enough looks (Cycle cycle) may = may.1
-may_note target enough looks (Waits other answered phase) may = may.1
-
 -- the reply is told behind the answers
 told_then : (old set new answers : List Entry) (number other : ℕ) (reply : Reply) → set ≡ old ++ answers → other ≡ number → new ≡ set ++ Said other Collect reply ∷ []
     → new ≡ old ++ (answers ++ Said number Collect reply ∷ [])

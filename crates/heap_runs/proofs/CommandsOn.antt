@@ -31,11 +31,6 @@ use Rattle.heap_runs.specs.SeatWork.{IsOfScript, objects_of, sets_of, MayWork, M
 use Rattle.heap_runs.proofs.LooksOn.{around_room, same_graph_seat, same_present}
 use Rattle.heap_runs.proofs.SeatTells.{one_collected}
 
--- every command but a collect is served
-pub served_once : (command : Command) → command ≢ commands.Collect → IsServed command
-served_once commands.Collect once = absurd (once refl)
-served_once _ once = tt
-
 -- replies are paid by the finds of their time
 none_paid : (patience before now : ℕ) → before ≤ now → IsPaidSince patience 0 before now
 none_paid patience before now on = let none : patience * 0 ≡ 0 = grind arith in inl (omega (arith, none, on))
@@ -131,9 +126,6 @@ collect_goes patience old new reply answers present =
 room_goes : (patience : ℕ) (old new : SeatHeld) → MakesRoom old new → IsPresent old → GoesOn patience old new []
 room_goes patience old new room present = same_goes patience old new [] (room_made patience old new room) (same_graph_seat old new (around_room old new room).same) present
 
-pub none_goes : (patience : ℕ) (held : SeatHeld) → IsPresent held → GoesOn patience held held []
-none_goes patience held present = room_goes patience held held refl present
-
 -- a whole call that is no leave goes on too
 call_goes : EachCallCounts → (patience : ℕ) (old new : SeatHeld) (command : Command) (reply : Reply) → command ≢ commands.Collect → command ≢ commands.Leave → MakesCall old new command reply → IsPresent old
     → GoesOn patience old new (command ∷ [])
@@ -178,40 +170,9 @@ ready_next old ready command may room enough =
       numbered = number_same old ready command (same_graph_seat old ready same) may.numbered;
     }
 
--- a name and a stamp are left for the next command
-number_left : (held : SeatHeld) (command : Command) → objects_of held + 1 < name_limit → sets_of held + 1 < stamp_limit → HasNumber (seat_state held) command
-number_left held (commands.New d fields) names stamps = names
-number_left held (commands.Array d cells) names stamps = names
-number_left held (commands.Set r i v) names stamps = stamps
-number_left held _ names stamps = tt
-
-pub may_next : (patience : ℕ) (old now : SeatHeld) (script : List Command) (place : ℕ) (command : Command) → MayWork old script → GoesOn patience old now (take place script) → place < length script → command ≡ slice_index_or script place command
-    → MayMakeNext now command
-may_next patience old now script place command may goes within is =
-    let made : length (take place script) ≡ place = length-take-le place script (omega arith) in
-    record {
-      present = goes.present;
-      of_script = subst IsOfScript (sym is) (may.each place command within);
-      numbered = number_left now command (omega (arith, goes.objects, may.names, made, within)) (omega (arith, goes.sets, may.stamps, made, within));
-    }
-
 -- one command more
 pub goes_more : (patience : ℕ) (old now new : SeatHeld) (script : List Command) (place : ℕ) (command other : Command) → place < length script → command ≡ slice_index_or script place other → GoesOn patience old now (take place script)
     → GoesOn patience now new (command ∷ []) → GoesOn patience old new (take (place + 1) script)
 goes_more patience old now new script place command other within is one more =
     let further : take (place + 1) script ≡ take place script ++ command ∷ [] = take_more script place other within ∙ ap (λ (c : Command). take place script ++ c ∷ []) (sym is) in
     subst (GoesOn patience old new) (sym further) (goes_then patience old now new (take place script) (command ∷ []) one more)
-
--- at the end of the script the seat leaves
-pub worked : (patience : ℕ) (old now ready new : SeatHeld) (script : List Command) (place : ℕ) → length script ≤ place → GoesOn patience old now (take place script) → (reply : Reply) → MakesRoom now ready → MakesCall ready new commands.Leave reply
-    → HasWorked patience old script new
-worked patience old now ready new script place over goes reply room called =
-    let call : MakesCall ready new commands.Leave Done = is_done ready new commands.Leave reply tt called in
-    let whole : take place script ≡ script = take_all place script over in
-    let all : HasMade patience old now script = subst (HasMade patience old now) whole goes.made in
-    let leave : HasMade patience now new (commands.Leave ∷ []) =
-    made_then patience now ready new [] (commands.Leave ∷ []) (room_made patience now ready room) (call_made patience ready new commands.Leave Done (λ same. cc same) call) in
-    record {
-      made = made_then patience old now new script (commands.Leave ∷ []) all leave;
-      left = ap (λ (k : Kept). k.left) call.stands;
-    }

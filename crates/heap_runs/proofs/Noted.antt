@@ -42,17 +42,6 @@ can_begin : (whole : Recorded) (number : ℕ) (inner : Inner) → IsStillThere w
     → MayMake whole.machine.heap number (seat_at whole.machine.state number).looks inner → Can whole.machine.heap whole.machine.state (BeginsInner number inner)
 can_begin whole number inner present between makes = (present.within, record { idle = between.all_idle number present.within; present = present.there; makes = makes })
 
--- it may look, and see what its turns came to
-pub may_look : (whole : Recorded) (number : ℕ) → IsStillThere whole number → IsBetweenCalls whole.machine.heap whole.machine.state whole.history → MayGoOn whole number inners.Look
-may_look whole number present between =
-    record { can = can_begin whole number inners.Look present between tt; now = tt }
-
-pub may_see : (whole : Recorded) (number : ℕ) (reply : CollectReply) → IsStillThere whole number → IsBetweenCalls whole.machine.heap whole.machine.state whole.history → LastTurnIs whole number reply
-    → MayGoOn whole number (seen_by reply)
-may_see whole number (replies.Cycle cycle) present between comes = may_look whole number present between
-may_see whole number (replies.Waits other answer p) present between comes =
-    record { can = can_begin whole number (inners.Behind other) present between (comes.2, comes.0); now = tt }
-
 -- the first look found no phase later than the one now
 first_now : (history : List Entry) (number found : ℕ) (first : Option ℕ) → IfSome first (WasSeen history number) → found ≡ phase history → FirstUpTo (first_of first found) (phase history)
 first_now history number found None seen is = omega (arith, is)
@@ -111,15 +100,6 @@ module _ (old new : Recorded) (number p : ℕ) (one : StandsFor old.machine.heap
           here = word_is new.machine.heap new.machine.state new.history two ∙ later.here;
         };
       }
-
--- where no cycle was under way the one that ended is the first from there
-pub whole_at_rest : (old new : Recorded) (number : ℕ) (reply : CollectReply) → EndsFor old new number reply → phase old.history % cycle_phases ≡ 0 → EndsWholeFor old new number reply
-whole_at_rest old new number reply ended at_rest =
-    record { ends = ended.ends; first = λ cycle is. let way = ended.under_way cycle is in (omega (arith, at_rest, way.1), omega (arith, way.0)) }
-
--- nothing ended where a seat is waited for
-pub whole_waiting : (old new : Recorded) (number other answer p : ℕ) → EndsFor old new number (replies.Waits other answer p) → EndsWholeFor old new number (replies.Waits other answer p)
-whole_waiting old new number other answer p ended = record { ends = ended.ends; first = λ cycle is. absurd (cc is) }
 
 -- behind the end of a cycle that was under way a whole one is made
 pub whole_behind : (old now new : Recorded) (number first : ℕ) (reply : CollectReply) → phase old.history % cycle_phases ≢ 0 → EndsFor old now number (replies.Cycle first) → EndsFor now new number reply → EndsWholeFor old new number reply

@@ -33,10 +33,6 @@ rightly_more heap before [] behind right more = subst (λ es. AllAnswerRightly h
 rightly_more heap before (entry ∷ front) behind right more =
     (right.0, rightly_more heap (before ++ entry ∷ []) front behind right.1 (subst (λ es. AllAnswerRightly heap es behind) (sym (append_assoc before (entry ∷ []) front)) more))
 
--- no answers yet
-pub notes_none : (whole : Recorded) → whole.history ≡ [] → whole.listed ≡ [] → NotesRightly whole
-notes_none whole none none_listed = record { same = ap without_turned none_listed ∙ sym none; right = rw none_listed tt }
-
 module _ (old new : Recorded) (notes : NotesRightly old) where
   notes_more : (added : List Entry) → new.machine.heap ≡ old.machine.heap → new.history ≡ old.history ++ added → new.listed ≡ old.listed ++ added → AreOfHeap added → NotesRightly new
   notes_more added heap noted listed plain = record {

@@ -55,16 +55,6 @@ module _ (table : TableId) (heap : Heap) (before : List Entry) where
     own = ap (λ (v : CollectorValue). list_all is_of_heap (drop (length before) v.holder.known.collector.log)) room ∙ run.own;
   }
 
-  pub run_turn : (old new : CollectorValue) (turn : Turn) → TakesTurn old new turn → Turns (state_of old) (state_of new) turn → IsOfRun table heap before old → IsOfRun table heap before new
-  run_turn old new turn takes turned run =
-      let adds = turn_adds (state_of old) (state_of new) turn turned.comes_to in
-      record {
-        table_is = takes.turned.table_stays ∙ run.table_is;
-        heap_is = takes.turned.heap_stays ∙ run.heap_is;
-        goes_on = subst (BeginsWith before) (sym adds.grown) (begins_more before old.holder.known.collector.log adds.added run.goes_on);
-        own = ap (λ (l : List Entry). list_all is_of_heap (drop (length before) l)) adds.grown ∙ behind_more before old.holder.known.collector.log adds.added run.goes_on run.own adds.own;
-      }
-
 -- what is the table's and the heap's stays after many turns
 stays_onward : (n : ℕ) (old new : CollectorValue) → MakesOnward TakesTurn n old new → (new.holder.table ≡ old.holder.table) × (new.holder.heap ≡ old.holder.heap)
 stays_onward zero old new same = (ap (λ (v : CollectorValue). v.holder.table) same, ap (λ (v : CollectorValue). v.holder.heap) same)

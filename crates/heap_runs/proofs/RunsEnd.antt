@@ -111,13 +111,3 @@ logs_go_on table heap before collector seats closed run logs =
       own = all_append (λ entry. is_of_heap entry ≡ true) rest logs.turned (all_true rest run.own) logs.own;
       logs_are = logs.logs_are ∙ ap (λ (l : List Entry). map (λ (held : SeatHeld). held.seat.mine) seats ++ l ∷ []) (ap (λ l. l ++ logs.turned) whole ∙ append_assoc before rest logs.turned);
     }
-
--- a collector begins with what it has
-pub run_opens : (table : TableId) (heap : Heap) (before : List Entry) (collector : CollectorValue) → collector.holder.table ≡ table → collector.holder.heap ≡ heap
-    → collector.holder.known.collector.log ≡ before → IsOfRun table heap before collector
-run_opens table heap before collector table_is heap_is log_is = record {
-  table_is = table_is;
-  heap_is = heap_is;
-  goes_on = ap (take (length before)) log_is ∙ take_all (length before) before (omega arith);
-  own = ap (λ l. list_all is_of_heap (drop (length before) l)) log_is ∙ ap (list_all is_of_heap) (drop_all (length before) before (omega arith));
-}

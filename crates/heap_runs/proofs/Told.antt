@@ -66,8 +66,3 @@ pub call_noted : (old new : PlayState) (number : ℕ) (command : Command) (reply
 call_noted old new number command reply answers =
     let tells = tells_call old new number command reply answers in
     record { reply = reply; answers = answers; added = tells.before ++ entries.Said number command reply ∷ []; told = tells.told }
-
--- what was noted of it is that
-pub noted_is : (old new : PlayState) (number : ℕ) (command : Command) (notes : NotesCall old new number command) (tells : TellsCall old new number command notes.reply)
-    → notes.added ≡ tells.before ++ entries.Said number command notes.reply ∷ []
-noted_is old new number command notes tells = append_cancel_left old.entries notes.added _ (sym notes.told ∙ tells.told)

@@ -113,14 +113,3 @@ comes_to Is old now new n last reply turned takes shows =
 -- what was added up to an answer
 pub came_add : (Is : Turn → Type 0) (old new : PlayState) (last : Turn) (reply : TurnReply) → HasComeTo Is old new last reply → AddsTurns old new
 came_add Is old new last reply came = turns_more old came.now new last (turns_add Is came.earlier old came.now came.turned.taken) came.takes
-
--- where that was the end of a cycle, the last entry is that end
-pub ends_added : (old new : PlayState) (cycle kept : ℕ) (reply : TurnReply) (added : List Entry) → HasComeTo IsStep old new (turns.Ended cycle kept) reply → new.entries ≡ old.entries ++ added
-    → (steps : List Entry) × (added ≡ steps ++ entries.Ends cycle kept ∷ [])
-ends_added old new cycle kept reply added came told =
-    let first = turns_add IsStep came.earlier old came.now came.turned.taken in
-    let last = added_is came.now new (turns.Ended cycle kept) came.takes (entries.Ends cycle kept ∷ []) came.takes.turned.comes_to.0 in (
-      first.added,
-      append_cancel_left old.entries added _ (sym told ∙ came.takes.entries ∙ ap (λ es. es ++ came.takes.added) first.told ∙ append_assoc old.entries first.added came.takes.added
-          ∙ ap (λ es. old.entries ++ (first.added ++ es)) last),
-    )

@@ -89,10 +89,6 @@ some_words heap a found =
 
 -- the move that is due
 module _ (heap : Heap) (number : ℕ) (seat : Seat) (limits : IsHeap heap) (few : number < 16) (fits : Fits heap seat) where
-  of_move : (move : Option Move) (step : Step) → option_map (λ (m : Move). m.step) move ≡ Some step → (m : Move) × (move ≡ Some m) × (m.step ≡ step)
-  of_move None step due = cc
-  of_move (Some m) step due = (m, refl, cc)
-
   near_by : (move : Option Move) (step : Step) (found : ℕ) (next : Seat) → option_map (λ (m : Move). m.step) move ≡ Some step → IfSome move (MoveStands heap number seat seat.place)
       → next ≡ seat_after_due seat move found → (steps_left heap next < steps_left heap seat) × (owes next + length next.mine ≤ owes seat + length seat.mine)
   near_by None step found next due stands same = cc

@@ -75,10 +75,6 @@ module _ (runs : EveryRunKeeps) (given : Given) (recorded : Recorded) (seats : L
   pub can_look : (progress_at seats number).gone ≡ false → (inner : Inner) → MayMake recorded.machine.heap number (seat_at recorded.machine.state number).looks inner → Can recorded.machine.heap recorded.machine.state (BeginsInner number inner)
   can_look there inner makes = (here, record { idle = run.led.all_idle number here; present = (all.each number below).leaves ∙ there; makes = makes })
 
-  -- so may its leave
-  pub can_leave : (progress_at seats number).gone ≡ false → Can recorded.machine.heap recorded.machine.state (Begins number commands.Leave)
-  can_leave there = (here, record { idle = run.led.all_idle number here; present = (all.each number below).leaves ∙ there; served = tt; in_range = tt; numbered = tt })
-
 some_same : (one two : Command) → Some one ≡ Some two → one ≡ two
 some_same one two is = cc is
 

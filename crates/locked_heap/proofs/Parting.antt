@@ -53,16 +53,3 @@ none_further old new number same over = record {
   others = λ other apart. rw same refl;
   over_stays = over;
 }
-
--- one seat has
-pub one_further : (old new : LockedValue) (number : ℕ) (next : Progress) → number < length old.seats → new.seats ≡ slice_set old.seats number next → new.over ≡ old.over
-    → (progress_at old.seats number).place ≤ next.place → next.place ≤ (progress_at old.seats number).place + 1 → ((progress_at old.seats number).gone ≡ true → next.gone ≡ true) → ComesOneFurther old new number
-one_further old new number next below is over onward few gone =
-    let here : progress_at new.seats number ≡ next = ap (λ (l : List Progress). progress_at l number) is ∙ get_or-set_same old.seats number next at_begin below in
-    record {
-      onward = omega (arith, ap (λ (p : Progress). p.place) here, onward);
-      few = omega (arith, ap (λ (p : Progress). p.place) here, few);
-      gone_stays = λ was. ap (λ (p : Progress). p.gone) here ∙ gone was;
-      others = λ other apart. ap (λ (l : List Progress). progress_at l other) is ∙ get_or-set_other old.seats number other next at_begin apart;
-      over_stays = over;
-    }

@@ -36,11 +36,6 @@ abbrev pub IsIllegalAt : Work → List ℕ → ℕ → Type 0
 IsIllegalAt Check input line = FindsIllegal input line
 IsIllegalAt work input line = ⊥
 
--- the work is a run without the lock
-abbrev pub IsOpenRun : Work → Type 0
-IsOpenRun (Run pace false patience) = Unit {0}
-IsOpenRun work = ⊥
-
 -- a run without the lock leaves the closed table on which it ran; no other work leaves one
 abbrev pub LeavesTable : Work → List ℕ → List ℕ → Option ClosedTable → Type 0
 LeavesTable (Run pace false patience) input text closed = IsSomeAnd closed (RunsOnTable input text)
