@@ -14,11 +14,11 @@ use Rattle.core_machine.specs.seat.Making.{store_place}
 use Rattle.core_machine.specs.seat.Seat.{Seat, spine_need}
 use Rattle.core_machine.specs.calls.Owes.{owes, owes_at, steps_left}
 use Rattle.core_machine.proofs.seat_lemmas.Fitting.{listing_cases}
-use Rattle.core_machine.proofs.table_lemmas.Bits.{bool_tells}
+use Rattle.core_machine.proofs.table_lemmas.Bits.{true_or_false}
 use Rattle.heap_table.specs.Made.{Made, MakesSteps, IsSound}
 use Rattle.heap_table.specs.SeatHeld.{SeatHeld, IsStepped}
 use Rattle.heap_table.specs.Told.{ToldAtStep}
-use Rattle.heap_table.proofs.MadeSteps.{makes_none, step_falls, step_leaves_room, step_pays, step_makes}
+use Rattle.heap_table.proofs.MadeSteps.{makes_no_steps, step_leaves_fewer, step_leaves_room, step_owes_within_most, step_makes_one_more}
 use Rattle.array_spine.specs.Bearing.{BeginsPlacing}
 
 -- the places from that of the spine's claim on, and that behind them
@@ -39,11 +39,11 @@ pub record WhilePlacing (first now : SeatHeld) : Type 0 where
   pub paid : owes now.seat + length now.seat.mine ≤ 1 + length first.seat.mine
   pub room : owes now.seat + 2 ≤ now.spare
 
-pub placing_begins : (held : SeatHeld) (fragments : List ℕ) (cells words d : ℕ) → BeginsPlacing held fragments cells words d → IsSound held → 3 ≤ held.spare → WhilePlacing held held
-placing_begins held fragments cells words d begins sound room =
+pub while_placing_at_begin : (held : SeatHeld) (fragments : List ℕ) (cells words d : ℕ) → BeginsPlacing held fragments cells words d → IsSound held → 3 ≤ held.spare → WhilePlacing held held
+while_placing_at_begin held fragments cells words d begins sound room =
     let owed : owes held.seat ≡ 1 = ap (owes_at held.seat) begins.place_is in
     record {
-      steps = ([], makes_none held);
+      steps = ([], makes_no_steps held);
       sound = sound;
       stands = subst StandsPlacing (sym begins.place_is) tt;
       reserve_stays = refl;
@@ -72,32 +72,32 @@ stands_on heap number seat found (places.Making Storing) is stands = (
   refl,
 )
 stands_on heap number seat found (places.Making Bearing) is stands =
-    elim (bool_tells (is_last_birth seat)) as (λ _. StandsOn seat (seat_after (bearing_move number seat) found)) [
+    elim (true_or_false (is_last_birth seat)) as (λ _. StandsOn seat (seat_after (bearing_move number seat) found)) [
       | inl last ↦ rw last (tt, refl)
       | inr more ↦ rw more (subst StandsPlacing (sym is) tt, refl)
     ]
 stands_on heap number seat found places.Idle is stands = (subst StandsPlacing (sym is) tt, refl)
 stands_on heap number seat found _ is stands = absurd stands
 
-pub placing_on : (first now new : SeatHeld) (step : Step) (found : ℕ) → WhilePlacing first now → due_step now.heap now.number now.seat ≡ Some step → IsStepped now new found
+pub while_placing_after_step : (first now new : SeatHeld) (step : Step) (found : ℕ) → WhilePlacing first now → due_step now.heap now.number now.seat ≡ Some step → IsStepped now new found
     → ToldAtStep now.heap now.number now.seat found → WhilePlacing first new × (steps_left new.heap new.seat < steps_left now.heap now.seat)
-placing_on first now new step found while due stepped told =
+while_placing_after_step first now new step found while due stepped told =
     let sound = while.sound in
     let on = subst (λ (s : Seat). StandsOn now.seat s) (sym stepped.seat_is) (stands_on now.heap now.number now.seat found now.seat.place refl while.stands) in (
       record {
-        steps = step_makes first now new step found sound due stepped told while.steps;
+        steps = step_makes_one_more first now new step found sound due stepped told while.steps;
         sound = sound_on now new found sound stepped told;
         stands = on.0;
         reserve_stays = on.1 ∙ while.reserve_stays;
-        paid = step_pays first now new step found sound due stepped told (1 + length first.seat.mine) while.paid;
+        paid = step_owes_within_most first now new step found sound due stepped told (1 + length first.seat.mine) while.paid;
         room = step_leaves_room first now new step found sound due stepped told while.room;
       },
-      step_falls first now new step found sound due stepped told,
+      step_leaves_fewer first now new step found sound due stepped told,
     )
 
 -- once no step is due the call is over
-pub placing_over : (held : SeatHeld) → due_step held.heap held.number held.seat ≡ None → held.seat.place ≡ places.Idle
-placing_over held none = by held.seat.place none
+pub placing_over_is_idle : (held : SeatHeld) → due_step held.heap held.number held.seat ≡ None → held.seat.place ≡ places.Idle
+placing_over_is_idle held none = by held.seat.place none
   where
     by : (place : Place) → option_map (λ (m : Move). m.step) (move_at held.heap held.number held.seat place) ≡ None → place ≡ places.Idle
     by places.Idle none = refl
@@ -109,5 +109,5 @@ placing_over held none = by held.seat.place none
     by (places.Leaving place) none = cc
 
 -- and has added one entry at most
-pub placing_few : (first held : SeatHeld) → WhilePlacing first held → length held.seat.mine ≤ 1 + length first.seat.mine
-placing_few first held while = omega (arith, while.paid)
+pub placing_adds_one_entry : (first held : SeatHeld) → WhilePlacing first held → length held.seat.mine ≤ 1 + length first.seat.mine
+placing_adds_one_entry first held while = omega (arith, while.paid)

@@ -17,13 +17,13 @@ use Rattle.core_machine.specs.seat.Seat.{Seat, with_entries}
 use Rattle.core_rule.specs.cycle.Flight.{WhileAccess}
 use Rattle.core_rule.specs.told.Reached.{ReachesInBook}
 use Rattle.heap_table.specs.Made.{Made, MakesSteps}
-use Rattle.core_machine.proofs.seat_lemmas.FieldPlaces.{field_cases}
+use Rattle.core_machine.proofs.seat_lemmas.FieldPlaces.{field_place_cases}
 use Rattle.heap_table.specs.SeatHeld.{SeatHeld, IsStepped}
 use Rattle.heap_table.specs.Told.{ToldAtStep}
-use Rattle.heap_table.proofs.MadeSteps.{comes_to, makes_one, makes_append, found_first, found_more}
+use Rattle.heap_table.proofs.MadeSteps.{while_access_has_reached, makes_one_step, makes_steps_of_append, found_in_first_step, found_in_longer_steps}
 use Rattle.object_chain.specs.FieldPlace.{IsPlaceOfField}
 use Rattle.object_chain.specs.Walking.{IsAtField}
-use Rattle.object_chain.proofs.FieldPlaces.{HoldsHead, place_of_field}
+use Rattle.object_chain.proofs.FieldPlaces.{HoldsHead, reached_place_is_fields}
 use Rattle.array_spine.specs.Locating.{BeginsLocating, IsNamedBySpine}
 
 no_entries : (seat : Seat) → with_entries seat [] ≡ seat
@@ -67,28 +67,28 @@ module _ (old mid new : SeatHeld) (sentinel index address word : ℕ) (begins : 
       ap register_head array.on.holds ∙ ap (λ (n : ℕ). Some n) (sym array.on.in_order ∙ begins.sentinel_is)
 
   -- the seat is at its cell
-  pub at_cell : IsAtField new.seat.place
-  at_cell =
+  pub seat_is_at_cell : IsAtField new.seat.place
+  seat_is_at_cell =
       let there = at_payload (after_address old.seat address) word in
-      subst (λ (s : Seat). IsAtField s.place) (sym indexed) (field_cases (λ a. IsAtField (places.Access a)) there there.command tt (λ on. tt) (λ off. tt))
+      subst (λ (s : Seat). IsAtField s.place) (sym indexed) (field_place_cases (λ a. IsAtField (places.Access a)) there there.command tt (λ on. tt) (λ off. tt))
 
   -- and the place that it has reached is that of the cell
-  pub cell_place : IsPlaceOfField new sentinel index new.seat.reached new.seat.part
-  cell_place =
+  pub reached_place_is_cells : IsPlaceOfField new sentinel index new.seat.reached new.seat.part
+  reached_place_is_cells =
       let holds : HoldsHead new.seat sentinel = subst (λ (s : Seat). HoldsHead s sentinel) (sym indexed) holds_first in
       let same : field_of new.seat.command ≡ index = ap (λ (s : Seat). field_of s.command) indexed ∙ begins.index_is in
-      subst (λ (i : ℕ). IsPlaceOfField new sentinel i new.seat.reached new.seat.part) same (place_of_field new sentinel holds at_cell (comes_to mid new word stepped_then told_then))
+      subst (λ (i : ℕ). IsPlaceOfField new sentinel i new.seat.reached new.seat.part) same (reached_place_is_fields new sentinel holds seat_is_at_cell (while_access_has_reached mid new word stepped_then told_then))
 
-  pub located_steps : (fragment : ℕ) → fragment ≡ new.seat.reached → (made : List Made) × MakesSteps old new made × IsNamedBySpine made sentinel index fragment
-  located_steps fragment is = (
+  pub located_steps_name_fragment : (fragment : ℕ) → fragment ≡ new.seat.reached → (made : List Made) × MakesSteps old new made × IsNamedBySpine made sentinel index fragment
+  located_steps_name_fragment fragment is = (
     loads_address ∷ loads_word ∷ [],
-    makes_append old mid new (loads_address ∷ []) (loads_word ∷ []) (makes_one old mid (Spine (AddressLoad sentinel)) address address_due told stepped)
-        (makes_one mid new word_step word word_due told_then stepped_then),
+    makes_steps_of_append old mid new (loads_address ∷ []) (loads_word ∷ []) (makes_one_step old mid (Spine (AddressLoad sentinel)) address address_due told stepped)
+        (makes_one_step mid new word_step word word_due told_then stepped_then),
     record {
       address = address;
-      located = found_first (loads_word ∷ []) loads_address;
+      located = found_in_first_step (loads_word ∷ []) loads_address;
       word = word;
-      named = found_more (loads_word ∷ []) loads_address word_step word (found_first [] loads_word);
+      named = found_in_longer_steps (loads_word ∷ []) loads_address word_step word (found_in_first_step [] loads_word);
       fragment_is = is ∙ ap (λ (s : Seat). s.reached) indexed;
     },
   )

@@ -22,18 +22,18 @@ use Rattle.core_machine.specs.seat.Fits.{FitsPlace}
 use Rattle.core_machine.specs.seat.Seat.{Seat}
 use Rattle.heap_table.specs.Made.{Made, FoundIn, MakesSteps, IsSound}
 use Rattle.heap_table.specs.SeatHeld.{SeatHeld}
-use Rattle.heap_table.proofs.MadeSteps.{AsksForWords, TellsHere, made_here}
+use Rattle.heap_table.proofs.MadeSteps.{AsksForWords, TellsHere, found_in_made_steps}
 use Rattle.object_chain.specs.Bearing.{IsBorn, HoldsNewborn}
-use Rattle.object_chain.proofs.MadeObjects.{brought, has_brought, WasAnswered, was_answered, body_is, was_born, holds_newborn, told_newborn}
+use Rattle.object_chain.proofs.MadeObjects.{brought, brought_has_object, WasAnswered, begun_call_was_answered, made_body_is_fragments, made_body_is_born, seat_holds_newborn, newborn_reply_is_told}
 use Rattle.array_spine.specs.Bearing.{BeginsPlacing, IsStored}
 
 -- what was made otherwise than by asking was made here
 was_made_here : (made : List Made) (step : Step) → (AsksForWords step → ⊥) → WasMade (TellsHere made) step → WasMade (FoundIn made) step
-was_made_here made step other was = (was.0, made_here made step was.0 other was.1)
+was_made_here made step other was = (was.0, found_in_made_steps made step was.0 other was.1)
 
 spined_here : (made : List Made) (command : Command) (body : List ℕ) (spine : Spot) (listed : ℕ) → HasSpine (TellsHere made) command body spine listed → HasSpine (FoundIn made) command body spine listed
 spined_here made command body spine listed has =
-    record { word = has.word; told = made_here made _ has.word (λ asks. asks) has.told; place_is = has.place_is; lists = λ k below. was_made_here made _ (λ asks. asks) (has.lists k below) }
+    record { word = has.word; told = found_in_made_steps made _ has.word (λ asks. asks) has.told; place_is = has.place_is; lists = λ k below. was_made_here made _ (λ asks. asks) (has.lists k below) }
 
 are_born_here : (made : List Made) (hand body : List ℕ) (births : List (List ℕ)) → AreBorn (TellsHere made) hand body births → AreBorn (FoundIn made) hand body births
 are_born_here made hand body [] are = are
@@ -72,10 +72,10 @@ module _ (made : List Made) (old new : SeatHeld) (fragments : List ℕ) (cells w
 
   begins_so : StageAt tells old.heap old.number (kept_of before) old.seat [] old.seat.place
   begins_so = subst (StageAt tells old.heap old.number (kept_of before) old.seat []) (sym begins.place_is)
-      (has_brought tells old sound fits_there.0.0.whole (λ an_array. record { word = 0; told = inr tt; enough = omega (arith, begins.granted, begins.words_are) }))
+      (brought_has_object tells old sound fits_there.0.0.whole (λ an_array. record { word = 0; told = inr tt; enough = omega (arith, begins.granted, begins.words_are) }))
 
   was : WasAnswered tells old new (Array d cells)
-  was = was_answered made tells old new (Array d cells) sound makes over (λ step word here. inl here) begins.command_is begins_so
+  was = begun_call_was_answered made tells old new (Array d cells) sound makes over (λ step word here. inl here) begins.command_is begins_so
 
   needed : length old.seat.body ≡ need_of (Array d cells)
   needed = fits_there.0.0.whole ∙ ap need_of begins.command_is
@@ -89,10 +89,10 @@ module _ (made : List Made) (old new : SeatHeld) (fragments : List ℕ) (cells w
       made_of tells old.heap old.number d cells (kept_of before) (kept_of new.seat) was.answered.first was.answered.reply (omega (arith, brings, needed))
       (omega (arith, brings, needed, ap (length {A = ℕ}) stays)) was.answered.stands
 
-  pub placed_stored : IsStored made (Array d cells) (name_after old.number old.seat.made) fragments words
-  placed_stored =
+  pub placed_words_are_stored : IsStored made (Array d cells) (name_after old.number old.seat.made) fragments words
+  placed_words_are_stored =
       let is = is_made.2 in
-      let body : is.body ≡ fragments = body_is tells old new (Array d cells) fragments was needed begins.body_is is_made in
+      let body : is.body ≡ fragments = made_body_is_fragments tells old new (Array d cells) fragments was needed begins.body_is is_made in
       record {
         spine = is.spine;
         spined = subst (HasSpine (FoundIn made) (Array d cells) fragments is.spine) needed_words
@@ -102,14 +102,14 @@ module _ (made : List Made) (old new : SeatHeld) (fragments : List ℕ) (cells w
             (λ k below. was_made_here made _ (λ asks. asks) (is.stored k below));
       }
 
-  pub placed_born : IsBorn made fragments
-  placed_born =
+  pub placed_fragments_are_born : IsBorn made fragments
+  placed_fragments_are_born =
       let is = is_made.2 in
-      was_born tells old new (Array d cells) fragments was needed begins.body_is is_made made (record { births = is.born.births; are = are_born_here made is.last is.body is.born.births is.born.are })
+      made_body_is_born tells old new (Array d cells) fragments was needed begins.body_is is_made made (record { births = is.born.births; are = are_born_here made is.last is.body is.born.births is.born.are })
       (was_made_here made _ (λ asks. asks) is.last_born)
 
-  pub placed_held : (id : Id) → MadeBy old.number old.seat.made ≡ id → HoldsNewborn old new d fragments id
-  placed_held id is = holds_newborn tells old new (Array d cells) fragments was needed begins.body_is is_made id is over stays
+  pub placed_array_is_held : (id : Id) → MadeBy old.number old.seat.made ≡ id → HoldsNewborn old new d fragments id
+  placed_array_is_held id is = seat_holds_newborn tells old new (Array d cells) fragments was needed begins.body_is is_made id is over stays
 
-  pub placed_told : (id : Id) → MadeBy old.number old.seat.made ≡ id → length new.seat.mine ≤ 1 + length old.seat.mine → new.seat.mine ≡ old.seat.mine ++ Said old.number (Array d cells) (replies.Made id) ∷ []
-  placed_told id is few = told_newborn tells old new (Array d cells) fragments was needed begins.body_is is_made id is few
+  pub placed_reply_is_told : (id : Id) → MadeBy old.number old.seat.made ≡ id → length new.seat.mine ≤ 1 + length old.seat.mine → new.seat.mine ≡ old.seat.mine ++ Said old.number (Array d cells) (replies.Made id) ∷ []
+  placed_reply_is_told id is few = newborn_reply_is_told tells old new (Array d cells) fragments was needed begins.body_is is_made id is few

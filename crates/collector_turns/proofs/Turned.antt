@@ -36,8 +36,8 @@ module _ (old new : CollectorValue) (found : ℕ) (turn : Turn) (turned : IsTurn
   }
 
 -- so it is with what contracts see of the collector before the turn
-pub turned_from : (whole old new : CollectorValue) (found : ℕ) (turn : Turn) → whole ≡ old → IsTurned whole.holder new.holder found → turn ≡ (next_turn whole.holder.heap whole.holder.known.collector).answer found
+pub holder_takes_turn : (whole old new : CollectorValue) (found : ℕ) (turn : Turn) → whole ≡ old → IsTurned whole.holder new.holder found → turn ≡ (next_turn whole.holder.heap whole.holder.known.collector).answer found
     → ToldAtTurn whole.holder.heap whole.holder.known.collector found → new.last_turn ≡ Some turn → Turns (state_of old) (state_of new) turn × TakesTurn old new turn
-turned_from whole old new found turn is turned answer told last =
+holder_takes_turn whole old new found turn is turned answer told last =
     subst (λ (v : CollectorValue). Turns (state_of v) (state_of new) turn × TakesTurn v new turn) is
     (turns_by whole new found turn turned answer told last, takes_turn whole new found turn turned answer told)

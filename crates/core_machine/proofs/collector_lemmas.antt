@@ -23,23 +23,23 @@ use Rattle.core_machine.proofs.collector_lemmas.Standing.{StageStands, TurnStand
 
 -- each turn stands, by its stage
 stands_at : (stage : Stage) → StageStands stage
-stands_at stages.Looking = LookTurn.look_stands
-stands_at (stages.Passing group found) = PassTurn.pass_stands group found
-stands_at (stages.Scanning scan) = ScanTurn.scan_stands scan
-stands_at (stages.Shading scan target next) = ShadeTurn.shade_stands scan target next
+stands_at stages.Looking = LookTurn.stage_stands_at_looking
+stands_at (stages.Passing group found) = PassTurn.stage_stands_at_passing group found
+stands_at (stages.Scanning scan) = ScanTurn.stage_stands_at_scanning scan
+stands_at (stages.Shading scan target next) = ShadeTurn.stage_stands_at_shading scan target next
 stands_at (stages.Addressing scan words) = SpineTurns.address_stands scan words
-stands_at (stages.Indexing s) = SpineTurns.index_stands s
-stands_at (stages.Spreading s target) = SpineTurns.spread_stands s target
-stands_at (stages.Blackening scan) = BlackenTurn.blacken_stands scan
-stands_at stages.Flipping = CopyingTurns.flip_stands
-stands_at (stages.Copying stage) = CopyingTurns.copying_stands stage
-stands_at (stages.Sweeping group) = SweepTurn.sweep_stands group
-stands_at (stages.Examining group dead place words) = SweepTurn.examine_stands group dead place words
-stands_at (stages.Freeing group dead words) = SweepTurn.free_stands group dead words
-stands_at (stages.Returning group words) = SweepTurn.return_stands group words
-stands_at (stages.Clearing group kept) = ClearTurn.clear_stands group kept
-stands_at (stages.Ending kept) = EndTurn.end_stands kept
-stands_at stages.Advancing = AdvanceTurn.advance_stands
+stands_at (stages.Indexing s) = SpineTurns.stage_stands_at_indexing s
+stands_at (stages.Spreading s target) = SpineTurns.stage_stands_at_spreading s target
+stands_at (stages.Blackening scan) = BlackenTurn.stage_stands_at_blackening scan
+stands_at stages.Flipping = CopyingTurns.stage_stands_at_flipping
+stands_at (stages.Copying stage) = CopyingTurns.stage_stands_at_copying stage
+stands_at (stages.Sweeping group) = SweepTurn.stage_stands_at_sweeping group
+stands_at (stages.Examining group dead place words) = SweepTurn.stage_stands_at_examining group dead place words
+stands_at (stages.Freeing group dead words) = SweepTurn.stage_stands_at_freeing group dead words
+stands_at (stages.Returning group words) = SweepTurn.stage_stands_at_returning group words
+stands_at (stages.Clearing group kept) = ClearTurn.stage_stands_at_clearing group kept
+stands_at (stages.Ending kept) = EndTurn.stage_stands_at_ending kept
+stands_at stages.Advancing = AdvanceTurn.stage_stands_at_advancing
 
 -- the turn that is due
 pub turn_stands : (heap : Heap) (collector : Collector) → IsHeap heap → CollectorFits heap collector → TurnStands heap (next_turn heap collector)

@@ -18,24 +18,24 @@ use Rattle.core_machine.proofs.Terms.{Heap, IsHeap, Granting, Withdrawing, Gathe
 use Rattle.core_machine.proofs.Terms.{LoadingSpot, Indexing, Getting, Naming, LoadingOld, ShadingOld, ShadingNew, Swapping, Move, next_move, due_step, seat_after, Step, Nears, owes}
 use Rattle.core_machine.proofs.Terms.{steps_left, FoundPointsWithin, address_of, Fits, Seat, Command, MayBegin, after_begin}
 use Rattle.core_machine.proofs.kinds.{place_kind}
-use Rattle.core_machine.proofs.seat_lemmas.FittingEntries.{fits_entries}
+use Rattle.core_machine.proofs.seat_lemmas.FittingEntries.{fits_with_entries}
 use Rattle.heap_model.specs.declared.command.Command.TheVariants as commands
 use Rattle.core_machine.proofs.moves.Standing.{MoveStands, PlaceStands, BeginStands, CommandStands}
 
 -- the move that is due
-pub move_stands : (heap : Heap) (number : ℕ) (seat : Seat) → IsHeap heap → number < 16 → Fits heap seat → IfSome (next_move heap number seat) (MoveStands heap number seat seat.place)
-move_stands heap number seat limits few fits = (place_kind seat.place).stands heap number seat
+pub due_move_stands : (heap : Heap) (number : ℕ) (seat : Seat) → IsHeap heap → number < 16 → Fits heap seat → IfSome (next_move heap number seat) (MoveStands heap number seat seat.place)
+due_move_stands heap number seat limits few fits = (place_kind seat.place).stands heap number seat
     record { limits = limits; few = few; fits = fits; placed = refl; hand = fits.at_place; way = fits.way_at_place; answer = fits.answer_at_place }
 
 -- so it is with a move that is known
 pub due_stands : (heap : Heap) (number : ℕ) (seat : Seat) (move : Move) → IsHeap heap → number < 16 → Fits heap seat → next_move heap number seat ≡ Some move → MoveStands heap number seat seat.place move
-due_stands heap number seat move limits few fits due = subst (λ m. IfSome m (MoveStands heap number seat seat.place)) due (move_stands heap number seat limits few fits)
+due_stands heap number seat move limits few fits due = subst (λ m. IfSome m (MoveStands heap number seat seat.place)) due (due_move_stands heap number seat limits few fits)
 
 -- the seat's data fit together after it, with its entries, where the word that it found leads within the heap
 pub due_fits : (heap : Heap) (number : ℕ) (seat : Seat) (move : Move) (found : ℕ) → IsHeap heap → number < 16 → Fits heap seat → next_move heap number seat ≡ Some move
     → found < 2 ^ 64 → FoundPointsWithin heap (address_of move.step) found → Fits heap (seat_after move found)
 due_fits heap number seat move found limits few fits due small led =
-    fits_entries heap (move.told found) (move.adds found) ((due_stands heap number seat move limits few fits due).fits found small led)
+    fits_with_entries heap (move.told found) (move.adds found) ((due_stands heap number seat move limits few fits due).fits found small led)
 
 -- fewer steps are left after it, whatever word it found, and no more entries are added than were owed
 pub due_nears : (heap : Heap) (number : ℕ) (seat : Seat) (move : Move) (found : ℕ) → IsHeap heap → number < 16 → Fits heap seat → next_move heap number seat ≡ Some move
@@ -43,8 +43,8 @@ pub due_nears : (heap : Heap) (number : ℕ) (seat : Seat) (move : Move) (found 
 due_nears heap number seat move found limits few fits due = (due_stands heap number seat move limits few fits due).near found
 
 -- a step that is due is a move's
-pub due_move : (heap : Heap) (number : ℕ) (seat : Seat) (step : Step) → due_step heap number seat ≡ Some step → (move : Move) × (next_move heap number seat ≡ Some move) × (move.step ≡ step)
-due_move heap number seat step due = by (next_move heap number seat) refl due
+pub due_step_is_moves : (heap : Heap) (number : ℕ) (seat : Seat) (step : Step) → due_step heap number seat ≡ Some step → (move : Move) × (next_move heap number seat ≡ Some move) × (move.step ≡ step)
+due_step_is_moves heap number seat step due = by (next_move heap number seat) refl due
   where
     by : (next : Option Move) → next_move heap number seat ≡ next → option_map (λ m. m.step) next ≡ Some step → (move : Move) × (next_move heap number seat ≡ Some move) × (move.step ≡ step)
     by None is due = cc
@@ -52,18 +52,18 @@ due_move heap number seat step due = by (next_move heap number seat) refl due
 
 -- each begin stands, by the command
 begin_at : (command : Command) → CommandStands command
-begin_at (commands.New d fields) = Gather.gather_begins d fields
-begin_at (commands.Array d cells) = Array.array_begins d cells
-begin_at (commands.Get d r i) = Open.open_begins (commands.Get d r i) tt
-begin_at (commands.Set r i v) = Open.open_begins (commands.Set r i v) tt
-begin_at (commands.Num d n) = λ heap number seat ready. Local.tell_begins (commands.Num d n) heap number seat ready tt
-begin_at (commands.Nil d) = λ heap number seat ready. Local.tell_begins (commands.Nil d) heap number seat ready tt
-begin_at (commands.Copy d r) = λ heap number seat ready. Local.tell_begins (commands.Copy d r) heap number seat ready tt
-begin_at (commands.Same a b) = λ heap number seat ready. Local.tell_begins (commands.Same a b) heap number seat ready tt
-begin_at (commands.Len r) = Open.open_begins (commands.Len r) tt
-begin_at commands.Poll = Poll.poll_begins
+begin_at (commands.New d fields) = Gather.command_stands_for_new d fields
+begin_at (commands.Array d cells) = Array.command_stands_for_array d cells
+begin_at (commands.Get d r i) = Open.begin_stands_at_access (commands.Get d r i) tt
+begin_at (commands.Set r i v) = Open.begin_stands_at_access (commands.Set r i v) tt
+begin_at (commands.Num d n) = λ heap number seat ready. Local.local_begin_stands (commands.Num d n) heap number seat ready tt
+begin_at (commands.Nil d) = λ heap number seat ready. Local.local_begin_stands (commands.Nil d) heap number seat ready tt
+begin_at (commands.Copy d r) = λ heap number seat ready. Local.local_begin_stands (commands.Copy d r) heap number seat ready tt
+begin_at (commands.Same a b) = λ heap number seat ready. Local.local_begin_stands (commands.Same a b) heap number seat ready tt
+begin_at (commands.Len r) = Open.begin_stands_at_access (commands.Len r) tt
+begin_at commands.Poll = Poll.command_stands_for_poll
 begin_at commands.Collect = λ heap number seat ready. absurd ready.may.served
-begin_at commands.Leave = Leave.leave_begins
+begin_at commands.Leave = Leave.command_stands_for_leave
 
 -- the begin of a command that may be begun
 pub begin_stands : (heap : Heap) (number : ℕ) (seat : Seat) (command : Command) → IsHeap heap → Fits heap seat → MayBegin seat command

@@ -20,7 +20,7 @@ use Rattle.core_machine.proofs.Terms.{IsHeap, Command, Entry, Heap, Move, next_m
 use Rattle.core_machine.proofs.Terms.{Kept, kept_of, StageAt, OwnStage, LoadingMeta, Walking, LoadingSpot, Indexing, Getting, Naming, LoadingOld, ShadingOld, ShadingNew, Swapping}
 use Rattle.core_machine.proofs.Terms.{Granting, Withdrawing, Gathering, GivingBack, Refusing, Placing, Listing, Storing, Bearing, Place, Step, MayBegin, after_begin, Fits, Seat}
 use Rattle.core_machine.proofs.kinds.{place_kind}
-use Rattle.core_machine.proofs.moves.{due_move, due_fits, due_nears}
+use Rattle.core_machine.proofs.moves.{due_step_is_moves, due_fits, due_nears}
 use Rattle.core_machine.proofs.own_stages.Leading.{Leads, LeadsOn, PlaceLeads}
 
 module _ (tells : Step → ℕ → Type 0) where
@@ -41,7 +41,7 @@ module _ (tells : Step → ℕ → Type 0) where
 
   -- a call that has begun stands so, and has told nothing
   pub own_begins : (heap : Heap) (number : ℕ) (old : Seat) (command : Command) → IsHeap heap → Fits heap old → MayBegin old command → OwnStage tells heap number command old (after_begin heap old command) []
-  own_begins heap number old command limits fits may = Begin.begin_leads tells heap number old command limits fits may
+  own_begins heap number old command limits fits may = Begin.own_stage_stands_at_begin tells heap number old command limits fits may
 
 -- a seat of a call has learned the word that its due step found: it has told no more than it owed, and nears its end
 pub record HasLearned (tells : Step → ℕ → Type 0) (heap : Heap) (number : ℕ) (command : Command) (old seat next : Seat) (told : List Entry) : Type 0 where
@@ -54,7 +54,7 @@ pub own_learns : (tells : Step → ℕ → Type 0) (heap : Heap) (number : ℕ) 
     → due_step heap number seat ≡ Some step → next ≡ seat_after_due seat (next_move heap number seat) found → found < 2 ^ 64 → FoundPointsWithin heap (address_of step) found → tells step found
     → OwnStage tells heap number command old seat told → HasLearned tells heap number command old seat next told
 own_learns tells heap number command old seat next told step found limits few fits due is small led tell own =
-    let move = due_move heap number seat step due in
+    let move = due_step_is_moves heap number seat step due in
     let here : seat_after move.0 found ≡ next = sym (is ∙ ap (λ m. seat_after_due seat m found) move.1) in
     subst (λ (s : Seat). HasLearned tells heap number command old seat s told) here (record {
       more = move.0.adds found;

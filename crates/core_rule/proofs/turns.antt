@@ -11,7 +11,7 @@ pub mod CopyTurns
 pub mod SweepTurns
 use Rattle.std.proofs.Common.{refl}
 use Rattle.core_rule.specs.turns.TurnsLeft.{EachTurnLeavesFewer}
-use Rattle.core_rule.proofs.steps.collector.{turn_kind}
+use Rattle.core_rule.proofs.steps.collector.{turn_kind_of_each_stage}
 
 pub each_turn_leaves_fewer : EachTurnLeavesFewer
-each_turn_leaves_fewer heap state book rule stepped = (turn_kind state.collector.stage).fewer rule.marks_stand.heap_marks.few heap state book rule refl stepped
+each_turn_leaves_fewer heap state book rule stepped = (turn_kind_of_each_stage state.collector.stage).fewer rule.marks_stand.heap_marks.few heap state book rule refl stepped

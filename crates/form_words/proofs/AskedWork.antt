@@ -11,7 +11,7 @@ use Rattle.form_words.specs.declared.work.Work.{Work}
 use Rattle.form_words.specs.declared.work.Work.TheVariants.{Play, Run, Check, Make}
 use Rattle.form_words.specs.Settings.{most_patience}
 use Rattle.form_words.specs.Works.{form_word, usual_patience, AskFor, Completes, IsRunSettings, IsWork}
-use Rattle.form_words.proofs.GivenSettings.{digits_value-decimal, patience_within, settings_of, settings_of-given}
+use Rattle.form_words.proofs.GivenSettings.{digits_value-decimal, given_patience_in_range, settings_of, settings_of-given}
 
 -- the play and the run of settings
 abbrev play_by : Settings → Work
@@ -61,18 +61,18 @@ work_of-asked words work asked = ap work_of asked.begins ∙ by asked.rest work 
       ap (λ (words : List (List ℕ)). Some (make_by words)) spelled ∙ ap Some (make_by-words start seats lines (fits, refl))
 
 -- so they ask for one alone
-pub asked_once : (words : List (List ℕ)) (work other : Work) → AskFor words work → AskFor words other → work ≡ other
-asked_once words work other asked asked' =
+pub asked_work_is_one : (words : List (List ℕ)) (work other : Work) → AskFor words work → AskFor words other → work ≡ other
+asked_work_is_one words work other asked asked' =
     let one = work_of-asked words work asked in
     let again = work_of-asked words other asked' in
     cc
 
 -- what completes a work has its numbers in their ranges
-pub completed_within : (rest : List (List ℕ)) (work : Work) → Completes rest work → IsWork work
-completed_within rest (Play pace brief) gives = tt
-completed_within rest Check none = tt
-completed_within rest (Make start seats lines) made = made.0
-completed_within rest (Run pace locked patience) (settings, gives, is) = by settings.patience is.patience_is (patience_within rest settings gives) where
+pub completed_work_is_in_range : (rest : List (List ℕ)) (work : Work) → Completes rest work → IsWork work
+completed_work_is_in_range rest (Play pace brief) gives = tt
+completed_work_is_in_range rest Check none = tt
+completed_work_is_in_range rest (Make start seats lines) made = made.0
+completed_work_is_in_range rest (Run pace locked patience) (settings, gives, is) = by settings.patience is.patience_is (given_patience_in_range rest settings gives) where
   by : (given : Option ℕ) → patience ≡ unwrap_or given usual_patience → IfSome given (IsWithin 1 most_patience) → IsWithin 1 most_patience patience
   by None same within = (omega (arith, same), omega (arith, same))
   by (Some n) same within = (omega (arith, same, within.0), omega (arith, same, within.1))

@@ -4,7 +4,7 @@ use Rattle.clap.specs.Walk.{Text, Walk, walked}
 use Rattle.clap.specs.Simple.{Shape}
 use Rattle.clap.specs.Faults.{turn_fault, walk_fault}
 use Rattle.form_words.specs.Joined.{are_apart, is_joined}
-use Rattle.form_words.proofs.OptionSteps.{or_else_parts}
+use Rattle.form_words.proofs.OptionSteps.{or_else_empty_both_empty}
 
 -- the first word is taken, and the walk goes on over the others
 pub record TakesFirst (shape : Shape) (w : Walk) (word : Text) (words : List Text) : Type 0 where
@@ -21,9 +21,9 @@ not_true : (b : Bool) → not b ≡ true → b ≡ false
 not_true true e = sym e
 not_true false e = refl
 
-pub takes_first : (shape : Shape) (w : Walk) (word : Text) (words : List Text) → are_apart (word ∷ words) ≡ true → walk_fault shape [] w (word ∷ words) ≡ [] → TakesFirst shape w word words
+pub first_word_is_taken : (shape : Shape) (w : Walk) (word : Text) (words : List Text) → are_apart (word ∷ words) ≡ true → walk_fault shape [] w (word ∷ words) ≡ [] → TakesFirst shape w word words
 unfolding walk_fault
-takes_first shape w word words apart faultless =
+first_word_is_taken shape w word words apart faultless =
     let aparts = both (not (is_joined word)) _ apart in
-    let faults = or_else_parts (turn_fault shape [] w word) _ faultless in
+    let faults = or_else_empty_both_empty (turn_fault shape [] w word) _ faultless in
     record { apart = not_true _ aparts.0; faultless = faults.0; others_apart = aparts.1; goes_on = faults.1 }

@@ -7,37 +7,37 @@ use Rattle.clap.specs.Walk.{Row, Text, has_row, more_values, one_of, row_text, w
 use Rattle.clap.specs.declared.builder.value_parser.Reading.TheVariants.{AsWritten}
 use Rattle.clap.specs.declared.parser.matches.ValueSource.TheVariants.{DefaultValue}
 use Rattle.form_words.specs.Matched.{IsFlag}
-use Rattle.form_words.proofs.OptionSteps.{new_row, plain_built}
-use Rattle.form_words.proofs.SettingRows.{flag_row, has_row_at, row_at, row_kept, row_new}
+use Rattle.form_words.proofs.OptionSteps.{missing_row_is_added, plain_built}
+use Rattle.form_words.proofs.SettingRows.{flag_row, has_row_is_some_row, row_at, row_kept_by_other, new_row_is_found}
 
 abbrev default_row : Text → Row
 default_row flag = record { id = flag; values = codes "false" ∷ []; count = None; source = Some DefaultValue; reading = AsWritten }
 
 default_new : (flag : Text) (rows : List Row) → has_row flag rows ≡ false → with_default rows (plain_built flag) ≡ rows ++ default_row flag ∷ []
-default_new flag rows none = rw none (new_row flag (more_values DefaultValue (codes "false" ∷ [])) _ rows none)
+default_new flag rows none = rw none (missing_row_is_added flag (more_values DefaultValue (codes "false" ∷ [])) _ rows none)
 
 default_old : (flag : Text) (rows : List Row) → has_row flag rows ≡ true → with_default rows (plain_built flag) ≡ rows
 default_old flag rows is = rw is refl
 
-pub default_kept : (id flag : Text) (rows : List Row) → bytes_eq flag id ≡ false → row_at id (with_default rows (plain_built flag)) ≡ row_at id rows
-default_kept id flag rows other = by (has_row flag rows) refl where
+pub default_keeps_other_rows : (id flag : Text) (rows : List Row) → bytes_eq flag id ≡ false → row_at id (with_default rows (plain_built flag)) ≡ row_at id rows
+default_keeps_other_rows id flag rows other = by (has_row flag rows) refl where
   by : (b : Bool) → has_row flag rows ≡ b → row_at id (with_default rows (plain_built flag)) ≡ row_at id rows
   by true is = ap (row_at id) (default_old flag rows is)
-  by false is = ap (row_at id) (default_new flag rows is) ∙ row_kept id rows (default_row flag) other
+  by false is = ap (row_at id) (default_new flag rows is) ∙ row_kept_by_other id rows (default_row flag) other
 
 abbrev pub flag_text : Bool → Text
 flag_text flag = cond flag (codes "true") (codes "false")
 
 -- the text of the flag itself, and of another one
-pub own_text : (flag : Text) (after : List Row) (b : Bool) → row_at flag after ≡ flag_row b flag → one_of flag (with_default after (plain_built flag)) ≡ Some (flag_text b)
-own_text flag after true is = ap (one_of flag) (default_old flag after (has_row_at flag after ∙ ap is_some is)) ∙ ap (option_and_then row_text) is
-own_text flag after false is =
-    ap (one_of flag) (default_new flag after (has_row_at flag after ∙ ap is_some is))
-    ∙ ap (option_and_then row_text) (row_new flag after (default_row flag) is ((bytes_eq-Decides flag flag).1 refl))
+pub own_flag_has_text : (flag : Text) (after : List Row) (b : Bool) → row_at flag after ≡ flag_row b flag → one_of flag (with_default after (plain_built flag)) ≡ Some (flag_text b)
+own_flag_has_text flag after true is = ap (one_of flag) (default_old flag after (has_row_is_some_row flag after ∙ ap is_some is)) ∙ ap (option_and_then row_text) is
+own_flag_has_text flag after false is =
+    ap (one_of flag) (default_new flag after (has_row_is_some_row flag after ∙ ap is_some is))
+    ∙ ap (option_and_then row_text) (new_row_is_found flag after (default_row flag) is ((bytes_eq-Decides flag flag).1 refl))
 
-pub other_text : (id flag : Text) (after : List Row) (b : Bool) → bytes_eq flag id ≡ false → row_at id after ≡ flag_row b id → one_of id (with_default after (plain_built flag)) ≡ cond b (Some (codes "true")) None
-other_text id flag after true other is = ap (option_and_then row_text) (default_kept id flag after other ∙ is)
-other_text id flag after false other is = ap (option_and_then row_text) (default_kept id flag after other ∙ is)
+pub other_flag_has_default_text : (id flag : Text) (after : List Row) (b : Bool) → bytes_eq flag id ≡ false → row_at id after ≡ flag_row b id → one_of id (with_default after (plain_built flag)) ≡ cond b (Some (codes "true")) None
+other_flag_has_default_text id flag after true other is = ap (option_and_then row_text) (default_keeps_other_rows id flag after other ∙ is)
+other_flag_has_default_text id flag after false other is = ap (option_and_then row_text) (default_keeps_other_rows id flag after other ∙ is)
 
 differ : codes "true" ≢ codes "false"
 differ e = true≢false (ap (bytes_eq (codes "true")) e)
@@ -51,10 +51,10 @@ is_false = record { none = λ e. refl; given = λ e. absurd (differ (cc)); other
 is_none : IsFlag false None
 is_none = record { none = λ e. refl; given = λ e. cc; other = λ e. refl }
 
-pub own_flag : (flag : Text) (after : List Row) (b : Bool) → row_at flag after ≡ flag_row b flag → IsFlag b (one_of flag (with_default after (plain_built flag)))
-own_flag flag after true is = subst (IsFlag true) (sym (own_text flag after true is)) is_true
-own_flag flag after false is = subst (IsFlag false) (sym (own_text flag after false is)) is_false
+pub own_text_is_flag : (flag : Text) (after : List Row) (b : Bool) → row_at flag after ≡ flag_row b flag → IsFlag b (one_of flag (with_default after (plain_built flag)))
+own_text_is_flag flag after true is = subst (IsFlag true) (sym (own_flag_has_text flag after true is)) is_true
+own_text_is_flag flag after false is = subst (IsFlag false) (sym (own_flag_has_text flag after false is)) is_false
 
-pub other_flag : (id flag : Text) (after : List Row) (b : Bool) → bytes_eq flag id ≡ false → row_at id after ≡ flag_row b id → IsFlag b (one_of id (with_default after (plain_built flag)))
-other_flag id flag after true other is = subst (IsFlag true) (sym (other_text id flag after true other is)) is_true
-other_flag id flag after false other is = subst (IsFlag false) (sym (other_text id flag after false other is)) is_none
+pub other_text_is_flag : (id flag : Text) (after : List Row) (b : Bool) → bytes_eq flag id ≡ false → row_at id after ≡ flag_row b id → IsFlag b (one_of id (with_default after (plain_built flag)))
+other_text_is_flag id flag after true other is = subst (IsFlag true) (sym (other_flag_has_default_text id flag after true other is)) is_true
+other_text_is_flag id flag after false other is = subst (IsFlag false) (sym (other_flag_has_default_text id flag after false other is)) is_none

@@ -5,7 +5,7 @@ use Rattle.form_words.specs.declared.pace.PaceName.{PaceName}
 use Rattle.form_words.specs.declared.work.Work.{Work}
 use Rattle.form_words.specs.declared.work.Work.TheVariants.{Play, Run, Check, Make}
 use Rattle.form_words.specs.Works.{form_word, AskFor, Completes, IsForm, IsWork}
-use Rattle.form_words.proofs.AskedWork.{completed_within, work_of, work_of-asked}
+use Rattle.form_words.proofs.AskedWork.{completed_work_is_in_range, work_of, work_of-asked}
 
 -- words that are a form go on as the form of their first word does
 goes_on : (form : List ℕ) (rest : List (List ℕ)) (work other : Work) → AskFor (form ∷ rest) work → work_of (form ∷ rest) ≡ Some other → Completes rest other
@@ -20,15 +20,15 @@ goes_on form rest work other asked told =
 no_form : (form : List ℕ) (words rest : List (List ℕ)) (other : Work) → words ≡ form ∷ rest → work_of (form ∷ rest) ≡ Some other → ¬ Completes rest other → ¬ IsForm words
 no_form form words rest other begins told none (work, asked) = none (goes_on form rest work other (subst (λ ws. AskFor ws work) begins asked) told)
 
-pub no_play : (words rest : List (List ℕ)) (found : Option Work) → words ≡ codes "play" ∷ rest → IfNone found ((pace : Option PaceName) (brief : Bool) → ¬ Completes rest (Play pace brief)) → IfNone found (¬ IsForm words)
-no_play words rest None begins none = no_form (codes "play") words rest _ begins refl (none _ _)
-no_play words rest (Some work) begins none = tt
+pub none_found_no_play : (words rest : List (List ℕ)) (found : Option Work) → words ≡ codes "play" ∷ rest → IfNone found ((pace : Option PaceName) (brief : Bool) → ¬ Completes rest (Play pace brief)) → IfNone found (¬ IsForm words)
+none_found_no_play words rest None begins none = no_form (codes "play") words rest _ begins refl (none _ _)
+none_found_no_play words rest (Some work) begins none = tt
 
-pub no_run : (words rest : List (List ℕ)) (found : Option Work) → words ≡ codes "run" ∷ rest → IfNone found ((pace : PaceName) (locked : Bool) (patience : ℕ) → ¬ Completes rest (Run pace locked patience)) → IfNone found (¬ IsForm words)
-no_run words rest None begins none = no_form (codes "run") words rest _ begins refl (none _ _ _)
-no_run words rest (Some work) begins none = tt
+pub none_found_no_run : (words rest : List (List ℕ)) (found : Option Work) → words ≡ codes "run" ∷ rest → IfNone found ((pace : PaceName) (locked : Bool) (patience : ℕ) → ¬ Completes rest (Run pace locked patience)) → IfNone found (¬ IsForm words)
+none_found_no_run words rest None begins none = no_form (codes "run") words rest _ begins refl (none _ _ _)
+none_found_no_run words rest (Some work) begins none = tt
 
 -- what was found has its numbers in their ranges
-pub found_within : (form : List ℕ) (rest : List (List ℕ)) (found : Option Work) → IfSome found (λ work. (form_word work ≡ form) × Completes rest work) → IfSome found IsWork
-found_within form rest None is = tt
-found_within form rest (Some work) is = completed_within rest work is.1
+pub found_work_is_in_range : (form : List ℕ) (rest : List (List ℕ)) (found : Option Work) → IfSome found (λ work. (form_word work ≡ form) × Completes rest work) → IfSome found IsWork
+found_work_is_in_range form rest None is = tt
+found_work_is_in_range form rest (Some work) is = completed_work_is_in_range rest work is.1

@@ -9,11 +9,11 @@ use Rattle.form_words.specs.declared.setting.Settings.{Settings}
 use Rattle.form_words.specs.Settings.{GiveSettings, no_settings}
 use Rattle.form_words.proofs.OptionSteps.{plain_built, row_of_words}
 use Rattle.form_words.proofs.OptionWalk.{Given, Grows, IsOption}
-use Rattle.form_words.proofs.OptionForms.{found, play_optional, play_rules, run_optional, run_rules}
-use Rattle.form_words.proofs.SettingRows.{flag_row, has_row_at, none_there, row_at, row_kept, row_new, shows_none}
-use Rattle.form_words.proofs.FlagTexts.{default_kept, flag_text, other_text, own_text}
-use Rattle.form_words.proofs.OptionCases.{no_case, play_case, run_case, same_name, valued_plain}
-use Rattle.form_words.proofs.ToldSettings.{IsTold, flag_shown, gives, row_name}
+use Rattle.form_words.proofs.OptionForms.{walked_words_are_found, play_app_is_optional, play_rules, run_app_is_optional, run_rules}
+use Rattle.form_words.proofs.SettingRows.{flag_row, has_row_is_some_row, absent_row_is_none, row_at, row_kept_by_other, new_row_is_found, shows_no_settings}
+use Rattle.form_words.proofs.FlagTexts.{default_keeps_other_rows, flag_text, other_flag_has_default_text, own_flag_has_text}
+use Rattle.form_words.proofs.OptionCases.{unknown_option_has_no_case, play_option_has_case, run_option_has_case, equal_option_names, valued_is_not_plain}
+use Rattle.form_words.proofs.ToldSettings.{IsTold, flag_row_shows_flag, rows_give_settings, row_has_option_name}
 
 -- a name that no option with a value has, has the row of a flag or none
 record IsFlagRow (id : Text) (rows : List Row) : Type 0 where
@@ -24,21 +24,21 @@ flag_lasts : (c : List Rule) (id : Text) → ((value : Text) → IsOption c (id,
 flag_lasts c id no_value [] rows after grows is = subst (IsFlagRow id) (sym grows) is
 flag_lasts c id no_value ((name, value) ∷ more) rows after grows is = flag_lasts c id no_value more (rows ++ row_of_words (name, value) ∷ []) after grows.2 (by value grows.0 (bytes_eq name id) refl) where
   by : (value : Option Text) → IsOption c (name, value) → (same : Bool) → bytes_eq name id ≡ same → IsFlagRow id (rows ++ row_of_words (name, value) ∷ [])
-  by None own false other = record { flag = is.flag; is = row_kept id rows (row_of_words (name, None)) other ∙ is.is }
-  by (Some v) own false other = record { flag = is.flag; is = row_kept id rows (row_of_words (name, Some v)) other ∙ is.is }
-  by (Some v) own true same = absurd (no_value v (subst (λ n. IsOption c (n, Some v)) (same_name name id same) own))
+  by None own false other = record { flag = is.flag; is = row_kept_by_other id rows (row_of_words (name, None)) other ∙ is.is }
+  by (Some v) own false other = record { flag = is.flag; is = row_kept_by_other id rows (row_of_words (name, Some v)) other ∙ is.is }
+  by (Some v) own true same = absurd (no_value v (subst (λ n. IsOption c (n, Some v)) (equal_option_names name id same) own))
   by None own true same =
-      let here = same_name name id same in
-      let none = none_there id rows (subst (λ n. has_row n rows ≡ false) here grows.1) in
-      record { flag = true; is = row_new id rows (row_of_words (name, None)) none same ∙ ap (λ n. Some (row_of_words (n, None))) here }
+      let here = equal_option_names name id same in
+      let none = absent_row_is_none id rows (subst (λ n. has_row n rows ≡ false) here grows.1) in
+      record { flag = true; is = new_row_is_found id rows (row_of_words (name, None)) none same ∙ ap (λ n. Some (row_of_words (n, None))) here }
 
 -- a name that no option has, has no row
 none_lasts : (c : List Rule) (id : Text) → ((value : Option Text) → IsOption c (id, value) → ⊥) → (given : List Given) (rows after : List Row) → Grows c rows given after → row_at id rows ≡ None → row_at id after ≡ None
 none_lasts c id no_option [] rows after grows is = ap (row_at id) grows ∙ is
 none_lasts c id no_option ((name, value) ∷ more) rows after grows is = none_lasts c id no_option more (rows ++ row_of_words (name, value) ∷ []) after grows.2 (by (bytes_eq name id) refl) where
   by : (same : Bool) → bytes_eq name id ≡ same → row_at id (rows ++ row_of_words (name, value) ∷ []) ≡ None
-  by true same = absurd (no_option value (subst (λ n. IsOption c (n, value)) (same_name name id same) grows.0))
-  by false other = row_kept id rows (row_of_words (name, value)) (ap (λ n. bytes_eq n id) (row_name (name, value)) ∙ other) ∙ is
+  by true same = absurd (no_option value (subst (λ n. IsOption c (n, value)) (equal_option_names name id same) grows.0))
+  by false other = row_kept_by_other id rows (row_of_words (name, value)) (ap (λ n. bytes_eq n id) (row_has_option_name (name, value)) ∙ other) ∙ is
 
 -- a flag is as its text says
 flag_told : (flag b : Bool) (text : Option Text) → IsFlag flag text → text ≡ Some (flag_text b) → flag ≡ b
@@ -50,16 +50,16 @@ other_told flag true text is e = is.given e
 other_told flag false text is e = is.none e
 
 row_told : (id : Text) (after : List Row) (flag b : Bool) → row_at id after ≡ flag_row b id → flag ≡ b → has_row id after ≡ flag
-row_told id after flag b is same = has_row_at id after ∙ ap is_some is ∙ flag_shown b id ∙ sym same
+row_told id after flag b is same = has_row_is_some_row id after ∙ ap is_some is ∙ flag_row_shows_flag b id ∙ sym same
 
 own_told : (flag : Text) (after : List Row) (given : Bool) → IsFlag given (one_of flag (with_default after (plain_built flag))) → IsFlagRow flag after → has_row flag after ≡ given
-own_told flag after given is row = row_told flag after given row.flag row.is (flag_told given row.flag _ is (own_text flag after row.flag row.is))
+own_told flag after given is row = row_told flag after given row.flag row.is (flag_told given row.flag _ is (own_flag_has_text flag after row.flag row.is))
 
 absent_told : (id flag : Text) (after : List Row) (given : Bool) → bytes_eq flag id ≡ false → IsFlag given (one_of id (with_default after (plain_built flag))) → row_at id after ≡ None → given ≡ false
-absent_told id flag after given other is none = other_told given false _ is (other_text id flag after false other none)
+absent_told id flag after given other is none = other_told given false _ is (other_flag_has_default_text id flag after false other none)
 
 value_told : (id flag : Text) (after : List Row) → bytes_eq flag id ≡ false → first_of id after ≡ first_of id (with_default after (plain_built flag))
-value_told id flag after other = ap (option_and_then (λ (r : Row). slice_get r.values 0)) (sym (default_kept id flag after other))
+value_told id flag after other = ap (option_and_then (λ (r : Row). slice_get r.values 0)) (sym (default_keeps_other_rows id flag after other))
 
 no_number : (value : Option ℕ) → option_map decimal value ≡ None → value ≡ None
 no_number None e = refl
@@ -71,23 +71,23 @@ pub record IsPlay (words : List Text) (all : Settings) : Type 0 where
   pub unlocked : all.locked ≡ false
   pub impatient : all.patience ≡ None
 
-pub play_given : (words : List Text) (all : Settings) → FindsSettings play_app words all → IsPlay words all
-play_given words all finds =
-    let f = found play_app (codes "play") (codes "brief") play_rules play_optional words finds.takes.apart finds.takes.faultless in
+pub found_is_play : (words : List Text) (all : Settings) → FindsSettings play_app words all → IsPlay words all
+found_is_play words all finds =
+    let f = walked_words_are_found play_app (codes "play") (codes "brief") play_rules play_app_is_optional words finds.takes.apart finds.takes.faultless in
     let flags = subst (λ rs. HasFlags rs all) f.is finds.flags in
     let values = subst (λ rs. HasValues rs all) f.is finds.values in
-    let brief_row = flag_lasts play_rules (codes "brief") (λ v own. valued_plain (codes "brief") (sym own.0)) f.reads.given [] f.after f.reads.grows (record { flag = false; is = refl }) in
-    let locked_row = none_lasts play_rules (codes "locked") (λ v. no_case play_rules (codes "locked") v refl) f.reads.given [] f.after f.reads.grows refl in
-    let patience_row = none_lasts play_rules (codes "patience") (λ v. no_case play_rules (codes "patience") v refl) f.reads.given [] f.after f.reads.grows refl in
+    let brief_row = flag_lasts play_rules (codes "brief") (λ v own. valued_is_not_plain (codes "brief") (sym own.0)) f.reads.given [] f.after f.reads.grows (record { flag = false; is = refl }) in
+    let locked_row = none_lasts play_rules (codes "locked") (λ v. unknown_option_has_no_case play_rules (codes "locked") v refl) f.reads.given [] f.after f.reads.grows refl in
+    let patience_row = none_lasts play_rules (codes "patience") (λ v. unknown_option_has_no_case play_rules (codes "patience") v refl) f.reads.given [] f.after f.reads.grows refl in
     let unlocked = absent_told (codes "locked") (codes "brief") f.after all.locked refl flags.locked locked_row in
     let told : IsTold all f.after = record {
       pace = value_told (codes "pace") (codes "brief") f.after refl ∙ values.pace;
       patience = value_told (codes "patience") (codes "brief") f.after refl ∙ values.patience.0;
       within = values.patience.1;
       brief = own_told (codes "brief") f.after all.brief flags.brief brief_row;
-      locked = has_row_at (codes "locked") f.after ∙ ap is_some locked_row ∙ sym unlocked;
+      locked = has_row_is_some_row (codes "locked") f.after ∙ ap is_some locked_row ∙ sym unlocked;
     } in
-    let given = gives play_rules play_case all f.after told f.reads.given [] no_settings shows_none tt f.reads.grows in
+    let given = rows_give_settings play_rules play_option_has_case all f.after told f.reads.given [] no_settings shows_no_settings tt f.reads.grows in
     record {
       gives_all = record { given = given.settings; spelled = f.reads.spelled ∙ given.spelled; adds = given.adds };
       unlocked = unlocked;
@@ -99,20 +99,20 @@ pub record IsRun (words : List Text) (all : Settings) : Type 0 where
   pub gives_all : GiveSettings no_settings words all
   pub whole : all.brief ≡ false
 
-pub run_given : (words : List Text) (all : Settings) → FindsSettings run_app words all → IsRun words all
-run_given words all finds =
-    let f = found run_app (codes "run") (codes "locked") run_rules run_optional words finds.takes.apart finds.takes.faultless in
+pub found_is_run : (words : List Text) (all : Settings) → FindsSettings run_app words all → IsRun words all
+found_is_run words all finds =
+    let f = walked_words_are_found run_app (codes "run") (codes "locked") run_rules run_app_is_optional words finds.takes.apart finds.takes.faultless in
     let flags = subst (λ rs. HasFlags rs all) f.is finds.flags in
     let values = subst (λ rs. HasValues rs all) f.is finds.values in
-    let locked_row = flag_lasts run_rules (codes "locked") (λ v own. valued_plain (codes "locked") (sym own.0)) f.reads.given [] f.after f.reads.grows (record { flag = false; is = refl }) in
-    let brief_row = none_lasts run_rules (codes "brief") (λ v. no_case run_rules (codes "brief") v refl) f.reads.given [] f.after f.reads.grows refl in
+    let locked_row = flag_lasts run_rules (codes "locked") (λ v own. valued_is_not_plain (codes "locked") (sym own.0)) f.reads.given [] f.after f.reads.grows (record { flag = false; is = refl }) in
+    let brief_row = none_lasts run_rules (codes "brief") (λ v. unknown_option_has_no_case run_rules (codes "brief") v refl) f.reads.given [] f.after f.reads.grows refl in
     let whole = absent_told (codes "brief") (codes "locked") f.after all.brief refl flags.brief brief_row in
     let told : IsTold all f.after = record {
       pace = value_told (codes "pace") (codes "locked") f.after refl ∙ values.pace;
       patience = value_told (codes "patience") (codes "locked") f.after refl ∙ values.patience.0;
       within = values.patience.1;
-      brief = has_row_at (codes "brief") f.after ∙ ap is_some brief_row ∙ sym whole;
+      brief = has_row_is_some_row (codes "brief") f.after ∙ ap is_some brief_row ∙ sym whole;
       locked = own_told (codes "locked") f.after all.locked flags.locked locked_row;
     } in
-    let given = gives run_rules run_case all f.after told f.reads.given [] no_settings shows_none tt f.reads.grows in
+    let given = rows_give_settings run_rules run_option_has_case all f.after told f.reads.given [] no_settings shows_no_settings tt f.reads.grows in
     record { gives_all = record { given = given.settings; spelled = f.reads.spelled ∙ given.spelled; adds = given.adds }; whole = whole }

@@ -9,34 +9,34 @@ use Rattle.form_words.specs.declared.pace.PaceName.{PaceName}
 use Rattle.form_words.specs.Matched.{HasPace, HasPatience, IsFlag}
 use Rattle.form_words.specs.Settings.{most_patience, pace_word}
 
-pub text_found : (f : Found) (id : Text) (text : Option Text) → text ≡ first_value f id → first_of id (rows_of f) ≡ text
-text_found f id text is = sym (first_value-rows f id) ∙ sym is
+pub first_text_is_found : (f : Found) (id : Text) (text : Option Text) → text ≡ first_value f id → first_of id (rows_of f) ≡ text
+first_text_is_found f id text is = sym (first_value-rows f id) ∙ sym is
 
-pub flag_found : (f : Found) (id : Text) (flag : Bool) → (one_text f id ≡ None → flag ≡ false) → (one_text f id ≡ Some (codes "true") → flag ≡ true) → (one_text f id ≡ Some (codes "false") → flag ≡ false)
+pub flag_of_rows_is_found : (f : Found) (id : Text) (flag : Bool) → (one_text f id ≡ None → flag ≡ false) → (one_text f id ≡ Some (codes "true") → flag ≡ true) → (one_text f id ≡ Some (codes "false") → flag ≡ false)
     → IsFlag flag (one_of id (rows_of f))
-flag_found f id flag none given other = record {
+flag_of_rows_is_found f id flag none given other = record {
   none = λ e. none (one_text-rows f id ∙ e);
   given = λ e. given (one_text-rows f id ∙ e);
   other = λ e. other (one_text-rows f id ∙ e);
 }
 
 -- a text that names no pace
-pub no_pace : (rows : List Row) (word : Text) → first_of (codes "pace") rows ≡ Some word → ((name : PaceName) → word ≢ pace_word name) → (pace : Option PaceName) → ¬ HasPace rows pace
-no_pace rows word is none None has = let bad = sym is ∙ has in cc
-no_pace rows word is none (Some name) has = let same : Some word ≡ Some (pace_word name) = sym is ∙ has in none name (cc)
+pub text_has_no_pace : (rows : List Row) (word : Text) → first_of (codes "pace") rows ≡ Some word → ((name : PaceName) → word ≢ pace_word name) → (pace : Option PaceName) → ¬ HasPace rows pace
+text_has_no_pace rows word is none None has = let bad = sym is ∙ has in cc
+text_has_no_pace rows word is none (Some name) has = let same : Some word ≡ Some (pace_word name) = sym is ∙ has in none name (cc)
 
 -- and one that is no patience
-pub no_patience : (rows : List Row) (word : Text) → first_of (codes "patience") rows ≡ Some word → ((n : ℕ) → word ≡ decimal n → 1 ≤ n → n ≤ most_patience → ⊥) → (patience : Option ℕ) → ¬ HasPatience rows patience
-no_patience rows word is none None has = let bad = sym is ∙ has.0 in cc
-no_patience rows word is none (Some n) has = let same : Some word ≡ Some (decimal n) = sym is ∙ has.0 in none n (cc) has.1.0 has.1.1
+pub text_has_no_patience : (rows : List Row) (word : Text) → first_of (codes "patience") rows ≡ Some word → ((n : ℕ) → word ≡ decimal n → 1 ≤ n → n ≤ most_patience → ⊥) → (patience : Option ℕ) → ¬ HasPatience rows patience
+text_has_no_patience rows word is none None has = let bad = sym is ∙ has.0 in cc
+text_has_no_patience rows word is none (Some n) has = let same : Some word ≡ Some (decimal n) = sym is ∙ has.0 in none n (cc) has.1.0 has.1.1
 
 -- the number of a text that was found
-pub number_some : (rows : List Row) (place word : Text) (found : Option ℕ) (least most : ℕ) → first_of place rows ≡ Some word → IfSome found (λ n. (word ≡ decimal n) × (least ≤ n) × (n ≤ most))
+pub found_number_in_range : (rows : List Row) (place word : Text) (found : Option ℕ) (least most : ℕ) → first_of place rows ≡ Some word → IfSome found (λ n. (word ≡ decimal n) × (least ≤ n) × (n ≤ most))
     → IfSome found (λ n. (first_of place rows ≡ Some (decimal n)) × (least ≤ n) × (n ≤ most))
-number_some rows place word None least most is some = tt
-number_some rows place word (Some n) least most is some = (is ∙ ap Some some.0, some.1, some.2)
+found_number_in_range rows place word None least most is some = tt
+found_number_in_range rows place word (Some n) least most is some = (is ∙ ap Some some.0, some.1, some.2)
 
-pub number_none : (rows : List Row) (place word : Text) (found : Option ℕ) (least most : ℕ) → first_of place rows ≡ Some word → IfNone found ((n : ℕ) → word ≡ decimal n → least ≤ n → n ≤ most → ⊥)
+pub no_number_in_range : (rows : List Row) (place word : Text) (found : Option ℕ) (least most : ℕ) → first_of place rows ≡ Some word → IfNone found ((n : ℕ) → word ≡ decimal n → least ≤ n → n ≤ most → ⊥)
     → IfNone found ((n : ℕ) → first_of place rows ≡ Some (decimal n) → least ≤ n → n ≤ most → ⊥)
-number_none rows place word None least most is none = λ n has. let same : Some word ≡ Some (decimal n) = sym is ∙ has in none n (cc)
-number_none rows place word (Some n) least most is none = tt
+no_number_in_range rows place word None least most is none = λ n has. let same : Some word ≡ Some (decimal n) = sym is ∙ has in none n (cc)
+no_number_in_range rows place word (Some n) least most is none = tt

@@ -13,42 +13,42 @@ use Rattle.form_words.specs.declared.work.Work.{Work}
 use Rattle.form_words.specs.declared.work.Work.TheVariants.{Play, Run, Check, Make}
 use Rattle.form_words.specs.Settings.{GiveSettings, no_settings}
 use Rattle.form_words.specs.Works.{Completes, form_word, usual_patience}
-use Rattle.form_words.proofs.GivenSettings.{patience_within}
-use Rattle.form_words.proofs.MakingWords.{make_found, make_taken}
-use Rattle.form_words.proofs.OptionForms.{check_found, check_taken}
-use Rattle.form_words.proofs.SettingForms.{play_finds, run_finds}
-use Rattle.form_words.proofs.FoundSettings.{play_given, run_given}
-use Rattle.form_words.proofs.SettingRows.{number_loose}
+use Rattle.form_words.proofs.GivenSettings.{given_patience_in_range}
+use Rattle.form_words.proofs.MakingWords.{found_make_is_three_words, three_words_are_taken}
+use Rattle.form_words.proofs.OptionForms.{found_check_has_no_words, check_without_words_taken}
+use Rattle.form_words.proofs.SettingForms.{play_finds_settings, run_finds_settings}
+use Rattle.form_words.proofs.FoundSettings.{found_is_play, found_is_run}
+use Rattle.form_words.proofs.SettingRows.{number_is_loose}
 
-pub play_completes : (words : List Text) (all : Settings) → FindsSettings play_app words all → Completes words (Play all.pace all.brief)
-play_completes words all finds =
-    let play = play_given words all finds in
+pub found_play_completes : (words : List Text) (all : Settings) → FindsSettings play_app words all → Completes words (Play all.pace all.brief)
+found_play_completes words all finds =
+    let play = found_is_play words all finds in
     let same : all ≡ record no_settings { pace = all.pace; brief = all.brief } = λ i. record { pace = all.pace; brief = all.brief; locked = play.unlocked i; patience = play.impatient i } in
     subst (GiveSettings no_settings words) same play.gives_all
 
-pub no_play_found : (words : List Text) → ((all : Settings) → ¬ FindsSettings play_app words all) → (pace : Option PaceName) (brief : Bool) → ¬ Completes words (Play pace brief)
-no_play_found words none pace brief gives = none _ (play_finds words (record no_settings { pace = pace; brief = brief }) refl refl tt gives)
+pub nothing_completes_play : (words : List Text) → ((all : Settings) → ¬ FindsSettings play_app words all) → (pace : Option PaceName) (brief : Bool) → ¬ Completes words (Play pace brief)
+nothing_completes_play words none pace brief gives = none _ (play_finds_settings words (record no_settings { pace = pace; brief = brief }) refl refl tt gives)
 
-pub run_completes : (words : List Text) (all : Settings) → FindsSettings run_app words all → Completes words (Run (unwrap_or all.pace Steady) all.locked (unwrap_or all.patience usual_patience))
-run_completes words all finds =
-    let run = run_given words all finds in
+pub found_run_completes : (words : List Text) (all : Settings) → FindsSettings run_app words all → Completes words (Run (unwrap_or all.pace Steady) all.locked (unwrap_or all.patience usual_patience))
+found_run_completes words all finds =
+    let run = found_is_run words all finds in
     (all, run.gives_all, record { pace_is = refl; locked_is = refl; patience_is = refl; not_brief = run.whole })
 
-pub no_run_found : (words : List Text) → ((all : Settings) → ¬ FindsSettings run_app words all) → (pace : PaceName) (locked : Bool) (patience : ℕ) → ¬ Completes words (Run pace locked patience)
-no_run_found words none pace locked patience (settings, gives, is) = none settings (run_finds words settings is.not_brief (patience_within words settings gives) gives)
+pub nothing_completes_run : (words : List Text) → ((all : Settings) → ¬ FindsSettings run_app words all) → (pace : PaceName) (locked : Bool) (patience : ℕ) → ¬ Completes words (Run pace locked patience)
+nothing_completes_run words none pace locked patience (settings, gives, is) = none settings (run_finds_settings words settings is.not_brief (given_patience_in_range words settings gives) gives)
 
-pub check_completes : (words : List Text) → Takes check_app words → words ≡ []
-check_completes words takes = check_found words takes.apart takes.faultless
+pub completed_check_has_no_words : (words : List Text) → Takes check_app words → words ≡ []
+completed_check_has_no_words words takes = found_check_has_no_words words takes.apart takes.faultless
 
-pub no_check_found : (words : List Text) → ¬ Takes check_app words → ¬ (words ≡ [])
-no_check_found words none is = none (subst (Takes check_app) (sym is) (record { apart = refl; faultless = check_taken }))
+pub unchecked_words_are_some : (words : List Text) → ¬ Takes check_app words → ¬ (words ≡ [])
+unchecked_words_are_some words none is = none (subst (Takes check_app) (sym is) (record { apart = refl; faultless = check_without_words_taken }))
 
 same_text : (a : Text) (n : ℕ) → Some a ≡ Some (decimal n) → a ≡ decimal n
 same_text a n e = cc
 
 pub make_completes : (words : List Text) (work : Work) → Takes make_app words → FindsMaking (matches_of make_app words) work → Completes words work
 make_completes words (Make start seats lines) takes finds =
-    let three = make_found words takes.apart takes.faultless in
+    let three = found_make_is_three_words words takes.apart takes.faultless in
     let found = subst (λ rows. FindsMaking rows (Make start seats lines)) three.is finds in
     (found.0, three.are ∙ (λ i. same_text three.start start found.1 i ∷ same_text three.seats seats found.2 i ∷ same_text three.lines lines found.3 i ∷ []))
 make_completes words (Play pace brief) takes finds = absurd finds
@@ -62,25 +62,25 @@ pub record IsMakingFound (words : List Text) (work : Work) : Type 0 where
 
 pub making_found : (words : List Text) (start seats lines : ℕ) → Completes words (Make start seats lines) → IsMakingFound words (Make start seats lines)
 making_found words start seats lines made =
-    let one = number_loose start (omega (arith, made.0.0)) in
-    let two = number_loose seats (omega (arith, made.0.1.1)) in
-    let three = number_loose lines (omega (arith, made.0.2)) in
-    let taken = make_taken (decimal start) (decimal seats) (decimal lines) one.0 two.0 three.0 in
+    let one = number_is_loose start (omega (arith, made.0.0)) in
+    let two = number_is_loose seats (omega (arith, made.0.1.1)) in
+    let three = number_is_loose lines (omega (arith, made.0.2)) in
+    let taken = three_words_are_taken (decimal start) (decimal seats) (decimal lines) one.0 two.0 three.0 in
     let apart : are_apart (decimal start ∷ decimal seats ∷ decimal lines ∷ []) ≡ true = rw (one.1, two.1, three.1) refl in
     subst (λ ws. IsMakingFound ws (Make start seats lines)) (sym made.1) (record {
       takes = record { apart = apart; faultless = taken.0 };
       finds = subst (λ rows. FindsMaking rows (Make start seats lines)) (sym taken.1) (made.0, refl, refl, refl);
     })
 
-pub make_some : (words : List Text) (rows : List Row) (found : Option Work) → Takes make_app words → rows ≡ matches_of make_app words → IfSome found (λ work. (form_word work ≡ codes "make") × FindsMaking rows work)
+pub found_make_completes : (words : List Text) (rows : List Row) (found : Option Work) → Takes make_app words → rows ≡ matches_of make_app words → IfSome found (λ work. (form_word work ≡ codes "make") × FindsMaking rows work)
     → IfSome found (λ work. (form_word work ≡ codes "make") × Completes words work)
-make_some words rows None takes is some = tt
-make_some words rows (Some work) takes is some = (some.0, make_completes words work takes (subst (λ rs. FindsMaking rs work) is some.1))
+found_make_completes words rows None takes is some = tt
+found_make_completes words rows (Some work) takes is some = (some.0, make_completes words work takes (subst (λ rs. FindsMaking rs work) is some.1))
 
-pub make_none : (words : List Text) (rows : List Row) (found : Option Work) → rows ≡ matches_of make_app words → IfNone found ((start seats lines : ℕ) → ¬ FindsMaking rows (Make start seats lines))
+pub none_found_none_makes : (words : List Text) (rows : List Row) (found : Option Work) → rows ≡ matches_of make_app words → IfNone found ((start seats lines : ℕ) → ¬ FindsMaking rows (Make start seats lines))
     → IfNone found ((start seats lines : ℕ) → ¬ Completes words (Make start seats lines))
-make_none words rows None is none = λ start seats lines made. none start seats lines (subst (λ rs. FindsMaking rs (Make start seats lines)) (sym is) (making_found words start seats lines made).finds)
-make_none words rows (Some work) is none = tt
+none_found_none_makes words rows None is none = λ start seats lines made. none start seats lines (subst (λ rs. FindsMaking rs (Make start seats lines)) (sym is) (making_found words start seats lines made).finds)
+none_found_none_makes words rows (Some work) is none = tt
 
-pub no_make_found : (words : List Text) → ¬ Takes make_app words → (start seats lines : ℕ) → ¬ Completes words (Make start seats lines)
-no_make_found words none start seats lines made = none (making_found words start seats lines made).takes
+pub nothing_completes_make : (words : List Text) → ¬ Takes make_app words → (start seats lines : ℕ) → ¬ Completes words (Make start seats lines)
+nothing_completes_make words none start seats lines made = none (making_found words start seats lines made).takes

@@ -61,8 +61,8 @@ settings_of-given words all gives =
     ap (fold with_setting no_settings) told ∙ added no_settings all gives.given gives.adds
 
 -- a patience that was given is in its range
-pub patience_within : (words : List (List ℕ)) (all : Settings) → GiveSettings no_settings words all → IfSome all.patience (IsWithin 1 most_patience)
-patience_within words all gives = by no_settings gives.given tt gives.adds where
+pub given_patience_in_range : (words : List (List ℕ)) (all : Settings) → GiveSettings no_settings words all → IfSome all.patience (IsWithin 1 most_patience)
+given_patience_in_range words all gives = by no_settings gives.given tt gives.adds where
   by : (before : Settings) (given : List Setting) → IfSome before.patience (IsWithin 1 most_patience) → AddSettings before given all → IfSome all.patience (IsWithin 1 most_patience)
   by before [] within adds = subst (λ (s : Settings). IfSome s.patience (IsWithin 1 most_patience)) (sym adds) within
   by before (Pace name ∷ more) within adds = by (with_setting before (Pace name)) more within adds.2

@@ -16,43 +16,43 @@ pub data OptionCase (x : Given) : Type 0 where
   is_patience : (value : Text) → x ≡ (codes "patience", Some value) → OptionCase x
 
 -- an option with a value behind it is none by itself
-pub valued_plain : (name : Text) → ◌≡◌ {A = Option Rule} (Some (valued_built name)) (Some (plain_built name)) → ⊥
-valued_plain name e = let actions = ap (option_map (λ (r : Rule). r.defaults)) e in cc
+pub valued_is_not_plain : (name : Text) → ◌≡◌ {A = Option Rule} (Some (valued_built name)) (Some (plain_built name)) → ⊥
+valued_is_not_plain name e = let actions = ap (option_map (λ (r : Rule). r.defaults)) e in cc
 
 pace_case : (c : List Rule) (value : Option Text) → arg_by_long c (codes "pace") ≡ Some (valued_built (codes "pace")) → IsOption c (codes "pace", value) → OptionCase (codes "pace", value)
-pace_case c None is own = absurd (valued_plain (codes "pace") (sym is ∙ own))
+pace_case c None is own = absurd (valued_is_not_plain (codes "pace") (sym is ∙ own))
 pace_case c (Some value) is own = is_pace value refl
 
 patience_case : (c : List Rule) (value : Option Text) → arg_by_long c (codes "patience") ≡ Some (valued_built (codes "patience")) → IsOption c (codes "patience", value) → OptionCase (codes "patience", value)
-patience_case c None is own = absurd (valued_plain (codes "patience") (sym is ∙ own))
+patience_case c None is own = absurd (valued_is_not_plain (codes "patience") (sym is ∙ own))
 patience_case c (Some value) is own = is_patience value refl
 
 brief_case : (c : List Rule) (value : Option Text) → arg_by_long c (codes "brief") ≡ Some (plain_built (codes "brief")) → IsOption c (codes "brief", value) → OptionCase (codes "brief", value)
 brief_case c None is own = is_brief refl
-brief_case c (Some value) is own = absurd (valued_plain (codes "brief") (sym own.0 ∙ is))
+brief_case c (Some value) is own = absurd (valued_is_not_plain (codes "brief") (sym own.0 ∙ is))
 
 locked_case : (c : List Rule) (value : Option Text) → arg_by_long c (codes "locked") ≡ Some (plain_built (codes "locked")) → IsOption c (codes "locked", value) → OptionCase (codes "locked", value)
 locked_case c None is own = is_locked refl
-locked_case c (Some value) is own = absurd (valued_plain (codes "locked") (sym own.0 ∙ is))
+locked_case c (Some value) is own = absurd (valued_is_not_plain (codes "locked") (sym own.0 ∙ is))
 
-pub no_case : (c : List Rule) (name : Text) (value : Option Text) → arg_by_long c name ≡ None → IsOption c (name, value) → ⊥
-no_case c name None none own = let bad = sym none ∙ own in cc
-no_case c name (Some value) none own = let bad = sym none ∙ own.0 in cc
+pub unknown_option_has_no_case : (c : List Rule) (name : Text) (value : Option Text) → arg_by_long c name ≡ None → IsOption c (name, value) → ⊥
+unknown_option_has_no_case c name None none own = let bad = sym none ∙ own in cc
+unknown_option_has_no_case c name (Some value) none own = let bad = sym none ∙ own.0 in cc
 
-pub same_name : (a b : Text) → bytes_eq a b ≡ true → a ≡ b
-same_name a b = (bytes_eq-Decides a b).0
+pub equal_option_names : (a b : Text) → bytes_eq a b ≡ true → a ≡ b
+equal_option_names a b = (bytes_eq-Decides a b).0
 
-pub play_case : (x : Given) → IsOption play_rules x → OptionCase x
-play_case (name, value) own = by (bytes_eq (codes "pace") name) refl (bytes_eq (codes "brief") name) refl where
+pub play_option_has_case : (x : Given) → IsOption play_rules x → OptionCase x
+play_option_has_case (name, value) own = by (bytes_eq (codes "pace") name) refl (bytes_eq (codes "brief") name) refl where
   by : (x : Bool) → bytes_eq (codes "pace") name ≡ x → (y : Bool) → bytes_eq (codes "brief") name ≡ y → OptionCase (name, value)
-  by true is y is' = subst (λ n. IsOption play_rules (n, value) → OptionCase (n, value)) (same_name (codes "pace") name is) (pace_case play_rules value refl) own
-  by false is true is' = subst (λ n. IsOption play_rules (n, value) → OptionCase (n, value)) (same_name (codes "brief") name is') (brief_case play_rules value refl) own
-  by false is false is' = absurd (no_case play_rules name value (rw (is, is') refl) own)
+  by true is y is' = subst (λ n. IsOption play_rules (n, value) → OptionCase (n, value)) (equal_option_names (codes "pace") name is) (pace_case play_rules value refl) own
+  by false is true is' = subst (λ n. IsOption play_rules (n, value) → OptionCase (n, value)) (equal_option_names (codes "brief") name is') (brief_case play_rules value refl) own
+  by false is false is' = absurd (unknown_option_has_no_case play_rules name value (rw (is, is') refl) own)
 
-pub run_case : (x : Given) → IsOption run_rules x → OptionCase x
-run_case (name, value) own = by (bytes_eq (codes "pace") name) refl (bytes_eq (codes "locked") name) refl (bytes_eq (codes "patience") name) refl where
+pub run_option_has_case : (x : Given) → IsOption run_rules x → OptionCase x
+run_option_has_case (name, value) own = by (bytes_eq (codes "pace") name) refl (bytes_eq (codes "locked") name) refl (bytes_eq (codes "patience") name) refl where
   by : (x : Bool) → bytes_eq (codes "pace") name ≡ x → (y : Bool) → bytes_eq (codes "locked") name ≡ y → (z : Bool) → bytes_eq (codes "patience") name ≡ z → OptionCase (name, value)
-  by true is y is' z is'' = subst (λ n. IsOption run_rules (n, value) → OptionCase (n, value)) (same_name (codes "pace") name is) (pace_case run_rules value refl) own
-  by false is true is' z is'' = subst (λ n. IsOption run_rules (n, value) → OptionCase (n, value)) (same_name (codes "locked") name is') (locked_case run_rules value refl) own
-  by false is false is' true is'' = subst (λ n. IsOption run_rules (n, value) → OptionCase (n, value)) (same_name (codes "patience") name is'') (patience_case run_rules value refl) own
-  by false is false is' false is'' = absurd (no_case run_rules name value (rw (is, is', is'') refl) own)
+  by true is y is' z is'' = subst (λ n. IsOption run_rules (n, value) → OptionCase (n, value)) (equal_option_names (codes "pace") name is) (pace_case run_rules value refl) own
+  by false is true is' z is'' = subst (λ n. IsOption run_rules (n, value) → OptionCase (n, value)) (equal_option_names (codes "locked") name is') (locked_case run_rules value refl) own
+  by false is false is' true is'' = subst (λ n. IsOption run_rules (n, value) → OptionCase (n, value)) (equal_option_names (codes "patience") name is'') (patience_case run_rules value refl) own
+  by false is false is' false is'' = absurd (unknown_option_has_no_case run_rules name value (rw (is, is', is'') refl) own)

@@ -9,8 +9,8 @@ use Rattle.clap.specs.Kinds.{or_else}
 use Rattle.clap.specs.Faults.{check_fault, default_fault, defaults_fault, entered_fault, fault_of, given_default_fault, settle_fault, walk_fault}
 use Rattle.form_words.specs.Commands.{check_app, play_app, run_app}
 use Rattle.form_words.specs.Joined.{are_apart}
-use Rattle.form_words.proofs.OptionSteps.{NameCase, or_else_parts, plain, plain_built, shape_with, unknown, valued, valued_built}
-use Rattle.form_words.proofs.OptionWalk.{AllSpelled, Given, Grows, Reads, given_words, goes, reads}
+use Rattle.form_words.proofs.OptionSteps.{NameCase, or_else_empty_both_empty, plain, plain_built, shape_with, unknown, valued, valued_built}
+use Rattle.form_words.proofs.OptionWalk.{AllSpelled, Given, Grows, Reads, given_words, given_options_are_taken, taken_words_give_options}
 
 -- the options of a play and of a run
 abbrev pub play_rules : List Rule
@@ -77,39 +77,39 @@ pub record IsOptional (app : App) (form flag : Text) (c : List Rule) : Type 0 wh
 
 -- the faults of a command with no subcommand, a part after another, and its matches
 module _ (app : App) (form : Text) (c : List Rule) (built_is : built app ≡ record { top = shape_with form c; subs = [] }) (nameless : app.top.no_binary_name ≡ true) where
-  pub fault_parts : (words : List Text) → let end : Held = (walk c [] nothing_held words).held in
+  pub fault_is_of_its_parts : (words : List Text) → let end : Held = (walk c [] nothing_held words).held in
       fault_of app words ≡ or_else (walk_fault (shape_with form c) [] (walk_from nothing_held) words) (or_else (settle_fault c false end)
       (or_else (defaults_fault (settled c end).rows c) (check_fault (shape_with form c) (finished c end) false)))
-  fault_parts words =
+  fault_is_of_its_parts words =
       let entered_none = none_entered (record { top = shape_with form c; subs = [] }) (walk c [] nothing_held words).stopped refl in
       rw (built_is, nameless, entered_none.0, entered_none.1) refl
 
-  pub rows_are : (words : List Text) → matches_of app words ≡ finished c (walk c [] nothing_held words).held
-  rows_are words = rw (built_is, nameless) refl
+  pub matches_are_walked_rows : (words : List Text) → matches_of app words ≡ finished c (walk c [] nothing_held words).held
+  matches_are_walked_rows words = rw (built_is, nameless) refl
 
 module _ (app : App) (form flag : Text) (c : List Rule) (is : IsOptional app form flag c) where
-  pub found : (words : List Text) → are_apart words ≡ true → fault_of app words ≡ [] → IsFound c flag words (matches_of app words)
-  found words apart none =
+  pub walked_words_are_found : (words : List Text) → are_apart words ≡ true → fault_of app words ≡ [] → IsFound c flag words (matches_of app words)
+  walked_words_are_found words apart none =
       let end = (walk c [] nothing_held words).held in
-      let first = or_else_parts (walk_fault (shape_with form c) [] (walk_from nothing_held) words) _ (sym (fault_parts app form c is.built_is is.nameless words) ∙ none) in
-      let second = or_else_parts (settle_fault c false end) _ first.1 in
-      let read = reads form c is.cases is.no_short is.no_place words [] None (record { apart = apart; faultless = first.0; settles_last = second.0 }) in
-      record { after = (settled c end).rows; reads = read.1; is = rows_are app form c is.built_is is.nameless words ∙ is.ends end }
+      let first = or_else_empty_both_empty (walk_fault (shape_with form c) [] (walk_from nothing_held) words) _ (sym (fault_is_of_its_parts app form c is.built_is is.nameless words) ∙ none) in
+      let second = or_else_empty_both_empty (settle_fault c false end) _ first.1 in
+      let read = taken_words_give_options form c is.cases is.no_short is.no_place words [] None (record { apart = apart; faultless = first.0; settles_last = second.0 }) in
+      record { after = (settled c end).rows; reads = read.1; is = matches_are_walked_rows app form c is.built_is is.nameless words ∙ is.ends end }
 
-  pub taken : (given : List Given) (after : List Row) → AllSpelled given → Grows c [] given after → IsTaken app flag (flat_map given_words given) after
-  taken given after spelled grows =
+  pub given_words_are_taken : (given : List Given) (after : List Row) → AllSpelled given → Grows c [] given after → IsTaken app flag (flat_map given_words given) after
+  given_words_are_taken given after spelled grows =
       let words = flat_map given_words given in
       let end = (walk c [] nothing_held words).held in
-      let gone = goes form c is.cases is.no_short is.no_place given [] None after refl spelled grows in
+      let gone = given_options_are_taken form c is.cases is.no_short is.no_place given [] None after refl spelled grows in
       record {
         apart = gone.0.apart;
-        faultless = fault_parts app form c is.built_is is.nameless words ∙ ap₂ or_else gone.0.faultless (ap₂ or_else gone.0.settles_last (ap₂ or_else (is.defaults (settled c end).rows) (is.checks (finished c end))));
-        is = rows_are app form c is.built_is is.nameless words ∙ is.ends end ∙ ap (λ rows. with_default rows (plain_built flag)) gone.1;
+        faultless = fault_is_of_its_parts app form c is.built_is is.nameless words ∙ ap₂ or_else gone.0.faultless (ap₂ or_else gone.0.settles_last (ap₂ or_else (is.defaults (settled c end).rows) (is.checks (finished c end))));
+        is = matches_are_walked_rows app form c is.built_is is.nameless words ∙ is.ends end ∙ ap (λ rows. with_default rows (plain_built flag)) gone.1;
       }
 
-pub play_optional : IsOptional play_app (codes "play") (codes "brief") play_rules
+pub play_app_is_optional : IsOptional play_app (codes "play") (codes "brief") play_rules
 unfolding defaults_fault
-play_optional = record {
+play_app_is_optional = record {
   built_is = refl;
   nameless = refl;
   cases = play_cases;
@@ -120,9 +120,9 @@ play_optional = record {
   ends = λ h. ap (λ rows. with_default rows (plain_built (codes "brief"))) (valued_default (codes "pace") (settled play_rules h).rows).1;
 }
 
-pub run_optional : IsOptional run_app (codes "run") (codes "locked") run_rules
+pub run_app_is_optional : IsOptional run_app (codes "run") (codes "locked") run_rules
 unfolding defaults_fault
-run_optional = record {
+run_app_is_optional = record {
   built_is = refl;
   nameless = refl;
   cases = run_cases;
@@ -140,18 +140,18 @@ run_optional = record {
 }
 
 -- a check's command takes no word
-pub check_found : (words : List Text) → are_apart words ≡ true → fault_of check_app words ≡ [] → words ≡ []
-check_found words apart none =
+pub found_check_has_no_words : (words : List Text) → are_apart words ≡ true → fault_of check_app words ≡ [] → words ≡ []
+found_check_has_no_words words apart none =
     let end = (walk [] [] nothing_held words).held in
-    let first = or_else_parts (walk_fault (shape_with (codes "check") []) [] (walk_from nothing_held) words) _ (sym (fault_parts check_app (codes "check") [] refl refl words) ∙ none) in
-    let second = or_else_parts (settle_fault [] false end) _ first.1 in
-    let read = reads (codes "check") [] (λ name. unknown refl) (λ x. refl) (λ i. refl) words [] None (record { apart = apart; faultless = first.0; settles_last = second.0 }) in
+    let first = or_else_empty_both_empty (walk_fault (shape_with (codes "check") []) [] (walk_from nothing_held) words) _ (sym (fault_is_of_its_parts check_app (codes "check") [] refl refl words) ∙ none) in
+    let second = or_else_empty_both_empty (settle_fault [] false end) _ first.1 in
+    let read = taken_words_give_options (codes "check") [] (λ name. unknown refl) (λ x. refl) (λ i. refl) words [] None (record { apart = apart; faultless = first.0; settles_last = second.0 }) in
     by words read.1.given (settled [] end).rows read.1.spelled read.1.grows where
       by : (words : List Text) (given : List Given) (after : List Row) → words ≡ flat_map given_words given → Grows [] [] given after → words ≡ []
       by words [] after spelled grows = spelled
       by words ((name, None) ∷ more) after spelled grows = let bad = grows.0 in cc
       by words ((name, Some value) ∷ more) after spelled grows = let bad = grows.0.0 in cc
 
-pub check_taken : fault_of check_app [] ≡ []
+pub check_without_words_taken : fault_of check_app [] ≡ []
 unfolding walk_fault defaults_fault
-check_taken = refl
+check_without_words_taken = refl

@@ -55,13 +55,13 @@ module _ (form : Text) (c : List Rule) (no_short : (x : ℕ) → arg_by_short c 
         (word_fault (shape_with form c) [] false waiting word h ≡ []) × (word_met c [] false waiting position word h ≡ plain_word c waiting word h)) → WordCase word
 
   -- a word without a dash is loose
-  pub is_loose : (word : Text) → bytes_eq word (45 ∷ 45 ∷ []) ≡ false → long_of word ≡ None → short_of word ≡ None → (waiting : Waiting) (position : ℕ) (rows : List Row) (pending : Option (Text × List Text))
+  pub dashless_word_is_loose : (word : Text) → bytes_eq word (45 ∷ 45 ∷ []) ≡ false → long_of word ≡ None → short_of word ≡ None → (waiting : Waiting) (position : ℕ) (rows : List Row) (pending : Option (Text × List Text))
       → let h : Held = record { rows = rows; pending = pending; skip = 0 } in
       (word_fault (shape_with form c) [] false waiting word h ≡ []) × (word_met c [] false waiting position word h ≡ plain_word c waiting word h)
-  is_loose word other long short waiting position rows pending = rw (no_subcommand waiting word, other, long, short) (refl, refl)
+  dashless_word_is_loose word other long short waiting position rows pending = rw (no_subcommand waiting word, other, long, short) (refl, refl)
 
   no_dash : (word : Text) → bytes_eq word (45 ∷ 45 ∷ []) ≡ false → long_of word ≡ None → short_of word ≡ None → WordCase word
-  no_dash word other long short = loose (is_loose word other long short)
+  no_dash word other long short = loose (dashless_word_is_loose word other long short)
 
   -- a word with one dash is refused by its first letter
   one_dash : (word : Text) (x : ℕ) (xs : List ℕ) → bytes_eq word (45 ∷ 45 ∷ []) ≡ false → long_of word ≡ None → short_of word ≡ Some (x ∷ xs) → WordCase word
@@ -71,9 +71,9 @@ module _ (form : Text) (c : List Rule) (no_short : (x : ℕ) → arg_by_short c 
     by None none = loose (λ waiting position rows pending. rw (no_subcommand waiting word, other, long, short, none) (refl, refl))
     by (Some letter) is = refused (λ waiting rows pending. rw (no_subcommand waiting word, other, long, short, is, no_short letter) refl)
 
-  pub word_case : (word : Text) → is_joined word ≡ false → WordCase word
-  word_case [] apart = no_dash [] refl refl refl
-  word_case (x ∷ xs) apart = by (x == 45) refl xs apart where
+  pub each_word_has_case : (word : Text) → is_joined word ≡ false → WordCase word
+  each_word_has_case [] apart = no_dash [] refl refl refl
+  each_word_has_case (x ∷ xs) apart = by (x == 45) refl xs apart where
     more : (y : ℕ) (ys : List ℕ) (dash : Bool) → (y == 45) ≡ dash → is_joined (45 ∷ y ∷ ys) ≡ false → WordCase (45 ∷ y ∷ ys)
     more y ys false other apart = one_dash (45 ∷ y ∷ ys) y ys (rw other refl) (rw other refl) (rw other refl)
     more y [] true is apart = absurd (true≢false (sym (rw is refl) ∙ apart))
@@ -116,72 +116,72 @@ or_else_nil (k ∷ ks) = refl
 
 module _ (form : Text) (c : List Rule) (no_place : (i : ℕ) → arg_by_index c i ≡ None) where
   -- at an option by itself
-  pub at_plain : (word name : Text) (rows : List Row) (pending : Option (Text × List Text)) → long_of word ≡ Some (name, None) → bytes_eq word (45 ∷ 45 ∷ []) ≡ false
+  pub step_at_plain_option : (word name : Text) (rows : List Row) (pending : Option (Text × List Text)) → long_of word ≡ Some (name, None) → bytes_eq word (45 ∷ 45 ∷ []) ≡ false
       → arg_by_long c name ≡ Some (plain_built name)
       → let h : Held = held rows pending in
       (turn_fault (shape_with form c) [] (walk_from h) word ≡ or_else (settle_fault c false h) (repeat_fault false name (settled c h).rows))
       × (walked c [] (walk_from h) word ≡ walk_from (held (used (plain_built name) [] (settled c h).rows) None))
   unfolding walked
-  at_plain word name rows pending long other is = rw (other, long, is) (or_else_nil _ ∙ ap (or_else (settle_fault c false (held rows pending))) (or_else_nil _), refl)
+  step_at_plain_option word name rows pending long other is = rw (other, long, is) (or_else_nil _ ∙ ap (or_else (settle_fault c false (held rows pending))) (or_else_nil _), refl)
 
   -- at an option with a value behind it
-  pub at_valued : (word name : Text) (rows : List Row) (pending : Option (Text × List Text)) → long_of word ≡ Some (name, None) → bytes_eq word (45 ∷ 45 ∷ []) ≡ false
+  pub step_at_valued_option : (word name : Text) (rows : List Row) (pending : Option (Text × List Text)) → long_of word ≡ Some (name, None) → bytes_eq word (45 ∷ 45 ∷ []) ≡ false
       → arg_by_long c name ≡ Some (valued_built name)
       → let h : Held = held rows pending in
       (turn_fault (shape_with form c) [] (walk_from h) word ≡ settle_fault c false h) × (walked c [] (walk_from h) word ≡ waits name (settled c h).rows)
   unfolding walked
-  at_valued word name rows pending long other is = rw (other, long, is) (or_else_nil _, refl)
+  step_at_valued_option word name rows pending long other is = rw (other, long, is) (or_else_nil _, refl)
 
   -- at a name that the command lacks
-  pub at_unknown : (word name : Text) (rows : List Row) (pending : Option (Text × List Text)) → long_of word ≡ Some (name, None) → bytes_eq word (45 ∷ 45 ∷ []) ≡ false
+  pub unknown_name_is_refused : (word name : Text) (rows : List Row) (pending : Option (Text × List Text)) → long_of word ≡ Some (name, None) → bytes_eq word (45 ∷ 45 ∷ []) ≡ false
       → arg_by_long c name ≡ None → turn_fault (shape_with form c) [] (walk_from (held rows pending)) word ≡ refusal
-  at_unknown word name rows pending long other is = rw (other, long, is) refl
+  unknown_name_is_refused word name rows pending long other is = rw (other, long, is) refl
 
   -- where a value is due, a name that the command has finds none
-  pub name_for_value : (word name due : Text) (rows : List Row) → long_of word ≡ Some (name, None) → bytes_eq word (45 ∷ 45 ∷ []) ≡ false
+  pub name_is_no_value : (word name due : Text) (rows : List Row) → long_of word ≡ Some (name, None) → bytes_eq word (45 ∷ 45 ∷ []) ≡ false
       → arg_by_id c due ≡ Some (valued_built due) → NameCase c name → turn_fault (shape_with form c) [] (waits due rows) word ≡ [] → ⊥
-  name_for_value word name due rows long other id (unknown none) faultless = let told = rw (other, long, none) at faultless in cc
-  name_for_value word name due rows long other id (plain is) faultless = let told = rw (other, long, is, id) at faultless in cc
-  name_for_value word name due rows long other id (valued is same) faultless = let told = rw (other, long, is, id) at faultless in cc
+  name_is_no_value word name due rows long other id (unknown none) faultless = let told = rw (other, long, none) at faultless in cc
+  name_is_no_value word name due rows long other id (plain is) faultless = let told = rw (other, long, is, id) at faultless in cc
+  name_is_no_value word name due rows long other id (valued is same) faultless = let told = rw (other, long, is, id) at faultless in cc
 
   -- a word that is no name is refused, or has no place
-  pub at_refused : (word : Text) (rows : List Row) (pending : Option (Text × List Text)) (waiting : Waiting)
+  pub nameless_word_is_refused : (word : Text) (rows : List Row) (pending : Option (Text × List Text)) (waiting : Waiting)
       → word_fault (shape_with form c) [] false waiting word (held rows pending) ≡ refusal
       → turn_fault (shape_with form c) [] (record (walk_from (held rows pending)) { waiting = waiting }) word ≡ refusal
-  at_refused word rows pending waiting is = rw is refl
+  nameless_word_is_refused word rows pending waiting is = rw is refl
 
-  pub at_loose : (word : Text) (rows : List Row) (pending : Option (Text × List Text))
+  pub loose_word_is_refused : (word : Text) (rows : List Row) (pending : Option (Text × List Text))
       → let h : Held = held rows pending in
       (word_fault (shape_with form c) [] false idle word h ≡ []) × (word_met c [] false idle 1 word h ≡ plain_word c idle word h)
       → turn_fault (shape_with form c) [] (walk_from h) word ≡ refusal
-  at_loose word rows pending is = rw (is.0, is.1, no_place 1) refl
+  loose_word_is_refused word rows pending is = rw (is.0, is.1, no_place 1) refl
 
   -- a word that is no name is the value of the option that waits for one
-  pub at_value : (word due : Text) (rows : List Row) → arg_by_id c due ≡ Some (valued_built due)
+  pub due_value_is_taken : (word due : Text) (rows : List Row) → arg_by_id c due ≡ Some (valued_built due)
       → let h : Held = held rows (Some (due, [])) in
       (word_fault (shape_with form c) [] false (option due) word h ≡ []) × (word_met c [] false (option due) 1 word h ≡ plain_word c (option due) word h)
       → (turn_fault (shape_with form c) [] (waits due rows) word ≡ []) × (walked c [] (waits due rows) word ≡ walk_from (held rows (Some (due, word ∷ []))))
   unfolding walked
-  at_value word due rows id is =
+  due_value_is_taken word due rows id is =
       let same : bytes_eq due due ≡ true = (bytes_eq-Decides due due).1 refl in
       rw (is.0, is.1, id, same) (refl, refl)
 
   -- the use of the option that is pending with one value, and with none
-  pub settles : (due value : Text) (rows : List Row) → arg_by_id c due ≡ Some (valued_built due)
+  pub pending_value_settles : (due value : Text) (rows : List Row) → arg_by_id c due ≡ Some (valued_built due)
       → (settle_fault c false (held rows (Some (due, value ∷ []))) ≡ repeat_fault false due rows)
       × ((settled c (held rows (Some (due, value ∷ [])))).rows ≡ used (valued_built due) (value ∷ []) rows)
-  settles due value rows id = rw id (or_else_nil _, refl)
+  pending_value_settles due value rows id = rw id (or_else_nil _, refl)
 
-  pub no_value : (due : Text) (rows : List Row) → arg_by_id c due ≡ Some (valued_built due) → settle_fault c false (held rows (Some (due, []))) ≡ kind.InvalidValue ∷ []
-  no_value due rows id = rw id refl
+  pub missing_value_is_invalid : (due : Text) (rows : List Row) → arg_by_id c due ≡ Some (valued_built due) → settle_fault c false (held rows (Some (due, []))) ≡ kind.InvalidValue ∷ []
+  missing_value_is_invalid due rows id = rw id refl
 
 -- ---- rows
 
-pub new_row : (id : Text) (change : Row → List Row) (missing rows : List Row) → has_row id rows ≡ false → at_row id change missing rows ≡ rows ++ missing
-new_row id change missing [] none = refl
-new_row id change missing (r ∷ rs) none =
+pub missing_row_is_added : (id : Text) (change : Row → List Row) (missing rows : List Row) → has_row id rows ≡ false → at_row id change missing rows ≡ rows ++ missing
+missing_row_is_added id change missing [] none = refl
+missing_row_is_added id change missing (r ∷ rs) none =
     let parts = or_false (bytes_eq r.id id) (has_row id rs) none in
-    rw parts.0 (ap (λ rest. r ∷ rest) (new_row id change missing rs parts.1))
+    rw parts.0 (ap (λ rest. r ∷ rest) (missing_row_is_added id change missing rs parts.1))
 
 -- the row of a setting: its name, with its value where it has one
 abbrev pub row_of_words : Text × Option Text → Row
@@ -189,23 +189,23 @@ row_of_words (name, None) = record { id = name; values = codes "true" ∷ []; co
 row_of_words (name, Some value) = record { id = name; values = value ∷ []; count = None; source = Some CommandLine; reading = AsWritten }
 
 not_there : (id : Text) (rows : List Row) → has_row id rows ≡ false → without id rows ≡ rows
-not_there id rows none = new_row id (λ _. []) [] rows none ∙ append-nil rows
+not_there id rows none = missing_row_is_added id (λ _. []) [] rows none ∙ append-nil rows
 
-pub plain_row : (name : Text) (rows : List Row) → has_row name rows ≡ false → used (plain_built name) [] rows ≡ rows ++ row_of_words (name, None) ∷ []
-plain_row name rows none = rw (not_there name rows none) (new_row name (more_values CommandLine (values_or_missing (plain_built name) [])) _ rows none)
+pub plain_use_adds_row : (name : Text) (rows : List Row) → has_row name rows ≡ false → used (plain_built name) [] rows ≡ rows ++ row_of_words (name, None) ∷ []
+plain_use_adds_row name rows none = rw (not_there name rows none) (missing_row_is_added name (more_values CommandLine (values_or_missing (plain_built name) [])) _ rows none)
 
-pub valued_row : (name value : Text) (rows : List Row) → has_row name rows ≡ false → used (valued_built name) (value ∷ []) rows ≡ rows ++ row_of_words (name, Some value) ∷ []
-valued_row name value rows none = rw (not_there name rows none) (new_row name (more_values CommandLine (values_or_missing (valued_built name) (value ∷ []))) _ rows none)
+pub valued_use_adds_row : (name value : Text) (rows : List Row) → has_row name rows ≡ false → used (valued_built name) (value ∷ []) rows ≡ rows ++ row_of_words (name, Some value) ∷ []
+valued_use_adds_row name value rows none = rw (not_there name rows none) (missing_row_is_added name (more_values CommandLine (values_or_missing (valued_built name) (value ∷ []))) _ rows none)
 
-pub no_repeat : (name : Text) (rows : List Row) → repeat_fault false name rows ≡ [] → has_row name rows ≡ false
-no_repeat name rows none = by (has_row name rows) refl where
+pub has_no_such_row : (name : Text) (rows : List Row) → repeat_fault false name rows ≡ [] → has_row name rows ≡ false
+has_no_such_row name rows none = by (has_row name rows) refl where
   by : (has : Bool) → has_row name rows ≡ has → has_row name rows ≡ false
   by true is = let told = rw is at none in cc
   by false is = is
 
-pub repeats_not : (name : Text) (rows : List Row) → has_row name rows ≡ false → repeat_fault false name rows ≡ []
-repeats_not name rows none = rw none refl
+pub no_repeat_fault : (name : Text) (rows : List Row) → has_row name rows ≡ false → repeat_fault false name rows ≡ []
+no_repeat_fault name rows none = rw none refl
 
-pub or_else_parts : (a b : Kinds) → or_else a b ≡ [] → (a ≡ []) × (b ≡ [])
-or_else_parts [] b is = (refl, is)
-or_else_parts (k ∷ ks) b is = cc
+pub or_else_empty_both_empty : (a b : Kinds) → or_else a b ≡ [] → (a ≡ []) × (b ≡ [])
+or_else_empty_both_empty [] b is = (refl, is)
+or_else_empty_both_empty (k ∷ ks) b is = cc

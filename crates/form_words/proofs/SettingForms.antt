@@ -15,23 +15,23 @@ use Rattle.form_words.specs.declared.setting.Settings.{Settings}
 use Rattle.form_words.specs.Settings.{Brief, GiveSettings, Locked, Pace, Patience, Setting, has, most_patience, no_settings, pace_word}
 use Rattle.form_words.proofs.OptionSteps.{plain_built, row_of_words}
 use Rattle.form_words.proofs.OptionWalk.{IsOption, given_words}
-use Rattle.form_words.proofs.OptionForms.{play_optional, play_rules, run_optional, run_rules, taken}
-use Rattle.form_words.proofs.SettingRows.{Shows, given_of, grown, shows_none}
-use Rattle.form_words.proofs.FlagTexts.{default_kept, other_flag, own_flag}
+use Rattle.form_words.proofs.OptionForms.{play_app_is_optional, play_rules, run_app_is_optional, run_rules, given_words_are_taken}
+use Rattle.form_words.proofs.SettingRows.{Shows, given_of, rows_are_grown, shows_no_settings}
+use Rattle.form_words.proofs.FlagTexts.{default_keeps_other_rows, other_text_is_flag, own_text_is_flag}
 
-pub value_of_pace : (given : Option PaceName) → option_and_then (λ (r : Row). slice_get r.values 0) (option_map (λ p. row_of_words (codes "pace", Some (pace_word p))) given) ≡ option_map pace_word given
-value_of_pace None = refl
-value_of_pace (Some p) = refl
+pub pace_row_has_word : (given : Option PaceName) → option_and_then (λ (r : Row). slice_get r.values 0) (option_map (λ p. row_of_words (codes "pace", Some (pace_word p))) given) ≡ option_map pace_word given
+pace_row_has_word None = refl
+pace_row_has_word (Some p) = refl
 
-pub value_of_patience : (given : Option ℕ) → option_and_then (λ (r : Row). slice_get r.values 0) (option_map (λ n. row_of_words (codes "patience", Some (decimal n))) given) ≡ option_map decimal given
-value_of_patience None = refl
-value_of_patience (Some n) = refl
+pub patience_row_has_decimal : (given : Option ℕ) → option_and_then (λ (r : Row). slice_get r.values 0) (option_map (λ n. row_of_words (codes "patience", Some (decimal n))) given) ≡ option_map decimal given
+patience_row_has_decimal None = refl
+patience_row_has_decimal (Some n) = refl
 
 values_shown : (flag : Text) (after : List Row) (all : Settings) → bytes_eq flag (codes "pace") ≡ false → bytes_eq flag (codes "patience") ≡ false → IfSome all.patience (IsWithin 1 most_patience)
     → Shows all after → HasValues (with_default after (plain_built flag)) all
 values_shown flag after all one other within shows = record {
-  pace = ap (option_and_then (λ (r : Row). slice_get r.values 0)) (default_kept (codes "pace") flag after one ∙ shows.pace) ∙ value_of_pace all.pace;
-  patience = (ap (option_and_then (λ (r : Row). slice_get r.values 0)) (default_kept (codes "patience") flag after other ∙ shows.patience) ∙ value_of_patience all.patience, within);
+  pace = ap (option_and_then (λ (r : Row). slice_get r.values 0)) (default_keeps_other_rows (codes "pace") flag after one ∙ shows.pace) ∙ pace_row_has_word all.pace;
+  patience = (ap (option_and_then (λ (r : Row). slice_get r.values 0)) (default_keeps_other_rows (codes "patience") flag after other ∙ shows.patience) ∙ patience_row_has_decimal all.patience, within);
 }
 
 none_some : {X : Type 0} (value : Option X) → value ≡ None → is_some value ≡ true → ⊥
@@ -50,10 +50,10 @@ run_owns all brief Brief is = absurd (true≢false (sym is ∙ brief))
 run_owns all brief Locked is = refl
 run_owns all brief (Patience n) is = (refl, refl)
 
-pub play_finds : (words : List Text) (all : Settings) → all.locked ≡ false → all.patience ≡ None → IfSome all.patience (IsWithin 1 most_patience) → GiveSettings no_settings words all → FindsSettings play_app words all
-play_finds words all locked patience within gives =
-    let g = grown play_rules all (play_owns all locked patience) no_settings [] gives.given shows_none gives.adds in
-    let t = taken play_app (codes "play") (codes "brief") play_rules play_optional (map given_of gives.given) g.after g.spelled g.grows in
+pub play_finds_settings : (words : List Text) (all : Settings) → all.locked ≡ false → all.patience ≡ None → IfSome all.patience (IsWithin 1 most_patience) → GiveSettings no_settings words all → FindsSettings play_app words all
+play_finds_settings words all locked patience within gives =
+    let g = rows_are_grown play_rules all (play_owns all locked patience) no_settings [] gives.given shows_no_settings gives.adds in
+    let t = given_words_are_taken play_app (codes "play") (codes "brief") play_rules play_app_is_optional (map given_of gives.given) g.after g.spelled g.grows in
     let same : flat_map given_words (map given_of gives.given) ≡ words = g.words ∙ sym gives.spelled in
     let rows = with_default g.after (plain_built (codes "brief")) in
     let is : rows ≡ matches_of play_app words = sym t.is ∙ ap (matches_of play_app) same in
@@ -61,15 +61,15 @@ play_finds words all locked patience within gives =
       takes = record { apart = subst (λ ws. are_apart ws ≡ true) same t.apart; faultless = subst (λ ws. fault_of play_app ws ≡ []) same t.faultless };
       values = subst (λ rs. HasValues rs all) is (values_shown (codes "brief") g.after all refl refl within g.shows);
       flags = subst (λ rs. HasFlags rs all) is (record {
-        brief = own_flag (codes "brief") g.after all.brief g.shows.brief;
-        locked = other_flag (codes "locked") (codes "brief") g.after all.locked refl g.shows.locked;
+        brief = own_text_is_flag (codes "brief") g.after all.brief g.shows.brief;
+        locked = other_text_is_flag (codes "locked") (codes "brief") g.after all.locked refl g.shows.locked;
       });
     }
 
-pub run_finds : (words : List Text) (all : Settings) → all.brief ≡ false → IfSome all.patience (IsWithin 1 most_patience) → GiveSettings no_settings words all → FindsSettings run_app words all
-run_finds words all brief within gives =
-    let g = grown run_rules all (run_owns all brief) no_settings [] gives.given shows_none gives.adds in
-    let t = taken run_app (codes "run") (codes "locked") run_rules run_optional (map given_of gives.given) g.after g.spelled g.grows in
+pub run_finds_settings : (words : List Text) (all : Settings) → all.brief ≡ false → IfSome all.patience (IsWithin 1 most_patience) → GiveSettings no_settings words all → FindsSettings run_app words all
+run_finds_settings words all brief within gives =
+    let g = rows_are_grown run_rules all (run_owns all brief) no_settings [] gives.given shows_no_settings gives.adds in
+    let t = given_words_are_taken run_app (codes "run") (codes "locked") run_rules run_app_is_optional (map given_of gives.given) g.after g.spelled g.grows in
     let same : flat_map given_words (map given_of gives.given) ≡ words = g.words ∙ sym gives.spelled in
     let rows = with_default g.after (plain_built (codes "locked")) in
     let is : rows ≡ matches_of run_app words = sym t.is ∙ ap (matches_of run_app) same in
@@ -77,7 +77,7 @@ run_finds words all brief within gives =
       takes = record { apart = subst (λ ws. are_apart ws ≡ true) same t.apart; faultless = subst (λ ws. fault_of run_app ws ≡ []) same t.faultless };
       values = subst (λ rs. HasValues rs all) is (values_shown (codes "locked") g.after all refl refl within g.shows);
       flags = subst (λ rs. HasFlags rs all) is (record {
-        brief = other_flag (codes "brief") (codes "locked") g.after all.brief refl g.shows.brief;
-        locked = own_flag (codes "locked") g.after all.locked g.shows.locked;
+        brief = other_text_is_flag (codes "brief") (codes "locked") g.after all.brief refl g.shows.brief;
+        locked = own_text_is_flag (codes "locked") g.after all.locked g.shows.locked;
       });
     }

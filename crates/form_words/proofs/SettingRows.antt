@@ -19,37 +19,37 @@ use Rattle.form_words.proofs.OptionWalk.{AllSpelled, AreSpelled, Given, Grows, I
 abbrev pub row_at : Text → List Row → Option Row
 row_at id rows = find (λ r. bytes_eq r.id id) rows
 
-pub has_row_at : (id : Text) (rows : List Row) → has_row id rows ≡ is_some (row_at id rows)
-has_row_at id [] = refl
-has_row_at id (r ∷ rs) = by (bytes_eq r.id id) (has_row_at id rs) where
+pub has_row_is_some_row : (id : Text) (rows : List Row) → has_row id rows ≡ is_some (row_at id rows)
+has_row_is_some_row id [] = refl
+has_row_is_some_row id (r ∷ rs) = by (bytes_eq r.id id) (has_row_is_some_row id rs) where
   by : (b : Bool) → has_row id rs ≡ is_some (row_at id rs) → (b || has_row id rs) ≡ is_some (cond b (Some r) (row_at id rs))
   by true e = refl
   by false e = e
 
 -- a row at the end is found where its name is new, and hides no other
-pub row_kept : (id : Text) (rows : List Row) (r : Row) → bytes_eq r.id id ≡ false → row_at id (rows ++ r ∷ []) ≡ row_at id rows
-row_kept id [] r other = rw other refl
-row_kept id (x ∷ xs) r other = by (bytes_eq x.id id) (row_kept id xs r other) where
+pub row_kept_by_other : (id : Text) (rows : List Row) (r : Row) → bytes_eq r.id id ≡ false → row_at id (rows ++ r ∷ []) ≡ row_at id rows
+row_kept_by_other id [] r other = rw other refl
+row_kept_by_other id (x ∷ xs) r other = by (bytes_eq x.id id) (row_kept_by_other id xs r other) where
   by : (b : Bool) → row_at id (xs ++ r ∷ []) ≡ row_at id xs → cond b (Some x) (row_at id (xs ++ r ∷ [])) ≡ cond b (Some x) (row_at id xs)
   by true e = refl
   by false e = e
 
-pub row_new : (id : Text) (rows : List Row) (r : Row) → row_at id rows ≡ None → bytes_eq r.id id ≡ true → row_at id (rows ++ r ∷ []) ≡ Some r
-row_new id [] r none same = rw same refl
-row_new id (x ∷ xs) r none same = by (bytes_eq x.id id) none (λ e. row_new id xs r e same) where
+pub new_row_is_found : (id : Text) (rows : List Row) (r : Row) → row_at id rows ≡ None → bytes_eq r.id id ≡ true → row_at id (rows ++ r ∷ []) ≡ Some r
+new_row_is_found id [] r none same = rw same refl
+new_row_is_found id (x ∷ xs) r none same = by (bytes_eq x.id id) none (λ e. new_row_is_found id xs r e same) where
   by : (b : Bool) → cond b (Some x) (row_at id xs) ≡ None → (row_at id xs ≡ None → row_at id (xs ++ r ∷ []) ≡ Some r) → cond b (Some x) (row_at id (xs ++ r ∷ [])) ≡ Some r
   by true e more = cc
   by false e more = more e
 
-pub row_stays : (id : Text) (rows : List Row) (r x : Row) → row_at id rows ≡ Some x → row_at id (rows ++ r ∷ []) ≡ Some x
-row_stays id [] r x is = cc
-row_stays id (y ∷ ys) r x is = by (bytes_eq y.id id) is (λ e. row_stays id ys r x e) where
+pub found_row_stays : (id : Text) (rows : List Row) (r x : Row) → row_at id rows ≡ Some x → row_at id (rows ++ r ∷ []) ≡ Some x
+found_row_stays id [] r x is = cc
+found_row_stays id (y ∷ ys) r x is = by (bytes_eq y.id id) is (λ e. found_row_stays id ys r x e) where
   by : (b : Bool) → cond b (Some y) (row_at id ys) ≡ Some x → (row_at id ys ≡ Some x → row_at id (ys ++ r ∷ []) ≡ Some x) → cond b (Some y) (row_at id (ys ++ r ∷ [])) ≡ Some x
   by true e more = e
   by false e more = more e
 
-pub none_there : (id : Text) (rows : List Row) → has_row id rows ≡ false → row_at id rows ≡ None
-none_there id rows none = by (row_at id rows) (sym (has_row_at id rows) ∙ none) where
+pub absent_row_is_none : (id : Text) (rows : List Row) → has_row id rows ≡ false → row_at id rows ≡ None
+absent_row_is_none id rows none = by (row_at id rows) (sym (has_row_is_some_row id rows) ∙ none) where
   by : (found : Option Row) → is_some found ≡ false → found ≡ None
   by None e = refl
   by (Some r) e = cc
@@ -72,46 +72,46 @@ pub record Shows (all : Settings) (rows : List Row) : Type 0 where
   pub locked : row_at (codes "locked") rows ≡ flag_row all.locked (codes "locked")
   pub patience : row_at (codes "patience") rows ≡ option_map (λ n. row_of_words (codes "patience", Some (decimal n))) all.patience
 
-pub shows_none : Shows no_settings []
-shows_none = record { pace = refl; brief = refl; locked = refl; patience = refl }
+pub shows_no_settings : Shows no_settings []
+shows_no_settings = record { pace = refl; brief = refl; locked = refl; patience = refl }
 
 no_value_there : {X : Type 0} (value : Option X) → is_some value ≡ false → value ≡ None
 no_value_there None e = refl
 no_value_there (Some x) e = cc
 
 -- one more setting shows in one more row
-pub shows_more : (before : Settings) (rows : List Row) (x : Setting) → Shows before rows → has before x ≡ false → Shows (with_setting before x) (rows ++ row_of_words (given_of x) ∷ [])
-shows_more before rows (Pace name) shows new =
+pub shows_one_setting_more : (before : Settings) (rows : List Row) (x : Setting) → Shows before rows → has before x ≡ false → Shows (with_setting before x) (rows ++ row_of_words (given_of x) ∷ [])
+shows_one_setting_more before rows (Pace name) shows new =
     let none : row_at (codes "pace") rows ≡ None = shows.pace ∙ ap (option_map (λ p. row_of_words (codes "pace", Some (pace_word p)))) (no_value_there before.pace new) in
     record {
-      pace = row_new (codes "pace") rows _ none refl;
-      brief = row_kept (codes "brief") rows _ refl ∙ shows.brief;
-      locked = row_kept (codes "locked") rows _ refl ∙ shows.locked;
-      patience = row_kept (codes "patience") rows _ refl ∙ shows.patience;
+      pace = new_row_is_found (codes "pace") rows _ none refl;
+      brief = row_kept_by_other (codes "brief") rows _ refl ∙ shows.brief;
+      locked = row_kept_by_other (codes "locked") rows _ refl ∙ shows.locked;
+      patience = row_kept_by_other (codes "patience") rows _ refl ∙ shows.patience;
     }
-shows_more before rows Brief shows new =
+shows_one_setting_more before rows Brief shows new =
     let none : row_at (codes "brief") rows ≡ None = shows.brief ∙ ap (λ b. flag_row b (codes "brief")) new in
     record {
-      pace = row_kept (codes "pace") rows _ refl ∙ shows.pace;
-      brief = row_new (codes "brief") rows _ none refl;
-      locked = row_kept (codes "locked") rows _ refl ∙ shows.locked;
-      patience = row_kept (codes "patience") rows _ refl ∙ shows.patience;
+      pace = row_kept_by_other (codes "pace") rows _ refl ∙ shows.pace;
+      brief = new_row_is_found (codes "brief") rows _ none refl;
+      locked = row_kept_by_other (codes "locked") rows _ refl ∙ shows.locked;
+      patience = row_kept_by_other (codes "patience") rows _ refl ∙ shows.patience;
     }
-shows_more before rows Locked shows new =
+shows_one_setting_more before rows Locked shows new =
     let none : row_at (codes "locked") rows ≡ None = shows.locked ∙ ap (λ b. flag_row b (codes "locked")) new in
     record {
-      pace = row_kept (codes "pace") rows _ refl ∙ shows.pace;
-      brief = row_kept (codes "brief") rows _ refl ∙ shows.brief;
-      locked = row_new (codes "locked") rows _ none refl;
-      patience = row_kept (codes "patience") rows _ refl ∙ shows.patience;
+      pace = row_kept_by_other (codes "pace") rows _ refl ∙ shows.pace;
+      brief = row_kept_by_other (codes "brief") rows _ refl ∙ shows.brief;
+      locked = new_row_is_found (codes "locked") rows _ none refl;
+      patience = row_kept_by_other (codes "patience") rows _ refl ∙ shows.patience;
     }
-shows_more before rows (Patience n) shows new =
+shows_one_setting_more before rows (Patience n) shows new =
     let none : row_at (codes "patience") rows ≡ None = shows.patience ∙ ap (option_map (λ k. row_of_words (codes "patience", Some (decimal k)))) (no_value_there before.patience new) in
     record {
-      pace = row_kept (codes "pace") rows _ refl ∙ shows.pace;
-      brief = row_kept (codes "brief") rows _ refl ∙ shows.brief;
-      locked = row_kept (codes "locked") rows _ refl ∙ shows.locked;
-      patience = row_new (codes "patience") rows _ none refl;
+      pace = row_kept_by_other (codes "pace") rows _ refl ∙ shows.pace;
+      brief = row_kept_by_other (codes "brief") rows _ refl ∙ shows.brief;
+      locked = row_kept_by_other (codes "locked") rows _ refl ∙ shows.locked;
+      patience = new_row_is_found (codes "patience") rows _ none refl;
     }
 
 -- ---- settings that words give are taken
@@ -126,15 +126,15 @@ numeral_loose (d ∷ ds) is = by (d == 45) refl where
       absurd (omega (arith, big))
   by false e = (record { no_end = rw e refl; no_name = rw e refl; no_letters = rw e refl }, rw e refl)
 
-pub number_loose : (n : ℕ) → n < 2 ^ 64 → IsLoose (decimal n) × (is_joined (decimal n) ≡ false)
-number_loose n small = numeral_loose (decimal n) (decimal_is_IsNumeral n small).0
+pub number_is_loose : (n : ℕ) → n < 2 ^ 64 → IsLoose (decimal n) × (is_joined (decimal n) ≡ false)
+number_is_loose n small = numeral_loose (decimal n) (decimal_is_IsNumeral n small).0
 
 spelled : (x : Setting) → IsKnownSetting x → AreSpelled (given_of x)
 spelled (Pace Steady) fits = (record { no_end = refl; named = refl; apart = refl }, record { no_end = refl; no_name = refl; no_letters = refl }, refl)
 spelled Brief fits = record { no_end = refl; named = refl; apart = refl }
 spelled Locked fits = record { no_end = refl; named = refl; apart = refl }
 spelled (Patience n) fits =
-    let loose = number_loose n (omega (arith, fits.1)) in
+    let loose = number_is_loose n (omega (arith, fits.1)) in
     (record { no_end = refl; named = refl; apart = refl }, loose.0, loose.1)
 
 -- what was given stays given
@@ -180,7 +180,7 @@ words_of Locked rest rest' e = ap (λ ws. codes "--locked" ∷ ws) e
 words_of (Patience n) rest rest' e = ap (λ ws. codes "--patience" ∷ decimal n ∷ ws) e
 
 none_has : (id : Text) (rows : List Row) → row_at id rows ≡ None → has_row id rows ≡ false
-none_has id rows none = has_row_at id rows ∙ ap is_some none
+none_has id rows none = has_row_is_some_row id rows ∙ ap is_some none
 
 new_name : (before : Settings) (rows : List Row) (x : Setting) → Shows before rows → has before x ≡ false → has_row (given_of x).0 rows ≡ false
 new_name before rows (Pace name) shows new = none_has (codes "pace") rows (shows.pace ∙ ap (option_map (λ p. row_of_words (codes "pace", Some (pace_word p)))) (no_value_there before.pace new))
@@ -189,10 +189,10 @@ new_name before rows Locked shows new = none_has (codes "locked") rows (shows.lo
 new_name before rows (Patience n) shows new = none_has (codes "patience") rows (shows.patience ∙ ap (option_map (λ k. row_of_words (codes "patience", Some (decimal k)))) (no_value_there before.patience new))
 
 module _ (c : List Rule) (all : Settings) (owns : (x : Setting) → has all x ≡ true → IsOption c (given_of x)) where
-  pub grown : (before : Settings) (rows : List Row) (given : List Setting) → Shows before rows → AddSettings before given all → IsGrown c rows given all
-  grown before rows [] shows adds = record { after = rows; grows = refl; shows = subst (λ s. Shows s rows) (sym adds) shows; spelled = tt; words = refl }
-  grown before rows (x ∷ more) shows adds =
-      let next = grown (with_setting before x) (rows ++ row_of_words (given_of x) ∷ []) more (shows_more before rows x shows adds.1) adds.2 in
+  pub rows_are_grown : (before : Settings) (rows : List Row) (given : List Setting) → Shows before rows → AddSettings before given all → IsGrown c rows given all
+  rows_are_grown before rows [] shows adds = record { after = rows; grows = refl; shows = subst (λ s. Shows s rows) (sym adds) shows; spelled = tt; words = refl }
+  rows_are_grown before rows (x ∷ more) shows adds =
+      let next = rows_are_grown (with_setting before x) (rows ++ row_of_words (given_of x) ∷ []) more (shows_one_setting_more before rows x shows adds.1) adds.2 in
       let own = owns x (has_after (with_setting before x) all x more adds.2 (has_new before x)) in
       record {
         after = next.after;

@@ -13,8 +13,8 @@ use Rattle.form_words.specs.declared.setting.Settings.{Settings}
 use Rattle.form_words.specs.Settings.{AddSettings, Brief, IsKnownSetting, Locked, Pace, Patience, Setting, has, most_patience, pace_word, setting_words, with_setting}
 use Rattle.form_words.proofs.OptionSteps.{row_of_words}
 use Rattle.form_words.proofs.OptionWalk.{Given, Grows, IsOption, given_words}
-use Rattle.form_words.proofs.SettingRows.{Shows, flag_row, given_of, has_row_at, none_there, row_at, row_new, row_stays, shows_more}
-use Rattle.form_words.proofs.SettingForms.{value_of_pace, value_of_patience}
+use Rattle.form_words.proofs.SettingRows.{Shows, flag_row, given_of, has_row_is_some_row, absent_row_is_none, row_at, new_row_is_found, found_row_stays, shows_one_setting_more}
+use Rattle.form_words.proofs.SettingForms.{pace_row_has_word, patience_row_has_decimal}
 use Rattle.form_words.proofs.OptionCases.{OptionCase, is_pace, is_brief, is_locked, is_patience}
 
 -- what was found at the end of the settings
@@ -28,17 +28,17 @@ pub record IsTold (all : Settings) (after : List Row) : Type 0 where
 -- a row stays to the end
 row_lasts : (c : List Rule) (id : Text) (given : List Given) (rows after : List Row) (r : Row) → Grows c rows given after → row_at id rows ≡ Some r → row_at id after ≡ Some r
 row_lasts c id [] rows after r grows is = ap (row_at id) grows ∙ is
-row_lasts c id (x ∷ more) rows after r grows is = row_lasts c id more (rows ++ row_of_words x ∷ []) after r grows.2 (row_stays id rows (row_of_words x) r is)
+row_lasts c id (x ∷ more) rows after r grows is = row_lasts c id more (rows ++ row_of_words x ∷ []) after r grows.2 (found_row_stays id rows (row_of_words x) r is)
 
-pub row_name : (x : Given) → (row_of_words x).id ≡ x.0
-row_name (name, None) = refl
-row_name (name, Some value) = refl
+pub row_has_option_name : (x : Given) → (row_of_words x).id ≡ x.0
+row_has_option_name (name, None) = refl
+row_has_option_name (name, Some value) = refl
 
 -- the row of an option lasts
 given_lasts : (c : List Rule) (x : Given) (more : List Given) (rows after : List Row) → Grows c rows (x ∷ more) after → row_at x.0 after ≡ Some (row_of_words x)
 given_lasts c x more rows after grows =
     row_lasts c x.0 more (rows ++ row_of_words x ∷ []) after (row_of_words x) grows.2
-    (row_new x.0 rows (row_of_words x) (none_there x.0 rows grows.1) ((bytes_eq-Decides (row_of_words x).id x.0).1 (row_name x)))
+    (new_row_is_found x.0 rows (row_of_words x) (absent_row_is_none x.0 rows grows.1) ((bytes_eq-Decides (row_of_words x).id x.0).1 (row_has_option_name x)))
 
 -- so each option is a setting, with the value that was told
 record IsSetting (x : Given) : Type 0 where
@@ -72,16 +72,16 @@ some_shown : {X : Type 0} (f : X → Row) (value : Option X) → is_some (option
 some_shown f None = refl
 some_shown f (Some x) = refl
 
-pub flag_shown : (b : Bool) (name : Text) → is_some (flag_row b name) ≡ b
-flag_shown true name = refl
-flag_shown false name = refl
+pub flag_row_shows_flag : (b : Bool) (name : Text) → is_some (flag_row b name) ≡ b
+flag_row_shows_flag true name = refl
+flag_row_shows_flag false name = refl
 
 -- what has no row was not given
 not_given : (before : Settings) (rows : List Row) (x : Setting) → Shows before rows → has_row (given_of x).0 rows ≡ false → has before x ≡ false
-not_given before rows (Pace name) shows none = sym (has_row_at (codes "pace") rows ∙ ap is_some shows.pace ∙ some_shown _ before.pace) ∙ none
-not_given before rows Brief shows none = sym (has_row_at (codes "brief") rows ∙ ap is_some shows.brief ∙ flag_shown before.brief (codes "brief")) ∙ none
-not_given before rows Locked shows none = sym (has_row_at (codes "locked") rows ∙ ap is_some shows.locked ∙ flag_shown before.locked (codes "locked")) ∙ none
-not_given before rows (Patience n) shows none = sym (has_row_at (codes "patience") rows ∙ ap is_some shows.patience ∙ some_shown _ before.patience) ∙ none
+not_given before rows (Pace name) shows none = sym (has_row_is_some_row (codes "pace") rows ∙ ap is_some shows.pace ∙ some_shown _ before.pace) ∙ none
+not_given before rows Brief shows none = sym (has_row_is_some_row (codes "brief") rows ∙ ap is_some shows.brief ∙ flag_row_shows_flag before.brief (codes "brief")) ∙ none
+not_given before rows Locked shows none = sym (has_row_is_some_row (codes "locked") rows ∙ ap is_some shows.locked ∙ flag_row_shows_flag before.locked (codes "locked")) ∙ none
+not_given before rows (Patience n) shows none = sym (has_row_is_some_row (codes "patience") rows ∙ ap is_some shows.patience ∙ some_shown _ before.patience) ∙ none
 
 same_pace : (a b : Option PaceName) → option_map pace_word a ≡ option_map pace_word b → a ≡ b
 same_pace None None e = refl
@@ -107,11 +107,11 @@ IsKnown settings = IfSome settings.patience (IsWithin 1 most_patience)
 same_settings : (all before : Settings) (after rows : List Row) → after ≡ rows → IsTold all after → Shows before rows → IsKnown before → all ≡ before
 same_settings all before after rows e told shows known =
     let pace : all.pace ≡ before.pace = same_pace all.pace before.pace
-    (sym told.pace ∙ ap (first_of (codes "pace")) e ∙ ap (option_and_then (λ (r : Row). slice_get r.values 0)) shows.pace ∙ value_of_pace before.pace) in
+    (sym told.pace ∙ ap (first_of (codes "pace")) e ∙ ap (option_and_then (λ (r : Row). slice_get r.values 0)) shows.pace ∙ pace_row_has_word before.pace) in
     let patience : all.patience ≡ before.patience = same_patience all.patience before.patience told.within known
-    (sym told.patience ∙ ap (first_of (codes "patience")) e ∙ ap (option_and_then (λ (r : Row). slice_get r.values 0)) shows.patience ∙ value_of_patience before.patience) in
-    let brief : all.brief ≡ before.brief = sym told.brief ∙ ap (has_row (codes "brief")) e ∙ has_row_at (codes "brief") rows ∙ ap is_some shows.brief ∙ flag_shown before.brief (codes "brief") in
-    let locked : all.locked ≡ before.locked = sym told.locked ∙ ap (has_row (codes "locked")) e ∙ has_row_at (codes "locked") rows ∙ ap is_some shows.locked ∙ flag_shown before.locked (codes "locked") in
+    (sym told.patience ∙ ap (first_of (codes "patience")) e ∙ ap (option_and_then (λ (r : Row). slice_get r.values 0)) shows.patience ∙ patience_row_has_decimal before.patience) in
+    let brief : all.brief ≡ before.brief = sym told.brief ∙ ap (has_row (codes "brief")) e ∙ has_row_is_some_row (codes "brief") rows ∙ ap is_some shows.brief ∙ flag_row_shows_flag before.brief (codes "brief") in
+    let locked : all.locked ≡ before.locked = sym told.locked ∙ ap (has_row (codes "locked")) e ∙ has_row_is_some_row (codes "locked") rows ∙ ap is_some shows.locked ∙ flag_row_shows_flag before.locked (codes "locked") in
     λ i. record { pace = pace i; brief = brief i; locked = locked i; patience = patience i }
 
 known_more : (before : Settings) (x : Setting) → IsKnown before → IsKnownSetting x → IsKnown (with_setting before x)
@@ -133,13 +133,13 @@ pub record Gives (before : Settings) (given : List Given) (all : Settings) : Typ
   pub adds : AddSettings before settings all
 
 module _ (c : List Rule) (option_case : (x : Given) → IsOption c x → OptionCase x) (all : Settings) (after : List Row) (told : IsTold all after) where
-  pub gives : (given : List Given) (rows : List Row) (before : Settings) → Shows before rows → IsKnown before → Grows c rows given after → Gives before given all
-  gives [] rows before shows known grows = record { settings = []; spelled = refl; adds = same_settings all before after rows grows told shows known }
-  gives (x ∷ more) rows before shows known grows =
+  pub rows_give_settings : (given : List Given) (rows : List Row) (before : Settings) → Shows before rows → IsKnown before → Grows c rows given after → Gives before given all
+  rows_give_settings [] rows before shows known grows = record { settings = []; spelled = refl; adds = same_settings all before after rows grows told shows known }
+  rows_give_settings (x ∷ more) rows before shows known grows =
       let one = setting_of all after x told (given_lasts c x more rows after grows) (option_case x grows.0) in
       let new = not_given before rows one.setting shows (subst (λ (y : Given). has_row y.0 rows ≡ false) one.is grows.1) in
       let grows' = subst (λ (y : Given). Grows c (rows ++ row_of_words y ∷ []) more after) one.is grows.2 in
-      let rest = gives more (rows ++ row_of_words (given_of one.setting) ∷ []) (with_setting before one.setting) (shows_more before rows one.setting shows new) (known_more before one.setting known one.known) grows' in
+      let rest = rows_give_settings more (rows ++ row_of_words (given_of one.setting) ∷ []) (with_setting before one.setting) (shows_one_setting_more before rows one.setting shows new) (known_more before one.setting known one.known) grows' in
       record {
         settings = one.setting ∷ rest.settings;
         spelled = ap₂ ◌++◌ (ap given_words one.is ∙ words_of_setting one.setting) rest.spelled;

@@ -14,13 +14,13 @@ use Rattle.core_machine.specs.seat.Making.{gather_next, after_budget}
 use Rattle.core_machine.specs.seat.Seat.{spine_need, with_entries}
 use Rattle.heap_table.specs.Made.{IsSound}
 use Rattle.heap_table.specs.SeatHeld.{SeatHeld, IsStepped}
-use Rattle.core_machine.proofs.seat_lemmas.Fitting.{array_makes, budget_cases}
+use Rattle.core_machine.proofs.seat_lemmas.Fitting.{array_makes_object, budget_cases}
 use Rattle.frag_claim.specs.Begins.{BeginsGathering, BeginsEmptying}
 
 -- a new record gathers from its begin on
-pub begins_new : (old new : SeatHeld) (d fields : ℕ) → IsSound old → MayBegin old.seat (New d fields) → new ≡ record old { seat = after_begin old.heap old.seat (New d fields) }
+pub new_begins_gathering : (old new : SeatHeld) (d fields : ℕ) → IsSound old → MayBegin old.seat (New d fields) → new ≡ record old { seat = after_begin old.heap old.seat (New d fields) }
     → BeginsGathering new old.seat.reserve old.seat.cursor (need_of (New d fields))
-begins_new old new d fields sound may is = subst (λ (h : SeatHeld). BeginsGathering h old.seat.reserve old.seat.cursor (need_of (New d fields))) (sym is) (record {
+new_begins_gathering old new d fields sound may is = subst (λ (h : SeatHeld). BeginsGathering h old.seat.reserve old.seat.cursor (need_of (New d fields))) (sym is) (record {
   before = record old.seat { command = New d fields };
   rests = subst (FitsPlace old.heap old.seat) may.idle sound.fits.at_place;
   goes_on = refl;

@@ -18,7 +18,7 @@ use Rattle.core_machine.proofs.seat_lemmas.Fitting.{goes_on_cases, returning_cas
 use Rattle.heap_table.specs.Made.{Made, MakesSteps, IsSound}
 use Rattle.heap_table.specs.SeatHeld.{SeatHeld, IsStepped}
 use Rattle.heap_table.specs.Told.{ToldAtStep}
-use Rattle.heap_table.proofs.MadeSteps.{makes_none, step_falls, step_leaves_room, step_makes}
+use Rattle.heap_table.proofs.MadeSteps.{makes_no_steps, step_leaves_fewer, step_leaves_room, step_makes_one_more}
 use Rattle.frag_claim.specs.Begins.{BeginsGathering}
 use Rattle.frag_claim.specs.Due.{due_of_claims, due_of_returns, IsGivingBack, has_its_fragments}
 use Rattle.frag_claim.specs.Gathered.{EndsClaiming}
@@ -70,20 +70,20 @@ pub record WhileClaiming (first now : SeatHeld) : Type 0 where
   pub none_stored : now.seat.stored ≡ 0
   pub room : owes now.seat + 2 ≤ now.spare
 
-pub claims_begin : (held : SeatHeld) (reserve : List ℕ) (cursor need_ : ℕ) → BeginsGathering held reserve cursor need_ → 2 * need_ + 4 ≤ held.spare → WhileClaiming held held
-claims_begin held reserve cursor need_ begins room =
+pub while_claiming_at_begin : (held : SeatHeld) (reserve : List ℕ) (cursor need_ : ℕ) → BeginsGathering held reserve cursor need_ → 2 * need_ + 4 ≤ held.spare → WhileClaiming held held
+while_claiming_at_begin held reserve cursor need_ begins room =
     let start = goes_claiming held.heap begins.before begins.rests.none_given begins.rests.none_stored in
     let has : HasClaims held.seat = subst HasClaims (sym begins.goes_on) start in
     let owed : owes held.seat ≤ 2 * need_ + 2 = subst (λ (s : Seat). owes s ≤ 2 * need_ + 2) (sym begins.goes_on)
     (subst (λ (n : ℕ). owes (gather_next held.heap begins.before) ≤ 2 * n + 2) begins.need_is (goes_with_room held.heap begins.before begins.rests.empty_hand)) in
-    record { steps = ([], makes_none held); stands = has.0; none_given = has.1; none_stored = has.2; room = at_most (owes held.seat) need_ held.spare owed room }
+    record { steps = ([], makes_no_steps held); stands = has.0; none_given = has.1; none_stored = has.2; room = at_most (owes held.seat) need_ held.spare owed room }
   where
     at_most : (owed n spare : ℕ) → owed ≤ 2 * n + 2 → 2 * n + 4 ≤ spare → owed + 2 ≤ spare
     at_most owed n spare a b = omega arith
 
-pub claims_on : (first now new : SeatHeld) (step : Step) (found : ℕ) → IsSound now → WhileClaiming first now → due_of_claims now.seat.place (due_step now.heap now.number now.seat) ≡ Some step
+pub while_claiming_after_step : (first now new : SeatHeld) (step : Step) (found : ℕ) → IsSound now → WhileClaiming first now → due_of_claims now.seat.place (due_step now.heap now.number now.seat) ≡ Some step
     → IsStepped now new found → ToldAtStep now.heap now.number now.seat found → WhileClaiming first new × (steps_left new.heap new.seat < steps_left now.heap now.seat)
-claims_on first now new step found sound while is stepped told =
+while_claiming_after_step first now new step found sound while is stepped told =
     let at = of_claims now.seat.place (due_step now.heap now.number now.seat) step is in
     let group = next_group_of now.heap now.seat in
     let next : Seat = record now.seat { hand = now.seat.hand ++ clear_in group found; tried = now.seat.tried + 1 } in
@@ -91,13 +91,13 @@ claims_on first now new step found sound while is stepped told =
     stepped.seat_is ∙ ap (λ (p : Place). seat_after_due now.seat (move_at now.heap now.number now.seat p) found) at.0 in
     let has : HasClaims new.seat = subst HasClaims (sym claimed) (goes_claiming now.heap next while.none_given while.none_stored) in (
       record {
-        steps = step_makes first now new step found sound at.1 stepped told while.steps;
+        steps = step_makes_one_more first now new step found sound at.1 stepped told while.steps;
         stands = has.0;
         none_given = has.1;
         none_stored = has.2;
         room = step_leaves_room first now new step found sound at.1 stepped told while.room;
       },
-      step_falls first now new step found sound at.1 stepped told,
+      step_leaves_fewer first now new step found sound at.1 stepped told,
     )
 
 -- once no claim is due
@@ -127,8 +127,8 @@ module _ (held : SeatHeld) (sound : IsSound held) (none : due_of_claims held.sea
   ends_at (places.Making Storing) is stands room = (λ e. ap places.Making (sym (stored_of held.seat.command stands)), λ e. cc, omega (arith, room), λ e. cc)
   ends_at _ is stands room = absurd stands
 
-  pub claims_end : (first : SeatHeld) → WhileClaiming first held → EndsClaiming held
-  claims_end first while =
+  pub ends_claiming_when_over : (first : SeatHeld) → WhileClaiming first held → EndsClaiming held
+  ends_claiming_when_over first while =
       let ends = ends_at held.seat.place refl while.stands while.room in
       record { settled = ends.0; returning = ends.1; none_given = while.none_given; none_stored = while.none_stored; room = ends.2; room_to_return = ends.3 }
 
@@ -144,12 +144,12 @@ returning_room seat (places.Making GivingBack) spare is stands room = subst (λ 
 returning_room seat (places.Making Refusing) spare is stands room = subst (λ (p : Place). Rattle.core_machine.specs.calls.Owes.owes_at seat p + 2 ≤ spare) (sym is) (omega (arith, room))
 returning_room seat _ spare is stands room = absurd stands
 
-pub returns_begin : (held : SeatHeld) → IsGivingBack held.seat.place → length held.seat.hand + 3 ≤ held.spare → WhileGivingBack held held
-returns_begin held stands room = record { steps = ([], makes_none held); stands = stands; all = refl; room = returning_room held.seat held.seat.place held.spare refl stands room }
+pub while_returning_at_begin : (held : SeatHeld) → IsGivingBack held.seat.place → length held.seat.hand + 3 ≤ held.spare → WhileGivingBack held held
+while_returning_at_begin held stands room = record { steps = ([], makes_no_steps held); stands = stands; all = refl; room = returning_room held.seat held.seat.place held.spare refl stands room }
 
-pub returns_on : (first now new : SeatHeld) (step : Step) (found : ℕ) → IsSound now → WhileGivingBack first now → due_of_returns now.seat.place (due_step now.heap now.number now.seat) ≡ Some step
+pub while_returning_after_step : (first now new : SeatHeld) (step : Step) (found : ℕ) → IsSound now → WhileGivingBack first now → due_of_returns now.seat.place (due_step now.heap now.number now.seat) ≡ Some step
     → IsStepped now new found → ToldAtStep now.heap now.number now.seat found → WhileGivingBack first new × (steps_left new.heap new.seat < steps_left now.heap now.seat)
-returns_on first now new step found sound while is stepped told =
+while_returning_after_step first now new step found sound while is stepped told =
     let at = of_returns now.seat.place (due_step now.heap now.number now.seat) step is in
     let group = first_group_of now.seat.hand in
     let given : new.seat ≡ with_entries (after_give_back now.seat) ((give_back_move now.number now.seat).adds found) =
@@ -158,18 +158,18 @@ returns_on first now new step found sound while is stepped told =
     let stands : IsGivingBack (after_give_back now.seat).place = returning_cases (λ m. IsGivingBack (places.Making m)) (part_out group now.seat.hand) (λ none. tt) (λ some. tt) in
     let all : length (part_out group now.seat.hand) + (now.seat.given + length (part_in group now.seat.hand)) ≡ length first.seat.hand + first.seat.given = omega (arith, both, while.all) in (
       record {
-        steps = step_makes first now new step found sound at.1 stepped told while.steps;
+        steps = step_makes_one_more first now new step found sound at.1 stepped told while.steps;
         stands = subst (λ (s : Seat). IsGivingBack s.place) (sym given) stands;
         all = subst (λ (s : Seat). length s.hand + s.given ≡ length first.seat.hand + first.seat.given) (sym given) all;
         room = step_leaves_room first now new step found sound at.1 stepped told while.room;
       },
-      step_falls first now new step found sound at.1 stepped told,
+      step_leaves_fewer first now new step found sound at.1 stepped told,
     )
 
 -- once none is due all was given back
-pub returns_end : (first held : SeatHeld) → IsSound held → WhileGivingBack first held → due_of_returns held.seat.place (due_step held.heap held.number held.seat) ≡ None
+pub returned_all_at_end : (first held : SeatHeld) → IsSound held → WhileGivingBack first held → due_of_returns held.seat.place (due_step held.heap held.number held.seat) ≡ None
     → (held.seat.place ≡ places.Making Refusing) × (held.seat.given ≡ length first.seat.hand + first.seat.given) × (3 ≤ held.spare)
-returns_end first held sound while none = ends held.seat.place refl while.stands while.room
+returned_all_at_end first held sound while none = ends held.seat.place refl while.stands while.room
   where
     some_due : {step : Step} → due_step held.heap held.number held.seat ≡ None → due_step held.heap held.number held.seat ≡ Some step → ⊥
     some_due a b = cc

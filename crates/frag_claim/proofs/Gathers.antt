@@ -18,15 +18,15 @@ use Rattle.core_machine.specs.seat.Commands.{IsArrayCall}
 use Rattle.core_machine.specs.seat.Fits.{FitsPlace}
 use Rattle.core_machine.specs.seat.Making.{settled_place, gather_next}
 use Rattle.core_machine.specs.seat.Seat.{Seat, with_entries}
-use Rattle.core_machine.proofs.call_lemmas.Awaits.{goes_on_mine}
-use Rattle.core_machine.proofs.call_lemmas.GoingOn.{every_group}
-use Rattle.core_machine.proofs.own_stages.Claiming.{gathers_none}
-use Rattle.core_machine.proofs.own_stages.Gather.{goes_on_same, goes_on}
-use Rattle.core_machine.proofs.seat_lemmas.Fitting.{need_of_object}
-use Rattle.core_machine.proofs.table_lemmas.Free.{clear_in-claimed}
+use Rattle.core_machine.proofs.call_lemmas.Awaits.{own_list_same_going_on}
+use Rattle.core_machine.proofs.call_lemmas.GoingOn.{holds_of_every_group}
+use Rattle.core_machine.proofs.own_stages.Claiming.{gathers_without_claim}
+use Rattle.core_machine.proofs.own_stages.Gather.{going_on_keeps_command, stage_stands_going_on}
+use Rattle.core_machine.proofs.seat_lemmas.Fitting.{object_need_within_limits}
+use Rattle.core_machine.proofs.table_lemmas.Free.{claimed_group_has_none_clear}
 use Rattle.heap_table.specs.Made.{Made, FoundIn, MakesSteps, IsSound}
 use Rattle.heap_table.specs.SeatHeld.{SeatHeld}
-use Rattle.heap_table.proofs.MadeSteps.{stage_along, TellsHere, made_here}
+use Rattle.heap_table.proofs.MadeSteps.{stage_stands_along_steps, TellsHere, found_in_made_steps}
 use Rattle.frag_claim.specs.Begins.{BeginsGathering}
 use Rattle.frag_claim.specs.Due.{has_its_fragments}
 use Rattle.frag_claim.specs.Gathered.{IsClaimed, HasGathered, IsExhausted, HasItsFragments, EndsClaiming}
@@ -34,8 +34,8 @@ use Rattle.frag_claim.specs.Gathered.{IsClaimed, HasGathered, IsExhausted, HasIt
 -- a claim was made here
 is_claimed : (made : List Made) (claimed : List ℕ) (group : ℕ) → ClaimsGroup (TellsHere made) claimed group → IsClaimed made claimed group
 is_claimed made claimed group claims = record {
-  claim = record { word = claims.word; told = made_here made _ claims.word (λ asks. asks) claims.told; got = claims.got };
-  leaves = clear_in-claimed group claims.word;
+  claim = record { word = claims.word; told = found_in_made_steps made _ claims.word (λ asks. asks) claims.told; got = claims.got };
+  leaves = claimed_group_has_none_clear group claims.word;
 }
 
 no_entries : (seat : Seat) → with_entries seat [] ≡ seat
@@ -54,17 +54,17 @@ module _ (made : List Made) (old new : SeatHeld) (reserve : List ℕ) (cursor ne
       let next = gather_next old.heap before in
       let granted : IsArrayCall before.command → IsGranted tells old.heap before.command = λ an_array. record { word = 0; told = inr tt; enough = omega (arith, begins.granted an_array) } in
       let few : length before.reserve ≤ 15 = omega (arith, begins.few, ap (length {A = ℕ}) begins.reserve_is) in
-      let none = gathers_none tells old.heap old.number before.command (kept_of before) before.hand before.tried [] granted few begins.rests.empty_hand begins.rests.none_tried refl in
-      let on = goes_on tells old.heap old.number before [] [] begins.rests.none_given begins.rests.none_stored none in
+      let none = gathers_without_claim tells old.heap old.number before.command (kept_of before) before.hand before.tried [] granted few begins.rests.empty_hand begins.rests.none_tried refl in
+      let on = stage_stands_going_on tells old.heap old.number before [] [] begins.rests.none_given begins.rests.none_stored none in
       subst (λ (s : Seat). OwnStage tells old.heap old.number before.command before s []) (sym begins.goes_on) (record {
-        same = goes_on_same old.heap before;
-        mine = goes_on_mine old.heap before ∙ sym (append-nil before.mine);
+        same = going_on_keeps_command old.heap before;
+        mine = own_list_same_going_on old.heap before ∙ sym (append-nil before.mine);
         stage = subst (λ (s : Seat). StageAt tells old.heap old.number (kept_of before) s [] next.place) (no_entries next) on;
       })
 
   -- and so where it has ended
   ends_so : (told : List Entry) × OwnStage tells old.heap old.number before.command before new.seat told
-  ends_so = stage_along tells old.heap old.number before.command before sound.limits (omega (arith, sound.within, sound.limits.seats_fit)) made old.seat new.seat [] sound.fits makes.leads
+  ends_so = stage_stands_along_steps tells old.heap old.number before.command before sound.limits (omega (arith, sound.within, sound.limits.seats_fit)) made old.seat new.seat [] sound.fits makes.leads
       (λ step word here. inl here) begins_so
 
   -- the object has its fragments
@@ -78,13 +78,13 @@ module _ (made : List Made) (old new : SeatHeld) (reserve : List ℕ) (cursor ne
       differ e = cc
 
   same_command : new.seat.command ≡ old.seat.command
-  same_command = ends_so.1.same ∙ sym (goes_on_same old.heap before) ∙ ap (λ (s : Seat). s.command) (sym begins.goes_on)
+  same_command = ends_so.1.same ∙ sym (going_on_keeps_command old.heap before) ∙ ap (λ (s : Seat). s.command) (sym begins.goes_on)
 
   need_is : need_of new.seat.command ≡ need_
   need_is = ap need_of ends_so.1.same ∙ begins.need_is
 
-  pub gathered : has_its_fragments new.seat.place ≡ true → HasGathered made old.heap.groups cursor need_ reserve new.seat.reserve new.seat.body
-  gathered e =
+  pub has_gathered_enough : has_its_fragments new.seat.place ≡ true → HasGathered made old.heap.groups cursor need_ reserve new.seat.reserve new.seat.body
+  has_gathered_enough e =
       let object = object_at new.seat.place ends_so.0 e ends_so.1.stage in
       record {
         claimed = object.claimed;
@@ -99,14 +99,14 @@ module _ (made : List Made) (old new : SeatHeld) (reserve : List ℕ) (cursor ne
         rest_is = ap (λ (k : Kept). k.reserve) object.kept_is ∙ ap (λ (n : ℕ). drop n (before.reserve ++ object.claimed)) need_is ∙ ap (λ (l : List ℕ). drop need_ (l ++ object.claimed)) begins.reserve_is;
       }
 
-  pub gathered_count : has_its_fragments new.seat.place ≡ true → length new.seat.body ≡ need_
-  gathered_count e =
+  pub gathered_is_what_is_needed : has_its_fragments new.seat.place ≡ true → length new.seat.body ≡ need_
+  gathered_is_what_is_needed e =
       let object = object_at new.seat.place ends_so.0 e ends_so.1.stage in
       let long = length-append before.reserve object.claimed in
       ap (length {A = ℕ}) object.body_is ∙ omega (arith, length-take (need_of new.seat.command) (before.reserve ++ object.claimed), long, object.enough, need_is)
 
-  pub gathered_object : EndsClaiming new → has_its_fragments new.seat.place ≡ true → (hand : List ℕ) → hand ≡ new.seat.body → HasItsFragments old new hand
-  gathered_object ends e hand is = record {
+  pub gathered_has_its_fragments : EndsClaiming new → has_its_fragments new.seat.place ≡ true → (hand : List ℕ) → hand ≡ new.seat.body → HasItsFragments old new hand
+  gathered_has_its_fragments ends e hand is = record {
     same = same_command;
     place_is = ends.settled e ∙ ap (λ (command : Command). places.Making (settled_place command)) same_command;
     body_is = sym is;
@@ -114,8 +114,8 @@ module _ (made : List Made) (old new : SeatHeld) (reserve : List ℕ) (cursor ne
   }
 
   -- at the refusal all was claimed, and is given back
-  pub exhausted : (found : ℕ) → IsSound new → new.seat.place ≡ places.Making Refusing → found ≡ length reserve + new.seat.given → IsExhausted made old.heap.groups reserve found × (found < need_)
-  exhausted found sound_then is counted =
+  pub refused_heap_is_exhausted : (found : ℕ) → IsSound new → new.seat.place ≡ places.Making Refusing → found ≡ length reserve + new.seat.given → IsExhausted made old.heap.groups reserve found × (found < need_)
+  refused_heap_is_exhausted found sound_then is counted =
       let stage = subst (StageAt tells old.heap old.number (kept_of before) new.seat ends_so.0) is ends_so.1.stage in
       let up = stage.1 in
       let fits : FitsPlace new.heap new.seat (places.Making Refusing) = subst (FitsPlace new.heap new.seat) is sound_then.fits.at_place in
@@ -128,7 +128,7 @@ module _ (made : List Made) (old new : SeatHeld) (reserve : List ℕ) (cursor ne
       let within : cursor < old.heap.groups = omega (arith, sound_then.fits.own.cursor_within, same_cursor, same_groups) in (
         record {
           claimed = up.claimed;
-          every = λ group below. every_group old.heap.groups cursor old.heap.groups group (IsClaimed made up.claimed) within (omega arith) below
+          every = λ group below. holds_of_every_group old.heap.groups cursor old.heap.groups group (IsClaimed made up.claimed) within (omega arith) below
               (λ i less. is_claimed made up.claimed ((cursor + i) % old.heap.groups)
               (subst (λ (n : ℕ). ClaimsGroup tells up.claimed ((n + i) % old.heap.groups)) begins.cursor_is (up.gathered.claims i less)));
           found_is = omega (arith, counted, all, none);
@@ -137,19 +137,19 @@ module _ (made : List Made) (old new : SeatHeld) (reserve : List ℕ) (cursor ne
       )
 
   -- and the reserve is as it was
-  pub refused_keeps : new.seat.place ≡ places.Making Refusing → (reserve ≡ new.seat.reserve) × (cursor ≡ new.seat.cursor)
-  refused_keeps is =
+  pub refused_keeps_reserve : new.seat.place ≡ places.Making Refusing → (reserve ≡ new.seat.reserve) × (cursor ≡ new.seat.cursor)
+  refused_keeps_reserve is =
       let stage = subst (StageAt tells old.heap old.number (kept_of before) new.seat ends_so.0) is ends_so.1.stage in
       (sym (ap (λ (k : Kept). k.reserve) stage.0 ∙ begins.reserve_is), sym (ap (λ (k : Kept). k.cursor) stage.0 ∙ begins.cursor_is))
 
 -- an object has at most 1,025 fragments
 few_at : (held : SeatHeld) (place : Place) → has_its_fragments place ≡ true → FitsPlace held.heap held.seat place → length held.seat.body ≤ 1025
-few_at held (places.Making Placing) e fits = let body = fits.0.0 in omega (arith, body.whole, need_of_object held.seat.command body.makes.an_object body.makes.in_range)
-few_at held (places.Making Storing) e fits = let body = fits.0 in omega (arith, body.whole, need_of_object held.seat.command body.makes.an_object body.makes.in_range)
+few_at held (places.Making Placing) e fits = let body = fits.0.0 in omega (arith, body.whole, object_need_within_limits held.seat.command body.makes.an_object body.makes.in_range)
+few_at held (places.Making Storing) e fits = let body = fits.0 in omega (arith, body.whole, object_need_within_limits held.seat.command body.makes.an_object body.makes.in_range)
 few_at held _ e fits = absurd (differ e)
   where
     differ : false ≡ true → ⊥
     differ e = cc
 
-pub few_fragments : (held : SeatHeld) → IsSound held → has_its_fragments held.seat.place ≡ true → length held.seat.body ≤ 1025
-few_fragments held sound e = few_at held held.seat.place e sound.fits.at_place
+pub body_has_few_fragments : (held : SeatHeld) → IsSound held → has_its_fragments held.seat.place ≡ true → length held.seat.body ≤ 1025
+body_has_few_fragments held sound e = few_at held held.seat.place e sound.fits.at_place

@@ -15,7 +15,7 @@ use Rattle.core_machine.specs.table.Fragments.{mask_of}
 use Rattle.heap_table.specs.Made.{Made, FoundIn, LeadsTo, MakesSteps}
 use Rattle.heap_table.specs.SeatHeld.{SeatHeld, IsStepped}
 use Rattle.heap_table.specs.Told.{ToldAtStep}
-use Rattle.heap_table.proofs.MadeSteps.{makes_one, found_first}
+use Rattle.heap_table.proofs.MadeSteps.{makes_one_step, found_in_first_step}
 use Rattle.frag_claim.specs.Begins.{BeginsEmptying}
 use Rattle.frag_claim.specs.Due.{due_of_emptying}
 use Rattle.frag_claim.specs.Emptied.{GivesBackReserve}
@@ -26,10 +26,10 @@ of_emptying (places.Leaving Emptying) due step e = (refl, e)
 of_emptying _ due step e = cc
 
 -- by the step
-pub emptied_by : (old new : SeatHeld) (step : Step) (found : ℕ) → due_of_emptying old.seat.place (due_step old.heap old.number old.seat) ≡ Some step → IsStepped old new found
+pub give_back_makes_step : (old new : SeatHeld) (step : Step) (found : ℕ) → due_of_emptying old.seat.place (due_step old.heap old.number old.seat) ≡ Some step → IsStepped old new found
     → ToldAtStep old.heap old.number old.seat found → (made : List Made) × MakesSteps old new made
-emptied_by old new step found due stepped told =
-    (record { step = step; found = found } ∷ [], makes_one old new step found (of_emptying old.seat.place (due_step old.heap old.number old.seat) step due).1 told stepped)
+give_back_makes_step old new step found due stepped told =
+    (record { step = step; found = found } ∷ [], makes_one_step old new step found (of_emptying old.seat.place (due_step old.heap old.number old.seat) step due).1 told stepped)
 
 -- a seat with a reserve isn't where it would be without one
 none_left : (reserve : List ℕ) → 0 < length reserve → leave_place reserve ≡ Emptying
@@ -37,14 +37,14 @@ none_left [] some = absurd (omega (arith, some))
 none_left (fragment ∷ more) some = refl
 
 -- it leaves no reserve
-pub step_empties : (old new : SeatHeld) (step : Step) (found : ℕ) → due_of_emptying old.seat.place (due_step old.heap old.number old.seat) ≡ Some step → IsStepped old new found → new.seat.reserve ≡ []
-step_empties old new step found due stepped =
+pub step_leaves_no_reserve : (old new : SeatHeld) (step : Step) (found : ℕ) → due_of_emptying old.seat.place (due_step old.heap old.number old.seat) ≡ Some step → IsStepped old new found → new.seat.reserve ≡ []
+step_leaves_no_reserve old new step found due stepped =
     let at = (of_emptying old.seat.place (due_step old.heap old.number old.seat) step due).0 in
     ap (λ (s : Seat). s.reserve) (stepped.seat_is ∙ ap (λ (p : Place). seat_after_due old.seat (move_at old.heap old.number old.seat p) found) at)
 
 -- where it isn't due there is none
-pub none_empties : (old : SeatHeld) (reserve : List ℕ) → BeginsEmptying old reserve → due_of_emptying old.seat.place (due_step old.heap old.number old.seat) ≡ None → old.seat.reserve ≡ []
-none_empties old reserve begins none = by old.seat.reserve refl
+pub nothing_due_no_reserve : (old : SeatHeld) (reserve : List ℕ) → BeginsEmptying old reserve → due_of_emptying old.seat.place (due_step old.heap old.number old.seat) ≡ None → old.seat.reserve ≡ []
+nothing_due_no_reserve old reserve begins none = by old.seat.reserve refl
   where
     differ : {step : Step} → Some step ≡ None → ⊥
     differ e = cc
@@ -57,8 +57,8 @@ none_empties old reserve begins none = by old.seat.reserve refl
         ∙ ap (λ (p : Place). due_of_emptying p (due_step old.heap old.number old.seat)) (sym place) ∙ none))
 
 -- by whatever steps the reserve was given back, one of them gave back just its fragments
-pub given_back : (old new : SeatHeld) (reserve : List ℕ) → BeginsEmptying old reserve → new.seat.reserve ≡ [] → (made : List Made) → MakesSteps old new made → GivesBackReserve made old.seat.cursor reserve
-given_back old new reserve begins empty made makes = λ some. by made makes.leads some
+pub gives_back_whole_reserve : (old new : SeatHeld) (reserve : List ℕ) → BeginsEmptying old reserve → new.seat.reserve ≡ [] → (made : List Made) → MakesSteps old new made → GivesBackReserve made old.seat.cursor reserve
+gives_back_whole_reserve old new reserve begins empty made makes = λ some. by made makes.leads some
   where
     by : (made : List Made) → LeadsTo old.heap old.number old.seat made new.seat → 0 < length reserve → WasMade (FoundIn made) (Making (GiveBack old.seat.cursor (mask_of reserve)))
     by [] leads some = absurd (omega (arith, some, ap (length {A = ℕ}) (sym begins.reserve_is ∙ ap (λ (s : Seat). s.reserve) (sym leads) ∙ empty)))
@@ -68,7 +68,7 @@ given_back old new reserve begins empty made makes = λ some. by made makes.lead
         let due : Some (Making (GiveBack old.seat.cursor (mask_of old.seat.reserve))) ≡ Some m.step =
         sym (ap (λ (p : Place). option_map (λ (v : Move). v.step) (move_at old.heap old.number old.seat p)) place) ∙ leads.0 in
         let is : m.step ≡ Making (GiveBack old.seat.cursor (mask_of reserve)) = same_step due ∙ ap (λ (l : List ℕ). Making (GiveBack old.seat.cursor (mask_of l))) begins.reserve_is in
-        (m.found, subst (λ (s : Step). FoundIn (m ∷ more) s m.found) is (found_first more m))
+        (m.found, subst (λ (s : Step). FoundIn (m ∷ more) s m.found) is (found_in_first_step more m))
       where
         same_step : {a b : Step} → Some a ≡ Some b → b ≡ a
         same_step e = cc

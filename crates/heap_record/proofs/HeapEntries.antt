@@ -123,16 +123,16 @@ turn_of_heap heap collector stages.Advancing = (refl, tt)
 turn_of_heap heap collector _ = tt
 
 -- what events tell
-pub event_of_heap : (heap : Heap) (state : State) (event : Event) → AreOfHeap (entries heap state event)
-event_of_heap heap state (Begins number command) = tt
-event_of_heap heap state (BeginsInner number inner) = tt
-event_of_heap heap state (Steps number) = place_of_heap heap state number (seat_at state number) (seat_at state number).place
-event_of_heap heap state Turns = turn_of_heap heap state.collector state.collector.stage
+pub event_entries_are_of_heap : (heap : Heap) (state : State) (event : Event) → AreOfHeap (entries heap state event)
+event_entries_are_of_heap heap state (Begins number command) = tt
+event_entries_are_of_heap heap state (BeginsInner number inner) = tt
+event_entries_are_of_heap heap state (Steps number) = place_of_heap heap state number (seat_at state number) (seat_at state number).place
+event_entries_are_of_heap heap state Turns = turn_of_heap heap state.collector state.collector.stage
 
-pub events_of_heap : (heap : Heap) (state : State) (events : List Event) → AreOfHeap (history heap state events)
-events_of_heap heap state [] = tt
-events_of_heap heap state (event ∷ events) =
-    both_of_heap (entries heap state event) (history heap (state_after heap state event) events) (event_of_heap heap state event) (events_of_heap heap (state_after heap state event) events)
+pub history_is_of_heap : (heap : Heap) (state : State) (events : List Event) → AreOfHeap (history heap state events)
+history_is_of_heap heap state [] = tt
+history_is_of_heap heap state (event ∷ events) =
+    both_of_heap (entries heap state event) (history heap (state_after heap state event) events) (event_entries_are_of_heap heap state event) (history_is_of_heap heap (state_after heap state event) events)
 
 -- entries of the heap are all left
 pub all_left : (told : List Entry) → AreOfHeap told → without_turned told ≡ told
@@ -140,17 +140,17 @@ all_left [] plain = refl
 all_left (entry ∷ told) plain = rw plain.0 (ap (λ es. entry ∷ es) (all_left told plain.1))
 
 -- behind others too
-pub left_more : (before added : List Entry) → AreOfHeap added → without_turned (before ++ added) ≡ without_turned before ++ added
-left_more before added plain = filter-append is_of_heap before added ∙ ap (λ es. without_turned before ++ es) (all_left added plain)
+pub without_turned_of_append : (before added : List Entry) → AreOfHeap added → without_turned (before ++ added) ≡ without_turned before ++ added
+without_turned_of_append before added plain = filter-append is_of_heap before added ∙ ap (λ es. without_turned before ++ es) (all_left added plain)
 
 -- an answer to a command of the collector isn't left
-pub left_same : (before : List Entry) (entry : Entry) → is_of_heap entry ≡ false → without_turned (before ++ entry ∷ []) ≡ without_turned before
-left_same before entry turned = filter-append is_of_heap before (entry ∷ []) ∙ rw turned (append-nil (without_turned before))
+pub without_turned_drops_answer : (before : List Entry) (entry : Entry) → is_of_heap entry ≡ false → without_turned (before ++ entry ∷ []) ≡ without_turned before
+without_turned_drops_answer before entry turned = filter-append is_of_heap before (entry ∷ []) ∙ rw turned (append-nil (without_turned before))
 
 -- a call tells none
-pub call_of_heap : (heap : Heap) (old new : State) (number : ℕ) (command : Command) (reply : Reply) → (call : PlaysCall heap old new number command reply) → AreOfHeap (call.before ++ Said number command reply ∷ [])
-call_of_heap heap old new number command reply call = subst AreOfHeap call.shown (events_of_heap heap old (call_events number command call.steps))
+pub call_entries_are_of_heap : (heap : Heap) (old new : State) (number : ℕ) (command : Command) (reply : Reply) → (call : PlaysCall heap old new number command reply) → AreOfHeap (call.before ++ Said number command reply ∷ [])
+call_entries_are_of_heap heap old new number command reply call = subst AreOfHeap call.shown (history_is_of_heap heap old (call_events number command call.steps))
 
 -- nor does an inner call
-pub inner_of_heap : (heap : Heap) (old new : State) (number : ℕ) (inner : Inner) → PlaysInner heap old new number inner → AreOfHeap (inner_entries heap old.words number (seat_at old number).answered inner)
-inner_of_heap heap old new number inner plays = subst AreOfHeap plays.shown (events_of_heap heap old (inner_events number inner plays.steps))
+pub inner_entries_are_of_heap : (heap : Heap) (old new : State) (number : ℕ) (inner : Inner) → PlaysInner heap old new number inner → AreOfHeap (inner_entries heap old.words number (seat_at old number).answered inner)
+inner_entries_are_of_heap heap old new number inner plays = subst AreOfHeap plays.shown (history_is_of_heap heap old (inner_events number inner plays.steps))

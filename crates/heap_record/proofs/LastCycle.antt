@@ -15,9 +15,9 @@ use Rattle.heap_model.specs.account.Effects.{effect_of}
 use Rattle.heap_model.specs.account.Noting.{is_collectors}
 use Rattle.heap_model.specs.account.PhaseCounts.{phase, has_left}
 use Rattle.heap_model.specs.account.Windows.{begins_cycle, up_to_cycle}
-use Rattle.core_rule.proofs.parties.LeftStill.{left_still, up_to_last_later}
-use Rattle.core_rule.proofs.looks.Growth.{up_to_last-none}
-use Rattle.core_rule.proofs.runs.Plays.{keeps_there}
+use Rattle.core_rule.proofs.parties.LeftStill.{left_stays_left, up_to_last_in_later}
+use Rattle.core_rule.proofs.looks.Growth.{up_to_last_stays}
+use Rattle.core_rule.proofs.runs.Plays.{keeps_space_of_each_entry}
 use Rattle.heap_model.proofs.account_lemmas.Windows.{up_to_last-yes}
 use Rattle.heap_model.specs.runs.Told.{is_leave, up_to_leaves, EndsWithLeave}
 
@@ -51,14 +51,14 @@ module _ (heap : Heap) (play : Bool) (cycle : ℕ) where
       ]
 
 -- of a legal history that ends with the end of a cycle whatever has left before its begin has left up to there
-pub left_before : (heap : Heap) (play : Bool) (front turned : List Entry) (cycle kept number : ℕ) → IsLegal heap play ((front ++ turned) ++ entries.Ends cycle kept ∷ []) → phase front ≤ cycle_phases * cycle
+pub left_before_last_cycle : (heap : Heap) (play : Bool) (front turned : List Entry) (cycle kept number : ℕ) → IsLegal heap play ((front ++ turned) ++ entries.Ends cycle kept ∷ []) → phase front ≤ cycle_phases * cycle
     → has_left number front ≡ true → has_left number (up_to_cycle (front ++ turned)) ≡ true
-left_before heap play front turned cycle kept number legal early left =
-    let through = (keeps_there heap play [] (front ++ turned) [] (entries.Ends cycle kept) legal.space).ends.0 in
+left_before_last_cycle heap play front turned cycle kept number legal early left =
+    let through = (keeps_space_of_each_entry heap play [] (front ++ turned) [] (entries.Ends cycle kept) legal.space).ends.0 in
     let space = subst (λ es. KeepsSpaceAfter heap play [] es) (append_assoc front turned (entries.Ends cycle kept ∷ [])) legal.space in
     let some : list_any begins_cycle turned ≡ true = begins_among heap play cycle front turned (front_kept front (turned) (behind_kept heap play [] front (turned ++ entries.Ends cycle kept ∷ []) space)) early
     (omega (arith, through.0, phase_more front turned)) in
-    ap (has_left number) (up_to_last_later begins_cycle front turned some) ∙ left_still number front (up_to_cycle turned) left
+    ap (has_left number) (up_to_last_in_later begins_cycle front turned some) ∙ left_stays_left number front (up_to_cycle turned) left
   where
     -- what is before keeps them too
     front_kept : (before front : List Entry) → KeepsSpaceAfter heap play before (front ++ entries.Ends cycle kept ∷ []) → KeepsSpaceAfter heap play before front
@@ -72,7 +72,7 @@ no_leaves (entries.Said number command reply ∷ turned) own = absurd (cc own.0)
 no_leaves (entry ∷ turned) own = no_leaves turned own.1
 
 -- so behind a leave the last leave stays where turns are made
-pub leaves_stay : (front turned : List Entry) → EndsWithLeave front → AllByRecursion (λ entry. is_collectors entry ≡ true) turned → up_to_leaves (front ++ turned) ≡ front
-leaves_stay front turned parted own =
-    up_to_last-none is_leave front turned (no_leaves turned own)
+pub last_leave_stays : (front turned : List Entry) → EndsWithLeave front → AllByRecursion (λ entry. is_collectors entry ≡ true) turned → up_to_leaves (front ++ turned) ≡ front
+last_leave_stays front turned parted own =
+    up_to_last_stays is_leave front turned (no_leaves turned own)
     ∙ subst (λ (l : List Entry). up_to_leaves l ≡ l) (sym parted.last) (up_to_last-yes is_leave parted.before (entries.Said parted.number Leave parted.reply) refl)

@@ -17,19 +17,19 @@ use Rattle.core_machine.specs.machine.Opening.{IsOpening}
 use Rattle.core_machine.specs.seat.Seat.{Seat}
 use Rattle.core_rule.specs.runs.Laws.{EveryRunKeeps, StandsFor, AllIdle}
 use Rattle.core_rule.proofs.parties.MoreEvents.{Run-append, after_all-append, history-append}
-use Rattle.core_rule.proofs.parties.OneSeat.{SameBut, after_call, after_inner}
-use Rattle.core_rule.proofs.parties.OpenedSeats.{idle_opened}
+use Rattle.core_rule.proofs.parties.OneSeat.{SameBut, others_same_after_call, others_same_after_inner}
+use Rattle.core_rule.proofs.parties.OpenedSeats.{opened_is_all_idle}
 use Rattle.heap_record.specs.Recorded.{Recorded, EventsLeadTo, StandsStill, MakesCall, MakesInner, MakesTurn}
 
 -- nothing has happened yet
-pub led_none : (Are : Heap → State → List Event → Type 0) (heap : Heap) (state : State) (told : List Entry) → IsHeap heap → IsOpening heap state → told ≡ [] → Are heap state [] → EventsLeadTo Are heap state told
-led_none Are heap state told limits opens none are =
-    rw none (record { limits = limits; opening = state; opens = opens; events = []; are = are; run = tt; ends = refl; shown = refl; all_idle = idle_opened heap state opens })
+pub events_lead_to_start : (Are : Heap → State → List Event → Type 0) (heap : Heap) (state : State) (told : List Entry) → IsHeap heap → IsOpening heap state → told ≡ [] → Are heap state [] → EventsLeadTo Are heap state told
+events_lead_to_start Are heap state told limits opens none are =
+    rw none (record { limits = limits; opening = state; opens = opens; events = []; are = are; run = tt; ends = refl; shown = refl; all_idle = opened_is_all_idle heap state opens })
 
 module _ (Are : Heap → State → List Event → Type 0) (heap : Heap) (state : State) (told : List Entry) (led : EventsLeadTo Are heap state told) where
   -- some book stands for what they have led to
-  pub book_stands : EveryRunKeeps → StandsFor heap state [] told
-  book_stands runs = rw (led.shown, led.ends) (runs heap led.opening led.events led.limits led.opens led.run)
+  pub book_stands_for_state : EveryRunKeeps → StandsFor heap state [] told
+  book_stands_for_state runs = rw (led.shown, led.ends) (runs heap led.opening led.events led.limits led.opens led.run)
 
   -- more of them lead on
   led_more : (new : State) (added : List Entry) (more : List Event) → Run heap state more → new ≡ state_after_all heap state more → history heap state more ≡ added → AllIdle new
@@ -58,33 +58,33 @@ module _ (Are : Heap → State → List Event → Type 0) (heap : Heap) (state :
 
 module _ (Are : Heap → State → List Event → Type 0) (old new : Recorded) (led : EventsLeadTo Are old.machine.heap old.machine.state old.history) where
   -- by a call
-  pub led_call : (number : ℕ) (command : Command) (reply : Reply) → (makes : MakesCall old new number command reply)
+  pub events_lead_on_by_call : (number : ℕ) (command : Command) (reply : Reply) → (makes : MakesCall old new number command reply)
       → Are old.machine.heap led.opening (led.events ++ call_events number command makes.call.steps) → EventsLeadTo Are new.machine.heap new.machine.state new.history
-  led_call number command reply makes are =
+  events_lead_on_by_call number command reply makes are =
       let heap = old.machine.heap in
       let call = makes.call in
-      let others = after_call heap old.machine.state new.machine.state number command reply call in
+      let others = others_same_after_call heap old.machine.state new.machine.state number command reply call in
       rw (makes.same_heap, makes.noted) (led_more Are heap old.machine.state old.history led new.machine.state _ (call_events number command call.steps) call.can call.ends call.shown
       (idle_but Are heap old.machine.state old.history led new.machine.state number others call.idle) are)
 
   -- by an inner call
-  pub led_inner : (number : ℕ) (inner : Inner) → (makes : MakesInner old new number inner)
+  pub events_lead_on_by_inner : (number : ℕ) (inner : Inner) → (makes : MakesInner old new number inner)
       → Are old.machine.heap led.opening (led.events ++ inner_events number inner makes.plays.steps) → EventsLeadTo Are new.machine.heap new.machine.state new.history
-  led_inner number inner makes are =
+  events_lead_on_by_inner number inner makes are =
       let heap = old.machine.heap in
       let plays = makes.plays in
-      let others = after_inner heap old.machine.state new.machine.state number inner plays in
+      let others = others_same_after_inner heap old.machine.state new.machine.state number inner plays in
       let idle = ap (λ (t : Seat). t.place) plays.seat ∙ led.all_idle number plays.can.0.0 in
       rw (makes.same_heap, makes.noted) (led_more Are heap old.machine.state old.history led new.machine.state _ (inner_events number inner plays.steps) plays.can plays.ends plays.shown
       (idle_but Are heap old.machine.state old.history led new.machine.state number others idle) are)
 
   -- by a turn
-  pub led_turn : (turn : Turn) → MakesTurn old new turn → Are old.machine.heap led.opening (led.events ++ Turns ∷ []) → EventsLeadTo Are new.machine.heap new.machine.state new.history
-  led_turn turn makes are =
+  pub events_lead_on_by_turn : (turn : Turn) → MakesTurn old new turn → Are old.machine.heap led.opening (led.events ++ Turns ∷ []) → EventsLeadTo Are new.machine.heap new.machine.state new.history
+  events_lead_on_by_turn turn makes are =
       let heap = old.machine.heap in
       let state = old.machine.state in
       rw (makes.same_heap, makes.after, makes.noted) (led_more Are heap state old.history led _ _ (Turns ∷ []) (makes.can, tt) refl (append-nil _) led.all_idle are)
 
   -- and by nothing
-  pub led_still : StandsStill old new → EventsLeadTo Are new.machine.heap new.machine.state new.history
-  led_still still = rw (still.heap_stays, still.state_stays, still.history_stays) led
+  pub events_lead_on_still : StandsStill old new → EventsLeadTo Are new.machine.heap new.machine.state new.history
+  events_lead_on_still still = rw (still.heap_stays, still.state_stays, still.history_stays) led

@@ -16,11 +16,11 @@ use Rattle.core_machine.specs.machine.Calls.{IsBeside}
 use Rattle.core_machine.specs.seat.Looks.{noted_reply}
 
 -- more entries tell more
-pub commands_more : (number : ℕ) (front behind : List Entry) → commands_told number (front ++ behind) ≡ commands_told number front ++ commands_told number behind
-commands_more number front behind = flat_map-append (command_told number) front behind
+pub commands_told_of_append : (number : ℕ) (front behind : List Entry) → commands_told number (front ++ behind) ≡ commands_told number front ++ commands_told number behind
+commands_told_of_append number front behind = flat_map-append (command_told number) front behind
 
-pub waits_more : (number : ℕ) (front behind : List Entry) → waits_told number (front ++ behind) ≡ waits_told number front + waits_told number behind
-waits_more number front behind =
+pub waits_told_of_append : (number : ℕ) (front behind : List Entry) → waits_told number (front ++ behind) ≡ waits_told number front + waits_told number behind
+waits_told_of_append number front behind =
     ap (length {A = Entry}) (filter-append (is_wait_of number) front behind) ∙ length-append (filter (is_wait_of number) front) (filter (is_wait_of number) behind)
 
 -- no command of the seat is answered
@@ -29,12 +29,12 @@ pub record TellsNone (number : ℕ) (told : List Entry) : Type 0 where
   pub waits : waits_told number told ≡ 0
 
 -- entries beside a reply answer none
-pub none_beside : (number other : ℕ) (before : List Entry) → AllByRecursion (IsBeside other) before → TellsNone number before
-none_beside number other [] beside = record { commands = refl; waits = refl }
-none_beside number other (Takes q count ∷ before) beside = let more = none_beside number other before beside.1 in record { commands = more.commands; waits = more.waits }
-none_beside number other (GivesBack q count ∷ before) beside = let more = none_beside number other before beside.1 in record { commands = more.commands; waits = more.waits }
-none_beside number other (Answers q phase ∷ before) beside = let more = none_beside number other before beside.1 in record { commands = more.commands; waits = more.waits }
-none_beside number other (_ ∷ before) beside = absurd beside.0
+pub tells_none_beside_reply : (number other : ℕ) (before : List Entry) → AllByRecursion (IsBeside other) before → TellsNone number before
+tells_none_beside_reply number other [] beside = record { commands = refl; waits = refl }
+tells_none_beside_reply number other (Takes q count ∷ before) beside = let more = tells_none_beside_reply number other before beside.1 in record { commands = more.commands; waits = more.waits }
+tells_none_beside_reply number other (GivesBack q count ∷ before) beside = let more = tells_none_beside_reply number other before beside.1 in record { commands = more.commands; waits = more.waits }
+tells_none_beside_reply number other (Answers q phase ∷ before) beside = let more = tells_none_beside_reply number other before beside.1 in record { commands = more.commands; waits = more.waits }
+tells_none_beside_reply number other (_ ∷ before) beside = absurd beside.0
 
 -- one command is answered, with so many waits
 pub record TellsOne (number : ℕ) (command : Command) (waits : ℕ) (told : List Entry) : Type 0 where
@@ -45,11 +45,11 @@ pub record TellsOne (number : ℕ) (command : Command) (waits : ℕ) (told : Lis
 one_behind : (number : ℕ) (before : List Entry) (command : Command) (reply : Reply) (waits : ℕ) → AllByRecursion (IsBeside number) before → waits_told number (Said number command reply ∷ []) ≡ waits
     → TellsOne number command waits (before ++ Said number command reply ∷ [])
 one_behind number before command reply waits beside counted =
-    let none = none_beside number number before beside in
+    let none = tells_none_beside_reply number number before beside in
     let said : commands_told number (Said number command reply ∷ []) ≡ command ∷ [] = rw (eq-eqb number number refl) refl in
     record {
-      commands = commands_more number before (Said number command reply ∷ []) ∙ ap (λ (l : List Command). l ++ commands_told number (Said number command reply ∷ [])) none.commands ∙ said;
-      counted = omega (arith, waits_more number before (Said number command reply ∷ []), none.waits, counted);
+      commands = commands_told_of_append number before (Said number command reply ∷ []) ∙ ap (λ (l : List Command). l ++ commands_told number (Said number command reply ∷ [])) none.commands ∙ said;
+      counted = omega (arith, waits_told_of_append number before (Said number command reply ∷ []), none.waits, counted);
     }
 
 said_once : (number : ℕ) (command : Command) (reply : Reply) → command ≢ commands.Collect → waits_told number (Said number command reply ∷ []) ≡ 0
@@ -57,9 +57,9 @@ said_once number commands.Collect reply once = absurd (once refl)
 said_once number _ reply once = refl
 
 -- so does a whole call
-pub one_called : (number : ℕ) (before : List Entry) (command : Command) (reply : Reply) → command ≢ commands.Collect → AllByRecursion (IsBeside number) before
+pub tells_one_of_call : (number : ℕ) (before : List Entry) (command : Command) (reply : Reply) → command ≢ commands.Collect → AllByRecursion (IsBeside number) before
     → TellsOne number command 0 (before ++ Said number command reply ∷ [])
-one_called number before command reply once beside = one_behind number before command reply 0 beside (said_once number command reply once)
+tells_one_of_call number before command reply once beside = one_behind number before command reply 0 beside (said_once number command reply once)
 
 -- how many waits a reply to a collect is
 abbrev pub waits_of : CollectReply → ℕ
@@ -71,6 +71,6 @@ said_noted number (notes.Cycle cycle) = refl
 said_noted number (notes.Waits other answered phase) = rw (eq-eqb number number refl) refl
 
 -- and a collect
-pub one_noted : (number : ℕ) (before : List Entry) (came : CollectReply) → AllByRecursion (IsBeside number) before
+pub tells_one_of_note : (number : ℕ) (before : List Entry) (came : CollectReply) → AllByRecursion (IsBeside number) before
     → TellsOne number commands.Collect (waits_of came) (before ++ Said number commands.Collect (noted_reply came) ∷ [])
-one_noted number before came beside = one_behind number before commands.Collect (noted_reply came) (waits_of came) beside (said_noted number came)
+tells_one_of_note number before came beside = one_behind number before commands.Collect (noted_reply came) (waits_of came) beside (said_noted number came)

@@ -17,9 +17,9 @@ use Rattle.heap_runs.specs.Play.{AreTurns}
 use Rattle.heap_runs.specs.PlayHeap.{PlayState, seat_state_of}
 use Rattle.heap_runs.specs.Playing.{NotesCall, NotesSeatLine, NotesTurns, IsThere, DoesFew, IsPlaying}
 use Rattle.heap_record.specs.Recorded.{claimed_by}
-use Rattle.heap_runs.proofs.Slacking.{pace_adds}
-use Rattle.heap_runs.proofs.Serving.{serves_adds}
-use Rattle.heap_runs.proofs.Told.{collect_stays, tells_call}
+use Rattle.heap_runs.proofs.Slacking.{pace_adds_slack}
+use Rattle.heap_runs.proofs.Serving.{served_turns_add}
+use Rattle.heap_runs.proofs.Told.{graph_stays_by_collect, tells_call}
 
 -- a command is a collect, or it isn't
 is_collect : (command : Command) → (command ≡ Collect) ⊎ (command ≢ Collect)
@@ -30,7 +30,7 @@ is_collect command = inr (λ e. cc e)
 module _ (counts : EachCallCounts) (others : EachCallSparesOthers) (heap : Heap) (old new : PlayState) (seat : ℕ) (command : Command) (notes : NotesCall old new seat command) where
   -- a collect leaves every seat as it is
   stays_by_collect : (number : ℕ) → command ≡ Collect → graph_seat (graph_after (opening new.heap) new.entries) number ≡ graph_seat (graph_after (opening old.heap) old.entries) number
-  stays_by_collect number is = ap (λ (g : Graph). graph_seat g number) (collect_stays old new seat notes.reply (notes.answers.collects is))
+  stays_by_collect number is = ap (λ (g : Graph). graph_seat g number) (graph_stays_by_collect old new seat notes.reply (notes.answers.collects is))
 
   -- a seat is there, if it was and this isn't its leave
   there_once : command ≢ Collect → (number : ℕ) → (number ≡ seat → command ≢ Leave) → IsThere old number → IsThere new number
@@ -52,8 +52,8 @@ module _ (counts : EachCallCounts) (others : EachCallSparesOthers) (heap : Heap)
           let up = counts (seat_state_of old seat) (seat_state_of new seat) command notes.reply (notes.answers.once once).adds in
           record { few_objects = omega (arith, up.made_more, few.few_objects); few_sets = omega (arith, up.sets_more, few.few_sets) }
 
-  pub still_there : (number : ℕ) → (number ≡ seat → command ≢ Leave) → IsThere old number → IsThere new number
-  still_there number stays there = elim (is_collect command) [
+  pub seat_is_still_there : (number : ℕ) → (number ≡ seat → command ≢ Leave) → IsThere old number → IsThere new number
+  seat_is_still_there number stays there = elim (is_collect command) [
     | inl is ↦ ap (λ (s : GraphSeat). s.left) (stays_by_collect number is) ∙ there
     | inr once ↦ there_once once number stays there
   ]
@@ -71,7 +71,7 @@ module _ (counts : EachCallCounts) (others : EachCallSparesOthers) (heap : Heap)
   pub plays_call : (calls : ℕ) → command ≢ Leave → IsPlaying heap old calls → IsPlaying heap new (calls + 1)
   plays_call calls stays plays = record {
     of_heap = (tells_call old new seat command notes.reply notes.answers).heap ∙ plays.of_heap;
-    present = λ number below. still_there number (λ same. stays) (plays.present number below);
+    present = λ number below. seat_is_still_there number (λ same. stays) (plays.present number below);
     few = λ number below. few_still number calls (plays.few number below);
   }
 
@@ -102,25 +102,25 @@ module _ (old new : PlayState) (added : List Entry) (same_heap : new.heap ≡ ol
   }
 
 -- after the turns of a command
-pub plays_turns : (heap : Heap) (old new : PlayState) (command : TurnCommand) → NotesTurns old new command → (calls : ℕ) → IsPlaying heap old calls → IsPlaying heap new (calls + 1)
-plays_turns heap old new command notes calls plays =
-    let adds = serves_adds old notes.now command notes.reply notes.serves in
+pub is_playing_after_turns : (heap : Heap) (old new : PlayState) (command : TurnCommand) → NotesTurns old new command → (calls : ℕ) → IsPlaying heap old calls → IsPlaying heap new (calls + 1)
+is_playing_after_turns heap old new command notes calls plays =
+    let adds = served_turns_add old notes.now command notes.reply notes.serves in
     let turned : List Entry = entries.Turned command notes.reply ∷ [] in
     plays_more old new (adds.added ++ turned) (ap (λ (s : PlayState). s.heap) notes.noted ∙ adds.same_heap)
     (ap (λ (s : PlayState). s.entries) notes.noted ∙ ap (λ es. es ++ turned) adds.told ∙ append_assoc old.entries adds.added turned)
     (λ g. fold-append after_entry g adds.added turned ∙ graph_stays g adds.added adds.turned) heap calls (calls + 1) (omega arith) plays
 
 -- after a seat's line
-pub plays_line : EachCallCounts → EachCallSparesOthers → (asks : Option (ℕ → ℕ)) (heap : Heap) (old new : PlayState) (seat : ℕ) (command : Command) → NotesSeatLine asks old new seat command → (calls : ℕ) → command ≢ Leave
+pub is_playing_after_line : EachCallCounts → EachCallSparesOthers → (asks : Option (ℕ → ℕ)) (heap : Heap) (old new : PlayState) (seat : ℕ) (command : Command) → NotesSeatLine asks old new seat command → (calls : ℕ) → command ≢ Leave
     → IsPlaying heap old calls → IsPlaying heap new (calls + 1)
-plays_line counts others asks heap old new seat command notes calls stays plays =
-    let slack = pace_adds asks (claimed_by notes.call.added) notes.now new notes.slack in
+is_playing_after_line counts others asks heap old new seat command notes calls stays plays =
+    let slack = pace_adds_slack asks (claimed_by notes.call.added) notes.now new notes.slack in
     plays_more notes.now new slack.adds.added slack.adds.same_heap slack.adds.told (λ g. graph_stays g slack.adds.added slack.adds.turned) heap (calls + 1) (calls + 1) (omega arith)
     (plays_call counts others heap old notes.now seat command notes.call calls stays plays)
 
 -- no line is answered yet
-pub plays_none : (heap : Heap) (state : PlayState) → state.heap ≡ heap → state.entries ≡ [] → IsPlaying heap state 0
-plays_none heap state of_heap fresh =
+pub is_playing_at_first : (heap : Heap) (state : PlayState) → state.heap ≡ heap → state.entries ≡ [] → IsPlaying heap state 0
+is_playing_at_first heap state of_heap fresh =
     let graphs : graph_after (opening state.heap) state.entries ≡ opening heap = ap (λ h. graph_after (opening h) state.entries) of_heap ∙ ap (graph_after (opening heap)) fresh in
     let open_ = λ (number : ℕ) (below : number < heap.seats). ap (λ (g : Graph). graph_seat g number) graphs ∙ get_or-replicate heap.seats number opening_graph_seat absent_graph_seat below in
     record {

@@ -76,5 +76,5 @@ module _ (old : Recorded) (new : State) (number : ℕ) (command : Command) (repl
     | inr over ↦ (let o = over.1 in inl (o, words_refused (answer.spine_refused (omega (arith, o, used.0)))))
   ]
 
-  pub answers_array : AnswersArrayOnce here number command reply
-  answers_array = answers_one_way here number command reply ends_one_way
+  pub answers_array_once : AnswersArrayOnce here number command reply
+  answers_array_once = answers_one_way here number command reply ends_one_way

@@ -15,10 +15,10 @@ use Rattle.heap_model.specs.account.Effects.{effect_of, is_of}
 use Rattle.heap_model.specs.account.Noting.{is_collectors}
 use Rattle.heap_model.specs.account.PhaseCounts.{phase, has_left, is_leave_of}
 use Rattle.heap_model.specs.account.Windows.{up_to_cycle}
-use Rattle.core_rule.proofs.entries.PhaseEntries.{seats_phase}
-use Rattle.core_rule.proofs.runs.Plays.{keeps_there}
+use Rattle.core_rule.proofs.entries.PhaseEntries.{phase_stays_by_seats}
+use Rattle.core_rule.proofs.runs.Plays.{keeps_space_of_each_entry}
 use Rattle.heap_table.specs.Folded.{SeatsBefore}
-use Rattle.heap_record.proofs.LastCycle.{left_before}
+use Rattle.heap_record.proofs.LastCycle.{left_before_last_cycle}
 use Rattle.log_merge.proofs.merge_lemmas.Parts.{IsParted, parted_filter}
 use Rattle.heap_model.specs.runs.Endings.{EndsBehindLeaves}
 
@@ -51,8 +51,8 @@ leaves_seat number (entries.Said other command reply) leaves = refl
 leaves_seat number _ leaves = absurd (cc leaves)
 
 -- so the history tells it where the seat's own list does
-pub gone_told : (number : ℕ) (history : List Entry) → has_left number (filter (is_of number) history) ≡ true → has_left number history ≡ true
-gone_told number history left = sym (any-filter_same (is_leave_of number) (is_of number) true (leaves_own number) history) ∙ left
+pub gone_is_told : (number : ℕ) (history : List Entry) → has_left number (filter (is_of number) history) ≡ true → has_left number history ≡ true
+gone_is_told number history left = sym (any-filter_same (is_leave_of number) (is_of number) true (leaves_own number) history) ∙ left
 
 module _ (heap : Heap) (play : Bool) (history : List Entry) (legal : IsLegal heap play history) (folded : ℕ) (late : SeatsBefore folded history) (earlier : List Entry) (cycle kept : ℕ)
     (collectors : filter is_collectors history ≡ earlier ++ entries.Ends cycle kept ∷ []) (began : folded ≤ cycle_phases * cycle) where
@@ -67,7 +67,7 @@ module _ (heap : Heap) (play : Bool) (history : List Entry) (legal : IsLegal hea
 
   -- the cycle ends when its last phase is on
   through : phase at.front ≡ cycle_phases * cycle + 6
-  through = (keeps_there heap play [] at.front at.back ends space).ends.0.0
+  through = (keeps_space_of_each_entry heap play [] at.front at.back ends space).ends.0.0
 
   phase_past : phase (at.front ++ ends ∷ []) ≡ phase at.front + 1
   phase_past = sum_by-append (λ e. (effect_of e).phases) at.front (ends ∷ [])
@@ -99,12 +99,12 @@ module _ (heap : Heap) (play : Bool) (history : List Entry) (legal : IsLegal hea
       let front = leave.before ++ leave.found ∷ [] in
       let whole : at.front ≡ front ++ leave.rest = leave.parts ∙ sym (append_assoc leave.before (leave.found ∷ []) leave.rest) in
       let early : phase front ≤ cycle_phases * cycle
-      = omega (arith, seats_phase leave.before (leave.found ∷ []) no_phase, late leave.before (leave.rest ++ ends ∷ []) leave.found parts seats, began) in
+      = omega (arith, phase_stays_by_seats leave.before (leave.found ∷ []) no_phase, late leave.before (leave.rest ++ ends ∷ []) leave.found parts seats, began) in
       let in_front : has_left number front ≡ true
       = list_any-append (is_leave_of number) leave.before (leave.found ∷ []) ∙ rw leave.passes (or-true (has_left number leave.before)) in
       subst (λ (l : List Entry). has_left number (up_to_cycle l) ≡ true) (sym whole)
-      (left_before heap play front leave.rest cycle kept number (subst (IsLegal heap play) (ended ∙ ap (λ (l : List Entry). l ++ ends ∷ []) whole) legal) early in_front)
+      (left_before_last_cycle heap play front leave.rest cycle kept number (subst (IsLegal heap play) (ended ∙ ap (λ (l : List Entry). l ++ ends ∷ []) whole) legal) early in_front)
 
   -- so it ends behind the leaves
-  pub ends_behind : ((number : ℕ) → number < heap.seats → has_left number history ≡ true) → EndsBehindLeaves heap history
-  ends_behind gone = record { before = at.front; cycle = cycle; kept = kept; last = ended; left = λ number below. left_early number (gone number below) }
+  pub ends_behind_leaves : ((number : ℕ) → number < heap.seats → has_left number history ≡ true) → EndsBehindLeaves heap history
+  ends_behind_leaves gone = record { before = at.front; cycle = cycle; kept = kept; last = ended; left = λ number below. left_early number (gone number below) }

@@ -9,9 +9,9 @@ use Rattle.core_machine.specs.machine.InnerCalls.{inner_events}
 use Rattle.core_machine.specs.machine.Machine.{State, Event, Turns}
 use Rattle.core_rule.specs.runs.Laws.{OneCallAtATime, NotesNow}
 use Rattle.core_rule.proofs.parties.MoreEvents.{OneCall-append}
-use Rattle.core_rule.proofs.parties.OneSeat.{call_alone, inner_alone}
+use Rattle.core_rule.proofs.parties.OneSeat.{call_events_are_one_call, inner_events_are_one_call}
 use Rattle.heap_record.specs.Recorded.{Recorded, MakesCall, MakesInner, MakesTurn}
-use Rattle.heap_record.proofs.Leading.{led_call, led_inner, led_turn}
+use Rattle.heap_record.proofs.Leading.{events_lead_on_by_call, events_lead_on_by_inner, events_lead_on_by_turn}
 use Rattle.heap_runs.specs.MachineHeap.{IsBetweenCalls}
 
 module _ (old new : Recorded) (between : IsBetweenCalls old.machine.heap old.machine.state old.history) where
@@ -21,17 +21,17 @@ module _ (old new : Recorded) (between : IsBetweenCalls old.machine.heap old.mac
       let heap = old.machine.heap in
       OneCall-append heap between.opening between.events more between.are (subst (λ (s : State). OneCallAtATime heap s more) between.ends alone)
 
-  pub between_call : (number : ℕ) (command : Command) (reply : Reply) → MakesCall old new number command reply → IsBetweenCalls new.machine.heap new.machine.state new.history
-  between_call number command reply makes =
+  pub between_after_call : (number : ℕ) (command : Command) (reply : Reply) → MakesCall old new number command reply → IsBetweenCalls new.machine.heap new.machine.state new.history
+  between_after_call number command reply makes =
       let steps = makes.call.steps in
-      led_call OneCallAtATime old new between number command reply makes (behind (call_events number command steps)
-      (call_alone old.machine.heap number steps command old.machine.state (λ other below apart. between.all_idle other below)))
+      events_lead_on_by_call OneCallAtATime old new between number command reply makes (behind (call_events number command steps)
+      (call_events_are_one_call old.machine.heap number steps command old.machine.state (λ other below apart. between.all_idle other below)))
 
-  pub between_inner : (number : ℕ) (inner : Inner) → MakesInner old new number inner → NotesNow old.machine.heap old.machine.state inner → IsBetweenCalls new.machine.heap new.machine.state new.history
-  between_inner number inner makes now =
+  pub between_after_inner : (number : ℕ) (inner : Inner) → MakesInner old new number inner → NotesNow old.machine.heap old.machine.state inner → IsBetweenCalls new.machine.heap new.machine.state new.history
+  between_after_inner number inner makes now =
       let steps = makes.plays.steps in
-      led_inner OneCallAtATime old new between number inner makes (behind (inner_events number inner steps)
-      (inner_alone old.machine.heap number steps inner old.machine.state (λ other below apart. between.all_idle other below) now))
+      events_lead_on_by_inner OneCallAtATime old new between number inner makes (behind (inner_events number inner steps)
+      (inner_events_are_one_call old.machine.heap number steps inner old.machine.state (λ other below apart. between.all_idle other below) now))
 
-  pub between_turn : (turn : Turn) → MakesTurn old new turn → IsBetweenCalls new.machine.heap new.machine.state new.history
-  between_turn turn makes = led_turn OneCallAtATime old new between turn makes (behind (Turns ∷ []) (between.all_idle, tt))
+  pub between_after_turn : (turn : Turn) → MakesTurn old new turn → IsBetweenCalls new.machine.heap new.machine.state new.history
+  between_after_turn turn makes = events_lead_on_by_turn OneCallAtATime old new between turn makes (behind (Turns ∷ []) (between.all_idle, tt))

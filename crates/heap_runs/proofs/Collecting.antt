@@ -29,9 +29,9 @@ use Rattle.heap_runs.specs.Collecting.{IsStillThere, CollectGoesOn, EndsFor, Sta
 use Rattle.heap_runs.specs.MachineHeap.{run_state_of, MovesOn, MovesAll, CollectsMachine}
 use Rattle.heap_runs.specs.Play.{TellsInCollect}
 use Rattle.heap_runs.specs.PlayHeap.{TakesTurn, collector_state_of}
-use Rattle.heap_runs.proofs.TurnFacts.{added_is, none_is, wait_shows}
-use Rattle.core_rule.proofs.parties.Collectors.{all_collectors}
-use Rattle.core_rule.proofs.parties.OneSeat.{after_inner}
+use Rattle.heap_runs.proofs.TurnFacts.{turn_adds_just_more, turn_adds_nothing, waiting_turn_shows}
+use Rattle.core_rule.proofs.parties.Collectors.{all_are_collectors}
+use Rattle.core_rule.proofs.parties.OneSeat.{others_same_after_inner}
 
 -- moves after moves
 pub moves_then : (n m : ℕ) (heap : Heap) (number : ℕ) (old now new : State) (first next : List Entry) → MovesAll m heap number old now first → MovesAll n heap number now new next
@@ -80,12 +80,12 @@ quiet_more number (entry ∷ front) behind quiet more = (quiet.0, quiet_more num
 pub phase_onward : (before added after : List Entry) → after ≡ before ++ added → phase before ≤ phase after
 phase_onward before added after is = omega (arith, ap phase is, sum_by-append (λ e. (effect_of e).phases) before added)
 
-pub goes_none : (whole : Recorded) (number : ℕ) → IsStillThere whole number → CollectGoesOn whole whole number
-goes_none whole number present =
+pub collect_goes_on_with_nothing : (whole : Recorded) (number : ℕ) → IsStillThere whole number → CollectGoesOn whole whole number
+collect_goes_on_with_nothing whole number present =
     record { machine = machine_none whole number; quiet = tt; turns = 0; counted = omega arith; spare = omega arith; present = present; first_stays = refl; onward = omega arith }
 
-unfoldable pub goes_then : (old now new : Recorded) (number : ℕ) → CollectGoesOn old now number → CollectGoesOn now new number → CollectGoesOn old new number
-goes_then old now new number first next = record {
+unfoldable pub collect_goes_on_twice : (old now new : Recorded) (number : ℕ) → CollectGoesOn old now number → CollectGoesOn now new number → CollectGoesOn old new number
+collect_goes_on_twice old now new number first next = record {
   machine = machine_then old now new number first.machine next.machine;
   quiet = quiet_more number first.machine.told next.machine.told first.quiet next.quiet;
   turns = first.turns + next.turns;
@@ -105,15 +105,15 @@ steps_quiet number now later _ steps = absurd steps
 
 module _ (old new : Recorded) (number : ℕ) (turn : Turn) (takes : TakesTurn (run_state_of old) (run_state_of new) turn) where
   quiet_by : (turn : Turn) → ComesTo (collector_state_of (run_state_of old)) (collector_state_of (run_state_of new)) turn → AllByRecursion (TellsInCollect number) takes.added
-  quiet_by turns.Stepped (inl none) = rw (none_is (run_state_of old) (run_state_of new) turn takes none.0) tt
+  quiet_by turns.Stepped (inl none) = rw (turn_adds_nothing (run_state_of old) (run_state_of new) turn takes none.0) tt
   quiet_by turns.Stepped (inr steps) =
-      rw (added_is (run_state_of old) (run_state_of new) turn takes (steps.0 ∷ []) steps.2) (steps_quiet number _ _ steps.0 steps.1, tt)
-  quiet_by (turns.Waits other answer p) comes = rw (none_is (run_state_of old) (run_state_of new) turn takes comes.0.0) tt
-  quiet_by (turns.Ended cycle kept) comes = rw (added_is (run_state_of old) (run_state_of new) turn takes (entries.Ends cycle kept ∷ []) comes.0) (tt, tt)
+      rw (turn_adds_just_more (run_state_of old) (run_state_of new) turn takes (steps.0 ∷ []) steps.2) (steps_quiet number _ _ steps.0 steps.1, tt)
+  quiet_by (turns.Waits other answer p) comes = rw (turn_adds_nothing (run_state_of old) (run_state_of new) turn takes comes.0.0) tt
+  quiet_by (turns.Ended cycle kept) comes = rw (turn_adds_just_more (run_state_of old) (run_state_of new) turn takes (entries.Ends cycle kept ∷ []) comes.0) (tt, tt)
 
   -- by a turn
-  pub goes_turn : MakesTurn old new turn → IsStillThere old number → CollectGoesOn old new number
-  goes_turn turned present =
+  pub collect_goes_on_by_turn : MakesTurn old new turn → IsStillThere old number → CollectGoesOn old new number
+  collect_goes_on_by_turn turned present =
       let told : List Entry = machines.entries old.machine.heap old.machine.state Turns in
       let seats : new.machine.state.seats ≡ old.machine.state.seats = ap (λ (s : State). s.seats) turned.after in
       let same : seat_at new.machine.state number ≡ seat_at old.machine.state number = ap (λ (s : State). seat_at s number) turned.after in
@@ -131,15 +131,15 @@ module _ (old new : Recorded) (number : ℕ) (turn : Turn) (takes : TakesTurn (r
       grown : old.spare + length old.history ≤ new.spare + length new.history
       grown =
           let longer = ap (length {A = Entry}) takes.entries ∙ length-append old.history takes.added in
-          let filtered = ap (length {A = Entry}) (ap (filter is_collectors) takes.entries ∙ filter-append is_collectors old.history takes.added ∙ ap (λ es. filter is_collectors old.history ++ es) (all_collectors takes.added takes.own))
+          let filtered = ap (length {A = Entry}) (ap (filter is_collectors) takes.entries ∙ filter-append is_collectors old.history takes.added ∙ ap (λ es. filter is_collectors old.history ++ es) (all_are_collectors takes.added takes.own))
           ∙ length-append (filter is_collectors old.history) takes.added in
           omega (arith, takes.turned.spare, longer, filtered)
 
 -- by an answer of the seat
-pub goes_answer : (old new : Recorded) (number : ℕ) → MakesInner old new number inners.Answer → IsStillThere old number → CollectGoesOn old new number
-goes_answer old new number makes present =
+pub collect_goes_on_by_answer : (old new : Recorded) (number : ℕ) → MakesInner old new number inners.Answer → IsStillThere old number → CollectGoesOn old new number
+collect_goes_on_by_answer old new number makes present =
     let told : List Entry = inner_entries old.machine.heap old.machine.state.words number (seat_at old.machine.state number).answered inners.Answer in
-    let others = after_inner old.machine.heap old.machine.state new.machine.state number inners.Answer makes.plays in
+    let others = others_same_after_inner old.machine.heap old.machine.state new.machine.state number inners.Answer makes.plays in
     record {
       machine = machine_inner old new number inners.Answer makes;
       quiet = answer_quiet (at old.machine.heap old.machine.state.words Phase) (seat_at old.machine.state number).answered;
@@ -158,8 +158,8 @@ goes_answer old new number makes present =
     ]
 
 -- nothing has ended where nothing happened
-pub stays_none : (whole : Recorded) → StaysInCycle whole whole
-stays_none whole cycle under = under
+pub stays_in_cycle_with_nothing : (whole : Recorded) → StaysInCycle whole whole
+stays_in_cycle_with_nothing whole cycle under = under
 
 -- a step ends no cycle
 steps_within : (now later : ℕ) (entry : Entry) → StepsTo now entry later → (cycle : ℕ) → now < cycle_phases * cycle → later < cycle_phases * cycle
@@ -172,19 +172,19 @@ steps_within now later (entries.Returns count) steps cycle under = omega (arith,
 steps_within now later (entries.Swings id) steps cycle under = omega (arith, under, steps.1)
 steps_within now later _ steps cycle under = absurd steps
 
-pub stays_turn : (old now new : Recorded) (turn : Turn) → StaysInCycle old now → TakesTurn (run_state_of now) (run_state_of new) turn → turn ≡ turns.Stepped → StaysInCycle old new
-stays_turn old now new turn stays takes is cycle under = by (subst (ComesTo (collector_state_of (run_state_of now)) (collector_state_of (run_state_of new))) is takes.turned.comes_to)
+pub stays_in_cycle_by_turn : (old now new : Recorded) (turn : Turn) → StaysInCycle old now → TakesTurn (run_state_of now) (run_state_of new) turn → turn ≡ turns.Stepped → StaysInCycle old new
+stays_in_cycle_by_turn old now new turn stays takes is cycle under = by (subst (ComesTo (collector_state_of (run_state_of now)) (collector_state_of (run_state_of new))) is takes.turned.comes_to)
   where
     by : ComesTo (collector_state_of (run_state_of now)) (collector_state_of (run_state_of new)) turns.Stepped → phase new.history < cycle_phases * cycle
     by (inl none) = omega (arith, none.1, stays cycle under)
     by (inr steps) = steps_within (phase now.history) (phase new.history) steps.0 steps.1 cycle (stays cycle under)
 
 -- nor does a turn that waits, and an answer
-pub stays_wait : (old now new : Recorded) (other answer p : ℕ) → StaysInCycle old now → TakesTurn (run_state_of now) (run_state_of new) (turns.Waits other answer p) → StaysInCycle old new
-stays_wait old now new other answer p stays takes cycle under = omega (arith, takes.turned.comes_to.0.1, stays cycle under)
+pub stays_in_cycle_by_wait : (old now new : Recorded) (other answer p : ℕ) → StaysInCycle old now → TakesTurn (run_state_of now) (run_state_of new) (turns.Waits other answer p) → StaysInCycle old new
+stays_in_cycle_by_wait old now new other answer p stays takes cycle under = omega (arith, takes.turned.comes_to.0.1, stays cycle under)
 
-pub stays_answer : (old now new : Recorded) (number : ℕ) → StaysInCycle old now → MakesInner now new number inners.Answer → StaysInCycle old new
-stays_answer old now new number stays makes cycle under =
+pub stays_in_cycle_by_answer : (old now new : Recorded) (number : ℕ) → StaysInCycle old now → MakesInner now new number inners.Answer → StaysInCycle old new
+stays_in_cycle_by_answer old now new number stays makes cycle under =
     omega (arith, stays cycle under, ap phase makes.noted, sum_by-append (λ e. (effect_of e).phases) now.history told, none (at now.machine.heap now.machine.state.words Phase) (seat_at now.machine.state number).answered)
   where
     told : List Entry
@@ -197,15 +197,15 @@ stays_answer old now new number stays makes cycle under =
     ]
 
 -- a last turn that waits for another seat
-pub ends_waiting : (old now new : Recorded) (number other answer p : ℕ) → CollectGoesOn old now number → TakesTurn (run_state_of now) (run_state_of new) (turns.Waits other answer p)
+pub ends_for_waiting : (old now new : Recorded) (number other answer p : ℕ) → CollectGoesOn old now number → TakesTurn (run_state_of now) (run_state_of new) (turns.Waits other answer p)
     → MakesTurn now new (turns.Waits other answer p) → other ≢ number → EndsFor old new number (replies.Waits other answer p)
-unfolding goes_then goes_turn
-ends_waiting old now new number other answer p goes takes turned apart =
-    let shows = wait_shows (run_state_of now) (run_state_of new) other answer p takes in
+unfolding collect_goes_on_twice collect_goes_on_by_turn
+ends_for_waiting old now new number other answer p goes takes turned apart =
+    let shows = waiting_turn_shows (run_state_of now) (run_state_of new) other answer p takes in
     let some : 0 < goes.turns + 1 = omega arith in
     record {
       ends = record {
-        goes = goes_then old now new number goes (goes_turn now new number (turns.Waits other answer p) takes turned goes.present);
+        goes = collect_goes_on_twice old now new number goes (collect_goes_on_by_turn now new number (turns.Waits other answer p) takes turned goes.present);
         some = some;
         comes = (apart, takes.turned.last, shows.0, shows.2, shows.1);
         last = λ cycle is. absurd (cc is);
@@ -214,15 +214,15 @@ ends_waiting old now new number other answer p goes takes turned apart =
     }
 
 -- a last turn that ends a cycle
-pub ends_cycle : (old now new : Recorded) (number cycle kept : ℕ) → CollectGoesOn old now number → StaysInCycle old now → TakesTurn (run_state_of now) (run_state_of new) (turns.Ended cycle kept)
+pub ends_for_cycle : (old now new : Recorded) (number cycle kept : ℕ) → CollectGoesOn old now number → StaysInCycle old now → TakesTurn (run_state_of now) (run_state_of new) (turns.Ended cycle kept)
     → MakesTurn now new (turns.Ended cycle kept) → EndsFor old new number (replies.Cycle cycle)
-unfolding goes_then goes_turn
-ends_cycle old now new number cycle kept goes stays takes turned =
+unfolding collect_goes_on_twice collect_goes_on_by_turn
+ends_for_cycle old now new number cycle kept goes stays takes turned =
     let comes = takes.turned.comes_to in
     let some : 0 < goes.turns + 1 = omega arith in
     record {
       ends = record {
-        goes = goes_then old now new number goes (goes_turn now new number (turns.Ended cycle kept) takes turned goes.present);
+        goes = collect_goes_on_twice old now new number goes (collect_goes_on_by_turn now new number (turns.Ended cycle kept) takes turned goes.present);
         some = some;
         comes = (kept, takes.turned.last, comes.2);
         last = λ other is. (goes.machine.told, kept, ap (λ (es : List Entry). goes.machine.told ++ es) (told_is ∙ ap (λ (n : ℕ). entries.Ends n kept ∷ []) (cc is)));
@@ -234,7 +234,7 @@ ends_cycle old now new number cycle kept goes stays takes turned =
     told_is =
         append_cancel_left now.history (machines.entries now.machine.heap now.machine.state Turns) (entries.Ends cycle kept ∷ [])
         (sym turned.noted ∙ takes.entries ∙ ap (λ (es : List Entry). now.history ++ es)
-        (added_is (run_state_of now) (run_state_of new) (turns.Ended cycle kept) takes (entries.Ends cycle kept ∷ []) takes.turned.comes_to.0))
+        (turn_adds_just_more (run_state_of now) (run_state_of new) (turns.Ended cycle kept) takes (entries.Ends cycle kept ∷ []) takes.turned.comes_to.0))
 
     under_way : (other : ℕ) → replies.Cycle cycle ≡ replies.Cycle other → phase now.history ≡ cycle_phases * cycle + clearing → IsUnderWayAt (phase old.history) other
     under_way other is at_end =

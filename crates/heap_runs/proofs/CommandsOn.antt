@@ -23,13 +23,13 @@ use Rattle.core_machine.specs.seat.Looks.{noted_reply}
 use Rattle.heap_table.specs.SeatHeld.{SeatHeld}
 use Rattle.mutator_seat.specs.Calls.{MakesCall}
 use Rattle.mutator_seat.specs.Resting.{seat_state, MakesRoom}
-use Rattle.mutator_seat.proofs.Entries.{call_adds}
-use Rattle.mutator_seat.proofs.Replied.{is_done}
-use Rattle.heap_record.proofs.TellsOne.{commands_more, waits_more, waits_of, one_called}
+use Rattle.mutator_seat.proofs.Entries.{call_adds_its_entries}
+use Rattle.mutator_seat.proofs.Replied.{done_call_is_made}
+use Rattle.heap_record.proofs.TellsOne.{commands_told_of_append, waits_told_of_append, waits_of, tells_one_of_call}
 use Rattle.heap_runs.specs.CollectCall.{IsPresent, IsCauseOf, AnswersCollect}
 use Rattle.heap_runs.specs.SeatWork.{IsOfScript, objects_of, sets_of, MayWork, MayMakeNext, IsPaidSince, HasMade, GoesOn, HasWorked}
-use Rattle.heap_runs.proofs.LooksOn.{around_room, same_graph_seat, same_present}
-use Rattle.heap_runs.proofs.SeatTells.{one_collected}
+use Rattle.heap_runs.proofs.LooksOn.{looks_around_by_room, own_graph_seat_stays, is_present_still}
+use Rattle.heap_runs.proofs.SeatTells.{tells_one_collect}
 
 -- replies are paid by the finds of their time
 none_paid : (patience before now : ℕ) → before ≤ now → IsPaidSince patience 0 before now
@@ -52,9 +52,9 @@ made_then patience old now new front behind one more =
       number_stays = more.number_stays ∙ one.number_stays;
       part = one.part ++ more.part;
       mine = more.mine ∙ ap (λ (l : List Entry). l ++ more.part) one.mine ∙ append_assoc old.seat.mine one.part more.part;
-      answered = commands_more old.number one.part more.part ∙ ap (λ (l : List Command). l ++ commands_told old.number more.part) one.answered ∙ ap (λ (l : List Command). front ++ l) same;
+      answered = commands_told_of_append old.number one.part more.part ∙ ap (λ (l : List Command). l ++ commands_told old.number more.part) one.answered ∙ ap (λ (l : List Command). front ++ l) same;
       paid = paid_then patience (waits_told old.number one.part) (waits_told now.number more.part) (waits_told old.number (one.part ++ more.part)) old.seat.looks.waits now.seat.looks.waits new.seat.looks.waits
-          (waits_more old.number one.part more.part ∙ ap (λ (n : ℕ). waits_told old.number one.part + waits_told n more.part) (sym one.number_stays)) one.paid more.paid;
+          (waits_told_of_append old.number one.part more.part ∙ ap (λ (n : ℕ). waits_told old.number one.part + waits_told n more.part) (sym one.number_stays)) one.paid more.paid;
     }
 
 -- where nothing is told but that a seat is the same, no command is answered
@@ -72,7 +72,7 @@ room_made patience old new room = record {
 -- a whole call answers its command
 pub call_made : (patience : ℕ) (old new : SeatHeld) (command : Command) (reply : Reply) → command ≢ commands.Collect → MakesCall old new command reply → HasMade patience old new (command ∷ [])
 call_made patience old new command reply once call =
-    let one = one_called old.number call.first command reply once call.beside in
+    let one = tells_one_of_call old.number call.first command reply once call.beside in
     record {
       table_stays = call.makes.table_stays;
       heap_stays = call.makes.heap_stays;
@@ -97,7 +97,7 @@ collect_paid patience old new reply answers (notes.Waits other answered phase) l
 
 pub collect_made : (patience : ℕ) (old new : SeatHeld) (reply : CollectReply) → AnswersCollect patience old new reply → HasMade patience old new (commands.Collect ∷ [])
 collect_made patience old new reply answers =
-    let one = one_collected old.number answers.answers reply answers.own in
+    let one = tells_one_collect old.number answers.answers reply answers.own in
     record {
       table_stays = answers.same.table_stays;
       heap_stays = answers.same.heap_stays;
@@ -119,18 +119,18 @@ same_goes patience old new made has stays present = record {
 }
 
 -- so it is after a collect, and with more room
-pub collect_goes : (patience : ℕ) (old new : SeatHeld) (reply : CollectReply) → AnswersCollect patience old new reply → IsPresent old → GoesOn patience old new (commands.Collect ∷ [])
-collect_goes patience old new reply answers present =
-    same_goes patience old new (commands.Collect ∷ []) (collect_made patience old new reply answers) (same_graph_seat old new answers.same) present
+pub goes_on_after_collect : (patience : ℕ) (old new : SeatHeld) (reply : CollectReply) → AnswersCollect patience old new reply → IsPresent old → GoesOn patience old new (commands.Collect ∷ [])
+goes_on_after_collect patience old new reply answers present =
+    same_goes patience old new (commands.Collect ∷ []) (collect_made patience old new reply answers) (own_graph_seat_stays old new answers.same) present
 
 room_goes : (patience : ℕ) (old new : SeatHeld) → MakesRoom old new → IsPresent old → GoesOn patience old new []
-room_goes patience old new room present = same_goes patience old new [] (room_made patience old new room) (same_graph_seat old new (around_room old new room).same) present
+room_goes patience old new room present = same_goes patience old new [] (room_made patience old new room) (own_graph_seat_stays old new (looks_around_by_room old new room).same) present
 
 -- a whole call that is no leave goes on too
 call_goes : EachCallCounts → (patience : ℕ) (old new : SeatHeld) (command : Command) (reply : Reply) → command ≢ commands.Collect → command ≢ commands.Leave → MakesCall old new command reply → IsPresent old
     → GoesOn patience old new (command ∷ [])
 call_goes counts patience old new command reply once stays call present =
-    let up : CountsUp (seat_state old) (seat_state new) command = counts (seat_state old) (seat_state new) command reply (call_adds old new command reply call) in
+    let up : CountsUp (seat_state old) (seat_state new) command = counts (seat_state old) (seat_state new) command reply (call_adds_its_entries old new command reply call) in
     record {
       made = call_made patience old new command reply once call;
       present = up.present_stays stays ∙ present;
@@ -147,9 +147,9 @@ goes_then patience old now new front behind one more = record {
   sets = omega (arith, one.sets, more.sets, length-append front behind);
 }
 
-pub ready_call_goes : EachCallCounts → (patience : ℕ) (old ready new : SeatHeld) (command : Command) (reply : Reply) → command ≢ commands.Collect → command ≢ commands.Leave → MakesRoom old ready → MakesCall ready new command reply
+pub goes_on_after_call : EachCallCounts → (patience : ℕ) (old ready new : SeatHeld) (command : Command) (reply : Reply) → command ≢ commands.Collect → command ≢ commands.Leave → MakesRoom old ready → MakesCall ready new command reply
     → IsPresent old → GoesOn patience old new (command ∷ [])
-ready_call_goes counts patience old ready new command reply once stays room call present =
+goes_on_after_call counts patience old ready new command reply once stays room call present =
     let first = room_goes patience old ready room present in
     goes_then patience old ready new [] (command ∷ []) first (call_goes counts patience ready new command reply once stays call first.present)
 
@@ -160,19 +160,19 @@ number_same old new (commands.Array d cells) same has = omega (arith, has, ap (�
 number_same old new (commands.Set r i v) same has = omega (arith, has, ap (λ (s : GraphSeat). s.sets) same)
 number_same old new _ same has = tt
 
-pub ready_next : (old ready : SeatHeld) (command : Command) → MayMakeNext old command → MakesRoom old ready → 2 * need_of command + 4 ≤ ready.spare → IsReady (seat_state ready) command
-ready_next old ready command may room enough =
-    let same = (around_room old ready room).same in
+pub next_command_is_ready : (old ready : SeatHeld) (command : Command) → MayMakeNext old command → MakesRoom old ready → 2 * need_of command + 4 ≤ ready.spare → IsReady (seat_state ready) command
+next_command_is_ready old ready command may room enough =
+    let same = (looks_around_by_room old ready room).same in
     record {
-      present = same_present old ready same may.present;
+      present = is_present_still old ready same may.present;
       in_range = may.of_script.0;
       room = enough;
-      numbered = number_same old ready command (same_graph_seat old ready same) may.numbered;
+      numbered = number_same old ready command (own_graph_seat_stays old ready same) may.numbered;
     }
 
 -- one command more
-pub goes_more : (patience : ℕ) (old now new : SeatHeld) (script : List Command) (place : ℕ) (command other : Command) → place < length script → command ≡ slice_index_or script place other → GoesOn patience old now (take place script)
+pub goes_on_one_command : (patience : ℕ) (old now new : SeatHeld) (script : List Command) (place : ℕ) (command other : Command) → place < length script → command ≡ slice_index_or script place other → GoesOn patience old now (take place script)
     → GoesOn patience now new (command ∷ []) → GoesOn patience old new (take (place + 1) script)
-goes_more patience old now new script place command other within is one more =
+goes_on_one_command patience old now new script place command other within is one more =
     let further : take (place + 1) script ≡ take place script ++ command ∷ [] = take_more script place other within ∙ ap (λ (c : Command). take place script ++ c ∷ []) (sym is) in
     subst (GoesOn patience old new) (sym further) (goes_then patience old now new (take place script) (command ∷ []) one more)

@@ -22,9 +22,9 @@ use Rattle.heap_record.specs.LastCycle.{EndsWholeCycle}
 use Rattle.collector_turns.specs.Collector.{CollectorValue, state_of}
 use Rattle.collector_turns.specs.Turning.{TakesTurn, MakesRoom}
 use Rattle.heap_runs.specs.Finishing.{HasGone, HasLogs, EndsUnused, folded_in}
-use Rattle.heap_runs.proofs.Folding.{places_of, all_places, folded_then, folded_now}
-use Rattle.heap_runs.proofs.TurnsKeep.{KeepsFolded, turns_keep}
-use Rattle.heap_runs.proofs.Unused.{logs_are, ends_unused}
+use Rattle.heap_runs.proofs.Folding.{places_of, folded_seats_are_places, folding_keeps_collector, folded_phase_is_current}
+use Rattle.heap_runs.proofs.TurnsKeep.{KeepsFolded, turns_keep_folded}
+use Rattle.heap_runs.proofs.Unused.{known_logs_are_lists, history_ends_unused}
 
 -- each of these seats stands in its place
 placed : (seats : List SeatHeld) (n : ℕ) → n < length seats → (seat : Seat) × IsFolded (places_of seats) n seat
@@ -36,33 +36,33 @@ module _ (start folded last : CollectorHeld) (seats : List SeatHeld) (begun ende
     (numbers : map (λ held. held.number) seats ≡ range_with_len 0 start.heap.seats) (folds : folded ≡ record start { known = fold folded_in start.known seats })
     (begins : begun ≡ record { holder = folded; last_turn = None }) (cycle : EndsWholeCycle state_of MakesRoom TakesTurn begun ended) (last_is : last ≡ ended.holder) where
   kept : KeepsFolded begun ended
-  kept = turns_keep cycle.turns begun ended cycle.made
+  kept = turns_keep_folded cycle.turns begun ended cycle.made
 
   many : length seats ≡ start.heap.seats
   many = sym (length-map seats (λ (held : SeatHeld). held.number)) ∙ ap length numbers ∙ length-range_with_len 0 start.heap.seats
 
-  pub heap_is : last.heap ≡ start.heap
-  heap_is = ap (λ (h : CollectorHeld). h.heap) last_is ∙ kept.heap_stays ∙ ap (λ (v : CollectorValue). v.holder.heap) begins ∙ ap (λ (h : CollectorHeld). h.heap) folds
+  pub heap_stays_the_same : last.heap ≡ start.heap
+  heap_stays_the_same = ap (λ (h : CollectorHeld). h.heap) last_is ∙ kept.heap_stays ∙ ap (λ (v : CollectorValue). v.holder.heap) begins ∙ ap (λ (h : CollectorHeld). h.heap) folds
 
   known_begun : begun.holder.known ≡ fold folded_in start.known seats
   known_begun = ap (λ (v : CollectorValue). v.holder.known) begins ∙ ap (λ (h : CollectorHeld). h.known) folds
 
   seats_are : last.known.seats ≡ places_of seats
   seats_are = ap (λ (h : CollectorHeld). h.known.seats) last_is ∙ kept.seats_stay ∙ ap (λ (k : CollectorKnown). k.seats) known_begun
-      ∙ all_places seats start.known (numbers ∙ ap (range_with_len 0) (sym places))
+      ∙ folded_seats_are_places seats start.known (numbers ∙ ap (range_with_len 0) (sym places))
 
   -- every seat was folded in
-  pub all_folded : AllFolded last.heap last.known.seats
-  all_folded number below =
-      let there = placed seats number (omega (arith, below, many, ap (λ (h : Heap). h.seats) heap_is)) in
+  pub all_are_folded : AllFolded last.heap last.known.seats
+  all_are_folded number below =
+      let there = placed seats number (omega (arith, below, many, ap (λ (h : Heap). h.seats) heap_stays_the_same)) in
       (there.0, subst (λ l. IsFolded l number there.0) (sym seats_are) there.1)
 
   collector_begun : begun.holder.known.collector ≡ start.known.collector
-  collector_begun = ap (λ (k : CollectorKnown). k.collector) known_begun ∙ folded_then seats start.known
+  collector_begun = ap (λ (k : CollectorKnown). k.collector) known_begun ∙ folding_keeps_collector seats start.known
 
   folded_is : last.known.folded ≡ start.known.collector.phase
   folded_is = ap (λ (h : CollectorHeld). h.known.folded) last_is ∙ kept.folded_stays ∙ ap (λ (k : CollectorKnown). k.folded) known_begun
-      ∙ folded_now seats start.known (omega (arith, many, limits.some_seat))
+      ∙ folded_phase_is_current seats start.known (omega (arith, many, limits.some_seat))
 
   log_is : last.known.collector.log ≡ start.known.collector.log ++ (cycle.earlier ++ Ends cycle.cycle cycle.kept ∷ [])
   log_is = ap (λ (h : CollectorHeld). h.known.collector.log) last_is ∙ cycle.told
@@ -70,21 +70,21 @@ module _ (start folded last : CollectorHeld) (seats : List SeatHeld) (begun ende
 
   module _ (closed : ClosedTable) (logs : closed.logs ≡ logs_known last.known) where
     known_logs : closed.logs ≡ map (λ held. held.seat.mine) seats ++ (start.known.collector.log ++ (cycle.earlier ++ Ends cycle.cycle cycle.kept ∷ [])) ∷ []
-    known_logs = logs ∙ logs_are last.known seats seats_are ∙ ap (λ (l : List Entry). map (λ held. held.seat.mine) seats ++ l ∷ []) log_is
+    known_logs = logs ∙ known_logs_are_lists last.known seats seats_are ∙ ap (λ (l : List Entry). map (λ held. held.seat.mine) seats ++ l ∷ []) log_is
 
     -- the logs are the seats' and the collector's
-    pub has_logs : HasLogs seats start.known.collector.log closed
-    has_logs = record { turned = cycle.earlier ++ Ends cycle.cycle cycle.kept ∷ []; own = with_end cycle.earlier cycle.own; logs_are = known_logs }
+    pub has_logs_of_all : HasLogs seats start.known.collector.log closed
+    has_logs_of_all = record { turned = cycle.earlier ++ Ends cycle.cycle cycle.kept ∷ []; own = with_end cycle.earlier cycle.own; logs_are = known_logs }
       where
         with_end : (front : List Entry) → AllByRecursion (λ entry. is_of_heap entry ≡ true) front → AllByRecursion (λ entry. is_of_heap entry ≡ true) (front ++ Ends cycle.cycle cycle.kept ∷ [])
         with_end [] own = (refl, tt)
         with_end (entry ∷ front) own = (own.0, with_end front own.1)
 
     -- and nothing is in use
-    pub all_unused : EachLastCycleBalances → HasOneHistory closed → closed.heap ≡ last.heap → closed.folded ≡ last.known.folded → All (HasGone start.table start.heap) seats → EndsUnused closed
-    all_unused balances one heap_closed folded_closed gone =
-        let same : closed.heap ≡ start.heap = heap_closed ∙ heap_is in
-        ends_unused balances start.table closed seats (start.known.collector.log ++ cycle.earlier) cycle.cycle cycle.kept one
+    pub ends_unused_at_last : EachLastCycleBalances → HasOneHistory closed → closed.heap ≡ last.heap → closed.folded ≡ last.known.folded → All (HasGone start.table start.heap) seats → EndsUnused closed
+    ends_unused_at_last balances one heap_closed folded_closed gone =
+        let same : closed.heap ≡ start.heap = heap_closed ∙ heap_stays_the_same in
+        history_ends_unused balances start.table closed seats (start.known.collector.log ++ cycle.earlier) cycle.cycle cycle.kept one
         (known_logs ∙ ap (λ (l : List Entry). map (λ held. held.seat.mine) seats ++ l ∷ []) (sym (append_assoc start.known.collector.log cycle.earlier (Ends cycle.cycle cycle.kept ∷ []))))
         (numbers ∙ ap (λ (h : Heap). range_with_len 0 h.seats) (sym same))
         (recursion_from_All (HasGone start.table closed.heap) seats (subst (λ (h : Heap). All (HasGone start.table h) seats) (sym same) gone))

@@ -37,22 +37,22 @@ seats_from (held ∷ seats) known k numbers fits =
     ∙ ap (λ n. take k known.seats ++ (place ∷ (places_of seats ++ drop n known.seats))) (omega arith)
 
 -- all seats stand in all places
-pub all_places : (seats : List SeatHeld) (known : CollectorKnown) → map (λ held. held.number) seats ≡ range_with_len 0 (length known.seats) → (fold folded_in known seats).seats ≡ places_of seats
-all_places seats known numbers =
+pub folded_seats_are_places : (seats : List SeatHeld) (known : CollectorKnown) → map (λ held. held.number) seats ≡ range_with_len 0 (length known.seats) → (fold folded_in known seats).seats ≡ places_of seats
+folded_seats_are_places seats known numbers =
     let many : length seats ≡ length known.seats = sym (length-map seats (λ (held : SeatHeld). held.number)) ∙ ap length numbers ∙ length-range_with_len 0 (length known.seats) in
     let same : map (λ held. held.number) seats ≡ range_with_len 0 (length seats) = numbers ∙ ap (range_with_len 0) (sym many) in
     seats_from seats known 0 same (omega (arith, many)) ∙ ap (λ l. places_of seats ++ l) (drop_all (0 + length seats) known.seats (omega (arith, many))) ∙ append-nil (places_of seats)
 
 -- folding in changes nothing else but the phase of the last fold
-pub folded_then : (seats : List SeatHeld) (known : CollectorKnown) → (fold folded_in known seats).collector ≡ known.collector
-folded_then [] known = refl
-folded_then (held ∷ seats) known = folded_then seats (folded_in known held)
+pub folding_keeps_collector : (seats : List SeatHeld) (known : CollectorKnown) → (fold folded_in known seats).collector ≡ known.collector
+folding_keeps_collector [] known = refl
+folding_keeps_collector (held ∷ seats) known = folding_keeps_collector seats (folded_in known held)
 
 -- which is the phase that is on
-pub folded_now : (seats : List SeatHeld) (known : CollectorKnown) → 0 < length seats → (fold folded_in known seats).folded ≡ known.collector.phase
-folded_now [] known some = absurd (omega (arith, some))
-folded_now (held ∷ []) known some = refl
-folded_now (held ∷ (other ∷ seats)) known some = folded_now (other ∷ seats) (folded_in known held) (omega arith)
+pub folded_phase_is_current : (seats : List SeatHeld) (known : CollectorKnown) → 0 < length seats → (fold folded_in known seats).folded ≡ known.collector.phase
+folded_phase_is_current [] known some = absurd (omega (arith, some))
+folded_phase_is_current (held ∷ []) known some = refl
+folded_phase_is_current (held ∷ (other ∷ seats)) known some = folded_phase_is_current (other ∷ seats) (folded_in known held) (omega arith)
 
 -- so far some seats were folded in, and these are left
 pub record IsFolding (old : CollectorHeld) (all : List SeatHeld) (now : CollectorHeld) (rest : List SeatHeld) : Type 0 where
@@ -62,9 +62,9 @@ pub record IsFolding (old : CollectorHeld) (all : List SeatHeld) (now : Collecto
   pub heap_stays : now.heap ≡ old.heap
 
 -- one more was
-pub folding_next : (old : CollectorHeld) (all : List SeatHeld) (now new : CollectorHeld) (held : SeatHeld) (left rest : List SeatHeld) → IsFolding old all now left → left ≡ held ∷ rest
+pub is_folding_after_next : (old : CollectorHeld) (all : List SeatHeld) (now new : CollectorHeld) (held : SeatHeld) (left rest : List SeatHeld) → IsFolding old all now left → left ≡ held ∷ rest
     → new ≡ record now { known = folded_in now.known held } → IsFolding old all new rest
-folding_next old all now new held left rest is first new_is = subst (λ n. IsFolding old all n rest) (sym new_is) (record {
+is_folding_after_next old all now new held left rest is first new_is = subst (λ n. IsFolding old all n rest) (sym new_is) (record {
   leads = ap (λ (l : List SeatHeld). record now { known = fold folded_in now.known l }) (sym first) ∙ is.leads;
   gone = All-rest (HasGone old.table old.heap) held rest left first is.gone;
   table_stays = is.table_stays;

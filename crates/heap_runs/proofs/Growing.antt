@@ -51,8 +51,8 @@ module _ (told : List Entry) (plain : AllByRecursion IsPlainEntry told) where
   none_granted : words_granted told ≡ 0
   none_granted = none_summed (λ e. (effect_of e).words) (λ n c p. refl) (λ c r. refl) told plain
 
-  pub none_begun : phase told ≡ 0
-  none_begun = none_summed (λ e. (effect_of e).phases) (λ n c p. refl) (λ c r. refl) told plain
+  pub no_phase_has_begun : phase told ≡ 0
+  no_phase_has_begun = none_summed (λ e. (effect_of e).phases) (λ n c p. refl) (λ c r. refl) told plain
 
   none_taken : (number : ℕ) → taken_of number told ≡ 0
   none_taken number = none_summed (λ e. cond (is_of number e) (effect_of e).taken 0) (λ n c p. either (is_of number (Said n c Done)) 0 refl) (λ c r. refl) told plain
@@ -64,8 +64,8 @@ module _ (told : List Entry) (plain : AllByRecursion IsPlainEntry told) where
     none_summed (λ e. cond (is_of number e) (effect_of e).born 0) (λ n c p. either (is_of number (Said n c Done)) (made_by c Done) (none_made c p)) (λ c r. refl) told plain,
   )
 
-pub growing_played : (heap : Heap) (told : List Entry) (graph : Graph) → IsGrowing heap told graph → IsPlayed heap told
-growing_played heap told graph growing = record { legal = growing.legal; none_short = omega (arith, none_lost told growing.plain); words_fit = omega (arith, none_granted told growing.plain) }
+pub growing_is_played : (heap : Heap) (told : List Entry) (graph : Graph) → IsGrowing heap told graph → IsPlayed heap told
+growing_is_played heap told graph growing = record { legal = growing.legal; none_short = omega (arith, none_lost told growing.plain); words_fit = omega (arith, none_granted told growing.plain) }
 
 keeps_plain : (heap : Heap) (told : List Entry) (number : ℕ) (command : Command) → AllByRecursion IsPlainEntry told → is_plain command ≡ true → KeepsSpace heap true told (Said number command Done)
 keeps_plain heap told number (commands.Num d n) all plain =
@@ -83,9 +83,9 @@ plain_more [] entry plain more = (more, tt)
 plain_more (first ∷ told) entry plain more = (plain.0, plain_more told entry plain.1 more)
 
 -- it goes on with one more plain command
-pub growing_more : (heap : Heap) (told : List Entry) (graph now : Graph) (number : ℕ) (command : Command) → IsGrowing heap told graph → is_plain command ≡ true → Accepts graph (Said number command Done)
+pub is_growing_after_command : (heap : Heap) (told : List Entry) (graph now : Graph) (number : ℕ) (command : Command) → IsGrowing heap told graph → is_plain command ≡ true → Accepts graph (Said number command Done)
     → now ≡ after_entry graph (Said number command Done) → IsGrowing heap (told ++ Said number command Done ∷ []) now
-growing_more heap told graph now number command growing plain accepts grown =
+is_growing_after_command heap told graph now number command growing plain accepts grown =
     let entry = Said number command Done in
     record {
       grown = grown ∙ ap (λ g. after_entry g entry) growing.grown ∙ sym (graph_after-more (opening heap) told entry);
@@ -97,8 +97,8 @@ growing_more heap told graph now number command growing plain accepts grown =
     }
 
 -- it goes on with an answer to a command of the collector that shows what is so
-pub growing_turned : (heap : Heap) (told : List Entry) (graph : Graph) (command : TurnCommand) (reply : TurnReply) → IsGrowing heap told graph → TurnShows heap told reply → IsGrowing heap (told ++ Turned command reply ∷ []) graph
-growing_turned heap told graph command reply growing shows =
+pub is_growing_after_turned : (heap : Heap) (told : List Entry) (graph : Graph) (command : TurnCommand) (reply : TurnReply) → IsGrowing heap told graph → TurnShows heap told reply → IsGrowing heap (told ++ Turned command reply ∷ []) graph
+is_growing_after_turned heap told graph command reply growing shows =
     let entry = Turned command reply in
     record {
       grown = growing.grown ∙ sym (graph_after-more (opening heap) told entry);
@@ -125,9 +125,9 @@ no_array : (command : Command) → is_plain command ≡ true → IsArrayCall com
 no_array (commands.Array d cells) plain is = cc plain
 no_array _ plain is = absurd is
 
-pub growing_answers : (old new : PlayState) (number : ℕ) (command : Command) → AllByRecursion IsPlainEntry old.entries → is_plain command ≡ true → new.heap ≡ old.heap
+pub growing_answers_once : (old new : PlayState) (number : ℕ) (command : Command) → AllByRecursion IsPlainEntry old.entries → is_plain command ≡ true → new.heap ≡ old.heap
     → new.entries ≡ old.entries ++ Said number command Done ∷ [] → new.spare ≡ old.spare → new.turns ≡ old.turns → new.last_turn ≡ old.last_turn → AnswersOnce old new number command Done
-growing_answers old new number command all plain heap entries spare turns last = record {
+growing_answers_once old new number command all plain heap entries spare turns last = record {
   adds = record {
     heap = heap;
     number = refl;

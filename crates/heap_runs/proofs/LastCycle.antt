@@ -15,13 +15,13 @@ use Rattle.heap_model.specs.declared.heap.Heap.{Heap}
 use Rattle.heap_model.specs.account.PhaseCounts.{phase, has_left}
 use Rattle.heap_model.specs.account.Windows.{begins_cycle}
 use Rattle.heap_model.specs.calls.CollectorCalls.{StepsTo}
-use Rattle.heap_model.proofs.account_lemmas.Windows.{any-more}
-use Rattle.core_rule.proofs.parties.LeftStill.{left_still}
+use Rattle.heap_model.proofs.account_lemmas.Windows.{any_with_entry_more}
+use Rattle.core_rule.proofs.parties.LeftStill.{left_stays_left}
 use Rattle.heap_runs.specs.Play.{tells_step, AreSteps, ReachesCycleEnd}
 use Rattle.heap_runs.specs.PlayHeap.{PlayState, TakesTurn}
 use Rattle.heap_runs.specs.Playing.{AllHaveLeft, NotesCycle, NotesLastCycle}
 use Rattle.heap_runs.specs.Turning.{IsStep, TakesTurns, HasComeTo, ServesCycle}
-use Rattle.heap_runs.proofs.TurnFacts.{added_is, none_is, came_add}
+use Rattle.heap_runs.proofs.TurnFacts.{turn_adds_just_more, turn_adds_nothing, adds_turns_that_came}
 
 steps_more : (told : List Entry) (entry : Entry) → AreSteps told → tells_step entry ≡ true → AreSteps (told ++ entry ∷ [])
 steps_more [] entry own more = (more, tt)
@@ -74,7 +74,7 @@ pub record MadeSteps (old new : PlayState) : Type 0 where
 step_more : (old now new : PlayState) → MadeSteps old now → TakesTurn now new turns.Stepped → MadeSteps old new
 step_more old now new made takes = elim takes.turned.comes_to [
   | inl none ↦ (
-      let same : new.entries ≡ now.entries = takes.entries ∙ ap (λ es. now.entries ++ es) (none_is now new turns.Stepped takes none.0) ∙ append-nil now.entries in
+      let same : new.entries ≡ now.entries = takes.entries ∙ ap (λ es. now.entries ++ es) (turn_adds_nothing now new turns.Stepped takes none.0) ∙ append-nil now.entries in
       record {
         same_heap = takes.heap ∙ made.same_heap;
         steps = made.steps;
@@ -83,27 +83,27 @@ step_more old now new made takes = elim takes.turned.comes_to [
         begins = subst (λ p. Begins (phase old.entries) p (list_any begins_cycle made.steps)) (sym none.1) made.begins;
       })
   | inr some ↦ (
-      let is : takes.added ≡ some.0 ∷ [] = added_is now new turns.Stepped takes (some.0 ∷ []) some.2 in
+      let is : takes.added ≡ some.0 ∷ [] = turn_adds_just_more now new turns.Stepped takes (some.0 ∷ []) some.2 in
       record {
         same_heap = takes.heap ∙ made.same_heap;
         steps = made.steps ++ some.0 ∷ [];
         told = takes.entries ∙ ap (λ es. now.entries ++ es) is ∙ ap (λ es. es ++ some.0 ∷ []) made.told ∙ append_assoc old.entries made.steps (some.0 ∷ []);
         own = steps_more made.steps some.0 made.own (step_told _ _ some.0 some.1);
-        begins = rw (any-more begins_cycle made.steps some.0) (begins_step (phase old.entries) (phase now.entries) (phase new.entries) (list_any begins_cycle made.steps) some.0 some.1 made.begins);
+        begins = rw (any_with_entry_more begins_cycle made.steps some.0) (begins_step (phase old.entries) (phase now.entries) (phase new.entries) (list_any begins_cycle made.steps) some.0 some.1 made.begins);
       })
 ]
 
-pub steps_made : (n : ℕ) (old new : PlayState) → TakesTurns IsStep n old new → MadeSteps old new
-steps_made zero old new same = rw same (record { same_heap = refl; steps = []; told = sym (append-nil old.entries); own = tt; begins = begins_none (phase old.entries) })
-steps_made (suc n) old new taken = step_more old taken.0 new (steps_made n old taken.0 taken.2) (subst (λ (turn : Turn). TakesTurn taken.0 new turn) taken.4 taken.3)
+pub steps_are_made : (n : ℕ) (old new : PlayState) → TakesTurns IsStep n old new → MadeSteps old new
+steps_are_made zero old new same = rw same (record { same_heap = refl; steps = []; told = sym (append-nil old.entries); own = tt; begins = begins_none (phase old.entries) })
+steps_are_made (suc n) old new taken = step_more old taken.0 new (steps_are_made n old taken.0 taken.2) (subst (λ (turn : Turn). TakesTurn taken.0 new turn) taken.4 taken.3)
 
 -- turns up to the end of a cycle are those of one
 pub comes_to_end : (old new : PlayState) (cycle kept : ℕ) (reply : TurnReply) → HasComeTo IsStep old new (turns.Ended cycle kept) reply → NotesCycle old new
 comes_to_end old new cycle kept reply came =
-    let made = steps_made came.earlier old came.now came.turned.taken in
+    let made = steps_are_made came.earlier old came.now came.turned.taken in
     let takes = came.takes in
     let comes = takes.turned.comes_to in
-    let is : takes.added ≡ entries.Ends cycle kept ∷ [] = added_is came.now new (turns.Ended cycle kept) takes (entries.Ends cycle kept ∷ []) comes.0 in
+    let is : takes.added ≡ entries.Ends cycle kept ∷ [] = turn_adds_just_more came.now new (turns.Ended cycle kept) takes (entries.Ends cycle kept ∷ []) comes.0 in
     record {
       same_heap = takes.heap ∙ made.same_heap;
       turned = made.steps ++ entries.Ends cycle kept ∷ [];
@@ -117,21 +117,21 @@ comes_to_end old new cycle kept reply came =
     begun first now some (inr there) last = there.1
 
 -- once every seat has left no turn waits, so the cycle ends
-pub unhindered : (old new : PlayState) (reply : TurnReply) → AllHaveLeft old → ServesCycle old new reply → NotesCycle old new
-unhindered old new replies.Done gone serves = absurd serves
-unhindered old new (replies.Cycle cycle) gone serves = comes_to_end old new cycle serves.0 (replies.Cycle cycle) serves.1
-unhindered old new (replies.Waits number answer p) gone serves =
-    let adds = came_add IsStep old new _ _ serves in
-    let left : has_left number new.entries ≡ true = ap (has_left number) adds.told ∙ left_still number old.entries adds.added (gone number (subst (λ (h : Heap). number < h.seats) adds.same_heap serves.shows.0)) in
+pub notes_cycle_unhindered : (old new : PlayState) (reply : TurnReply) → AllHaveLeft old → ServesCycle old new reply → NotesCycle old new
+notes_cycle_unhindered old new replies.Done gone serves = absurd serves
+notes_cycle_unhindered old new (replies.Cycle cycle) gone serves = comes_to_end old new cycle serves.0 (replies.Cycle cycle) serves.1
+notes_cycle_unhindered old new (replies.Waits number answer p) gone serves =
+    let adds = adds_turns_that_came IsStep old new _ _ serves in
+    let left : has_left number new.entries ≡ true = ap (has_left number) adds.told ∙ left_stays_left number old.entries adds.added (gone number (subst (λ (h : Heap). number < h.seats) adds.same_heap serves.shows.0)) in
     absurd cc (left, serves.shows.2.present)
 
 -- so it stays after turns
-pub gone_still : (old new : PlayState) (added : List Entry) → new.heap ≡ old.heap → new.entries ≡ old.entries ++ added → AllHaveLeft old → AllHaveLeft new
-gone_still old new added same told gone number under = ap (has_left number) told ∙ left_still number old.entries added (gone number (subst (λ (h : Heap). number < h.seats) same under))
+pub all_stay_left : (old new : PlayState) (added : List Entry) → new.heap ≡ old.heap → new.entries ≡ old.entries ++ added → AllHaveLeft old → AllHaveLeft new
+all_stay_left old new added same told gone number under = ap (has_left number) told ∙ left_stays_left number old.entries added (gone number (subst (λ (h : Heap). number < h.seats) same under))
 
 -- where no cycle is under way, the next one is the last
-pub last_at_rest : (old new : PlayState) → phase old.entries % cycle_phases ≡ rest → NotesCycle old new → NotesLastCycle old new
-last_at_rest old new at_rest notes = record {
+pub last_cycle_from_rest : (old new : PlayState) → phase old.entries % cycle_phases ≡ rest → NotesCycle old new → NotesLastCycle old new
+last_cycle_from_rest old new at_rest notes = record {
   same_heap = notes.same_heap;
   turned = notes.turned;
   told = notes.told;
@@ -139,8 +139,8 @@ last_at_rest old new at_rest notes = record {
 }
 
 -- where one is, it ends first
-pub last_behind : (old now new : PlayState) → phase old.entries % cycle_phases ≢ rest → NotesCycle old now → NotesCycle now new → NotesLastCycle old new
-last_behind old now new past first then_ = record {
+pub last_cycle_behind_current : (old now new : PlayState) → phase old.entries % cycle_phases ≢ rest → NotesCycle old now → NotesCycle now new → NotesLastCycle old new
+last_cycle_behind_current old now new past first then_ = record {
   same_heap = then_.same_heap ∙ first.same_heap;
   turned = first.turned ++ then_.turned;
   told = then_.told ∙ ap (λ es. es ++ then_.turned) first.told ∙ append_assoc old.entries first.turned then_.turned;

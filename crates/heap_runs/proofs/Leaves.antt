@@ -15,10 +15,10 @@ use Rattle.heap_model.specs.declared.reply.Reply.{Reply}
 use Rattle.heap_model.specs.account.PhaseCounts.{has_left, is_leave_of}
 use Rattle.heap_model.specs.calls.SeatCalls.{leave_entries, last_gives}
 use Rattle.heap_model.specs.calls.SeatLaws.{EachCallCounts, EachCallSparesOthers}
-use Rattle.core_rule.proofs.parties.LeftStill.{left_still}
+use Rattle.core_rule.proofs.parties.LeftStill.{left_stays_left}
 use Rattle.heap_runs.specs.PlayHeap.{PlayState}
 use Rattle.heap_runs.specs.Playing.{NotesCall, IsPlaying, HaveLeft}
-use Rattle.heap_runs.proofs.Answering.{still_there}
+use Rattle.heap_runs.proofs.Answering.{seat_is_still_there}
 
 -- one number more
 range_more : (n : ℕ) → range_with_len 0 (n + 1) ≡ range_with_len 0 n ++ n ∷ []
@@ -46,12 +46,12 @@ gone_then number n told before reply after is gone under = elim (eqb_tells numbe
       let said : has_left number (Said n Leave reply ∷ []) ≡ true = or_left (n == number) false (eq-eqb n number (sym same.1)) in
       let behind : has_left number (before ++ Said n Leave reply ∷ []) ≡ true = list_any-append (is_leave_of number) before (Said n Leave reply ∷ []) ∙ or_right _ _ said in
       ap (has_left number) is ∙ list_any-append (is_leave_of number) told (before ++ Said n Leave reply ∷ []) ∙ or_right _ _ behind)
-  | inr apart ↦ ap (has_left number) is ∙ left_still number told (before ++ Said n Leave reply ∷ []) (gone (omega (arith, under, apart.1)))
+  | inr apart ↦ ap (has_left number) is ∙ left_stays_left number told (before ++ Said n Leave reply ∷ []) (gone (omega (arith, under, apart.1)))
 ]
 
 -- the next seat leaves
-pub left_more : EachCallCounts → EachCallSparesOthers → (heap : Heap) (start now new : PlayState) (n : ℕ) → HaveLeft heap start now n → NotesCall now new n Leave → HaveLeft heap start new (n + 1)
-left_more counts others heap start now new n left notes =
+pub have_left_one_more : EachCallCounts → EachCallSparesOthers → (heap : Heap) (start now new : PlayState) (n : ℕ) → HaveLeft heap start now n → NotesCall now new n Leave → HaveLeft heap start new (n + 1)
+have_left_one_more counts others heap start now new n left notes =
     let once = notes.answers.once (λ e. cc e) in
     let adds = once.adds in
     let more = λ (k : ℕ). if k == n then adds.unborn else left.left k in
@@ -64,7 +64,7 @@ left_more counts others heap start now new n left notes =
     let added : notes.added ≡ adds.before ++ Said n Leave notes.reply ∷ [] = append_cancel_left now.entries notes.added _ (sym notes.told ∙ adds.entries) in
     record {
       of_heap = adds.heap ∙ left.of_heap;
-      others = λ number past below. still_there counts others heap now new n Leave notes number (λ same. absurd (omega (arith, same, past))) (left.others number (omega (arith, past)) below);
+      others = λ number past below. seat_is_still_there counts others heap now new n Leave notes number (λ same. absurd (omega (arith, same, past))) (left.others number (omega (arith, past)) below);
       gone = λ number under. gone_more number under;
       left = more;
       leaves = notes.told ∙ ap (λ (l : List Entry). now.entries ++ l) (added ∙ said) ∙ ap (λ (l : List Entry). l ++ leaves n) left.leaves
@@ -75,6 +75,6 @@ left_more counts others heap start now new n left notes =
     gone_more number under = gone_then number n now.entries (notes.answers.once (λ e. cc e)).adds.before notes.reply new.entries (notes.answers.once (λ e. cc e)).adds.entries (left.gone number) under
 
 -- no seat has left yet
-pub left_none : (heap : Heap) (state : PlayState) (calls : ℕ) → IsPlaying heap state calls → HaveLeft heap state state 0
-left_none heap state calls plays =
+pub have_left_none : (heap : Heap) (state : PlayState) (calls : ℕ) → IsPlaying heap state calls → HaveLeft heap state state 0
+have_left_none heap state calls plays =
     record { of_heap = plays.of_heap; others = λ number past below. plays.present number below; gone = λ number under. absurd (omega (arith, under)); left = λ number. 0; leaves = sym (append-nil state.entries) }

@@ -10,13 +10,13 @@ use Rattle.heap_runs.specs.Play.{StandsForLine, StandForLines}
 use Rattle.heap_runs.specs.PlayHeap.{PlayState}
 use Rattle.heap_runs.specs.Playing.{NotesLine, NotesLines, NotesSeatLine, NotesTurns}
 use Rattle.heap_record.specs.Recorded.{claimed_by}
-use Rattle.heap_runs.proofs.Serving.{serves_adds, serves_told}
-use Rattle.heap_runs.proofs.Slacking.{pace_adds}
+use Rattle.heap_runs.proofs.Serving.{served_turns_add, served_turns_are_told}
+use Rattle.heap_runs.proofs.Slacking.{pace_adds_slack}
 use Rattle.heap_runs.proofs.Told.{tells_call}
 
 -- no line is answered yet
-pub no_lines : (paced : Bool) (history : List Entry) → history ≡ [] → StandForLines paced [] [] history
-no_lines paced history none = none
+pub no_lines_stand : (paced : Bool) (history : List Entry) → history ≡ [] → StandForLines paced [] [] history
+no_lines_stand paced history none = none
 
 -- one line more is answered
 pub lines_more : (paced : Bool) (earlier : List Entry) (read : List Line) (line : Line) (told next : List Entry) → StandForLines paced earlier read told → StandsForLine paced (earlier ++ told) line next
@@ -44,16 +44,16 @@ pub record AddsLine (paced : Bool) (old new : PlayState) (line : Line) : Type 0 
   pub noted : new.entries ≡ old.entries ++ next
 
 -- so one line more is answered
-pub lines_then : (paced : Bool) (read : List Line) (line : Line) (old new : PlayState) → StandForLines paced [] read old.entries → AddsLine paced old new line → StandForLines paced [] (read ++ line ∷ []) new.entries
-lines_then paced read line old new stand adds =
+pub stand_for_one_more_line : (paced : Bool) (read : List Line) (line : Line) (old new : PlayState) → StandForLines paced [] read old.entries → AddsLine paced old new line → StandForLines paced [] (read ++ line ∷ []) new.entries
+stand_for_one_more_line paced read line old new stand adds =
     subst (StandForLines paced [] (read ++ line ∷ [])) (sym adds.noted) (lines_more paced [] read line old.entries adds.next stand adds.stands)
 
 -- a seat's line
-pub call_stands : (asks : Option (ℕ → ℕ)) (paced : Bool) (old new : PlayState) (number : ℕ) (command : Command) → is_some asks ≡ paced → NotesSeatLine asks old new number command
+pub call_adds_its_line : (asks : Option (ℕ → ℕ)) (paced : Bool) (old new : PlayState) (number : ℕ) (command : Command) → is_some asks ≡ paced → NotesSeatLine asks old new number command
     → AddsLine paced old new (lines.Seat number command)
-call_stands asks paced old new number command is notes =
+call_adds_its_line asks paced old new number command is notes =
     let call = notes.call in
-    let slack = pace_adds asks (claimed_by call.added) notes.now new notes.slack in
+    let slack = pace_adds_slack asks (claimed_by call.added) notes.now new notes.slack in
     let tells = tells_call old notes.now number command call.reply call.answers in
     let more : List Entry = tells.before ++ entries.Said number command call.reply ∷ [] in
     record {
@@ -71,17 +71,17 @@ call_stands asks paced old new number command is notes =
     }
 
 -- a line for the collector
-pub turns_stand : (paced : Bool) (old new : PlayState) (command : TurnCommand) → NotesTurns old new command → AddsLine paced old new (lines.Turns command)
-turns_stand paced old new command notes =
-    let adds = serves_adds old notes.now command notes.reply notes.serves in
+pub turns_add_their_line : (paced : Bool) (old new : PlayState) (command : TurnCommand) → NotesTurns old new command → AddsLine paced old new (lines.Turns command)
+turns_add_their_line paced old new command notes =
+    let adds = served_turns_add old notes.now command notes.reply notes.serves in
     let turned : List Entry = entries.Turned command notes.reply ∷ [] in
     record {
       next = adds.added ++ turned;
-      stands = record { before = adds.added; reply = notes.reply; tells = serves_told old notes.now adds.added adds.told command notes.reply notes.serves; all = refl };
+      stands = record { before = adds.added; reply = notes.reply; tells = served_turns_are_told old notes.now adds.added adds.told command notes.reply notes.serves; all = refl };
       noted = ap (λ (s : PlayState). s.entries) notes.noted ∙ ap (λ (es : List Entry). es ++ turned) adds.told ∙ append_assoc old.entries adds.added turned;
     }
 
 -- one line more is noted
-pub notes_more : (paced : Bool) (read : List Line) (line : Line) (old now new : PlayState) → NotesLines paced read old now → NotesLine paced now new line → NotesLines paced (read ++ line ∷ []) old new
-notes_more paced [] line old now new none notes = (new, subst (λ (s : PlayState). NotesLine paced s new line) none notes, refl)
-notes_more paced (first ∷ read) line old now new noted notes = (noted.0, noted.1, notes_more paced read line noted.0 now new noted.2 notes)
+pub notes_one_more_line : (paced : Bool) (read : List Line) (line : Line) (old now new : PlayState) → NotesLines paced read old now → NotesLine paced now new line → NotesLines paced (read ++ line ∷ []) old new
+notes_one_more_line paced [] line old now new none notes = (new, subst (λ (s : PlayState). NotesLine paced s new line) none notes, refl)
+notes_one_more_line paced (first ∷ read) line old now new noted notes = (noted.0, noted.1, notes_one_more_line paced read line noted.0 now new noted.2 notes)

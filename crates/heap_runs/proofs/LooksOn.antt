@@ -40,12 +40,12 @@ inners_then [] later old now new one more = room_before later old now new one mo
 inners_then (inner ∷ calls) later old now new one more = (one.0, one.1, one.2, one.3, inners_then calls later one.1 now new one.4 more)
 
 -- one inner call, once there was room
-pub inner_alone : (old ready new : SeatHeld) (inner : Inner) → MakesRoom old ready → MakesInner ready new inner → MakesInners (inner ∷ []) old new
-inner_alone old ready new inner room makes = (ready, new, room, makes, refl)
+pub makes_one_inner : (old ready new : SeatHeld) (inner : Inner) → MakesRoom old ready → MakesInner ready new inner → MakesInners (inner ∷ []) old new
+makes_one_inner old ready new inner room makes = (ready, new, room, makes, refl)
 
 -- the seat stays the same
-pub same_then : (old now new : SeatHeld) → IsSameSeat old now → IsSameSeat now new → IsSameSeat old new
-same_then old now new one more = record {
+pub same_seat_in_turn : (old now new : SeatHeld) → IsSameSeat old now → IsSameSeat now new → IsSameSeat old new
+same_seat_in_turn old now new one more = record {
   table_stays = more.table_stays ∙ one.table_stays;
   heap_stays = more.heap_stays ∙ one.heap_stays;
   number_stays = more.number_stays ∙ one.number_stays;
@@ -60,8 +60,8 @@ same_room old new room = record {
   graph_stays = ap (λ (h : SeatHeld). own_graph (seat_state h)) room;
 }
 
-pub same_inner : (old new : SeatHeld) (inner : Inner) → MakesInner old new inner → IsSameSeat old new
-same_inner old new inner makes = record {
+pub same_seat_after_inner : (old new : SeatHeld) (inner : Inner) → MakesInner old new inner → IsSameSeat old new
+same_seat_after_inner old new inner makes = record {
   table_stays = makes.makes.table_stays;
   heap_stays = makes.makes.heap_stays;
   number_stays = makes.makes.number_stays;
@@ -69,13 +69,13 @@ same_inner old new inner makes = record {
 }
 
 -- and so does what its own entries tell of it
-pub same_graph_seat : (old new : SeatHeld) → IsSameSeat old new → own_graph_seat (seat_state new) ≡ own_graph_seat (seat_state old)
-same_graph_seat old new same =
+pub own_graph_seat_stays : (old new : SeatHeld) → IsSameSeat old new → own_graph_seat (seat_state new) ≡ own_graph_seat (seat_state old)
+own_graph_seat_stays old new same =
     ap (λ (g : Graph). graph_seat g new.number) same.graph_stays ∙ ap (λ (n : ℕ). graph_seat (own_graph (seat_state old)) n) same.number_stays
 
 -- a seat that is there stays there
-pub same_present : (old new : SeatHeld) → IsSameSeat old new → IsPresent old → IsPresent new
-same_present old new same present = ap (λ (s : GraphSeat). s.left) (same_graph_seat old new same) ∙ present
+pub is_present_still : (old new : SeatHeld) → IsSameSeat old new → IsPresent old → IsPresent new
+is_present_still old new same present = ap (λ (s : GraphSeat). s.left) (own_graph_seat_stays old new same) ∙ present
 
 -- others are found behind no less often
 one_more_on : (b : Bool) (n : ℕ) → n ≤ (if b then n + 1 else n)
@@ -106,8 +106,8 @@ answers_alone tells number before kept told (inners.Behind other) quiet over = s
 answers_alone tells number before kept told (inners.Note reply) quiet over = absurd quiet
 
 -- the seat has looked around by making room
-pub around_room : (old new : SeatHeld) → MakesRoom old new → LooksAround old new
-around_room old new room = record {
+pub looks_around_by_room : (old new : SeatHeld) → MakesRoom old new → LooksAround old new
+looks_around_by_room old new room = record {
   calls = [];
   quiet = tt;
   made = room;
@@ -123,8 +123,8 @@ pub around_inner : (old new : SeatHeld) (inner : Inner) → IsQuiet inner → Ma
 around_inner old new inner quiet makes = record {
   calls = inner ∷ [];
   quiet = (quiet, tt);
-  made = inner_alone old old new inner refl makes;
-  same = same_inner old new inner makes;
+  made = makes_one_inner old old new inner refl makes;
+  same = same_seat_after_inner old new inner makes;
   answers = makes.told;
   own = answers_alone (FoundIn makes.made) old.number (kept_of old.seat) (kept_of new.seat) makes.told inner quiet makes.comes;
   mine = makes.mine;
@@ -132,12 +132,12 @@ around_inner old new inner quiet makes = record {
 }
 
 -- and by one after the other
-pub around_then : (old now new : SeatHeld) → LooksAround old now → LooksAround now new → LooksAround old new
-around_then old now new one more = record {
+pub looks_around_in_turn : (old now new : SeatHeld) → LooksAround old now → LooksAround now new → LooksAround old new
+looks_around_in_turn old now new one more = record {
   calls = one.calls ++ more.calls;
   quiet = all_then IsQuiet one.calls more.calls one.quiet more.quiet;
   made = inners_then one.calls more.calls old now new one.made more.made;
-  same = same_then old now new one.same more.same;
+  same = same_seat_in_turn old now new one.same more.same;
   answers = one.answers ++ more.answers;
   own = all_then (IsAnswerOf old.number) one.answers more.answers one.own (subst (λ (n : ℕ). AllByRecursion (IsAnswerOf n) more.answers) one.same.number_stays more.own);
   mine = more.mine ∙ ap (λ (l : List Entry). l ++ more.answers) one.mine ∙ append_assoc old.seat.mine one.answers more.answers;
@@ -145,14 +145,14 @@ around_then old now new one more = record {
 }
 
 -- by an inner call, once there was room
-pub around_call : (old ready new : SeatHeld) (inner : Inner) → IsQuiet inner → MakesRoom old ready → MakesInner ready new inner → LooksAround old new
-around_call old ready new inner quiet room makes = around_then old ready new (around_room old ready room) (around_inner ready new inner quiet makes)
+pub looks_around_by_inner : (old ready new : SeatHeld) (inner : Inner) → IsQuiet inner → MakesRoom old ready → MakesInner ready new inner → LooksAround old new
+looks_around_by_inner old ready new inner quiet room makes = looks_around_in_turn old ready new (looks_around_by_room old ready room) (around_inner ready new inner quiet makes)
 
 -- none is as before
-pub around_none : (held : SeatHeld) → LooksAround held held
-around_none held = around_room held held refl
+pub looks_around_by_nothing : (held : SeatHeld) → LooksAround held held
+looks_around_by_nothing held = looks_around_by_room held held refl
 
 -- what is so is so where a call fails
-pub on_err : {A E : Type 0} (P : Type 0) (result : Result A E) → P → OnErr result P
-on_err P (Ok value) holds = tt
-on_err P (Err error) holds = holds
+pub on_err_holds : {A E : Type 0} (P : Type 0) (result : Result A E) → P → OnErr result P
+on_err_holds P (Ok value) holds = tt
+on_err_holds P (Err error) holds = holds

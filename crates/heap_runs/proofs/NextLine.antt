@@ -44,8 +44,8 @@ numbers_left state number calls _ short few = tt
 
 module _ (script : Script) (items : List Line) (i : ℕ) (d line : Line) (all : items ≡ script.lines) (form : IsOfForm Play script) (below : i < length items) (is : get_or items i d ≡ line) where
   -- the lines with the next one
-  pub read_more : take (i + 1) items ≡ take i items ++ line ∷ []
-  read_more =
+  pub taken_lines_with_next : take (i + 1) items ≡ take i items ++ line ∷ []
+  taken_lines_with_next =
       let one : i + 1 ≡ suc i = omega arith in
       ap (λ (n : ℕ). take n items) one ∙ take-suc items i d below ∙ ap (λ (l : Line). take i items ++ l ∷ []) is
 
@@ -63,9 +63,9 @@ pub record IsNextCall (script : Script) (state : PlayState) (number : ℕ) (comm
   pub may : MayCall state number command
   pub stays : command ≢ commands.Leave
 
-pub next_call : (script : Script) (items : List Line) (i : ℕ) (d : Line) (number : ℕ) (command : Command) (state : PlayState) → items ≡ script.lines → IsOfForm Play script
+pub is_next_call : (script : Script) (items : List Line) (i : ℕ) (d : Line) (number : ℕ) (command : Command) (state : PlayState) → items ≡ script.lines → IsOfForm Play script
     → i < length items → get_or items i d ≡ lines.Seat number command → IsPlaying script.heap state i → IsNextCall script state number command
-next_call script items i d number command state all form below is plays =
+is_next_call script items i d number command state all form below is plays =
     let line = line_of_form script items i d (lines.Seat number command) all form below is in
     let short : i ≤ 65536 = omega (arith, form.short, below, ap (length {A = Line}) all) in
     record {
@@ -79,5 +79,5 @@ next_call script items i d number command state all form below is plays =
     }
 
 -- the next seat may leave
-pub may_leave : (state : PlayState) (number : ℕ) → number < state.heap.seats → IsThere state number → MayCall state number commands.Leave
-may_leave state number below there = record { within = below; present = there; in_range = tt; numbered = tt }
+pub next_seat_may_leave : (state : PlayState) (number : ℕ) → number < state.heap.seats → IsThere state number → MayCall state number commands.Leave
+next_seat_may_leave state number below there = record { within = below; present = there; in_range = tt; numbered = tt }

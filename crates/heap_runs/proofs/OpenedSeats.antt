@@ -60,26 +60,26 @@ ready_opened table heap scripts held opened within seated short =
 
 module _ (heap : Heap) (scripts : List (List Command)) (made : CollectorHeld) (holders : List SeatHeld) (heap_is : made.heap ≡ heap)
     (numbers : map (λ held. held.number) holders ≡ range_with_len 0 heap.seats) (opened : All (IsOpened made.table heap) holders) where
-  pub many_seats : length holders ≡ heap.seats
-  many_seats = sym (length-map holders (λ (held : SeatHeld). held.number)) ∙ ap length numbers ∙ length-range_with_len 0 heap.seats
+  pub holders_are_all_seats : length holders ≡ heap.seats
+  holders_are_all_seats = sym (length-map holders (λ (held : SeatHeld). held.number)) ∙ ap length numbers ∙ length-range_with_len 0 heap.seats
 
   number_there : (k : ℕ) (d : SeatHeld) → k < length holders → (slice_index_or holders k d).number ≡ k
   number_there k d below =
       sym (get_or-map (λ (held : SeatHeld). held.number) holders k d) ∙ ap (λ l. slice_index_or l k d.number) numbers
-      ∙ get_or-range_with_len 0 heap.seats k d.number (omega (arith, below, many_seats)) ∙ omega arith
+      ∙ get_or-range_with_len 0 heap.seats k d.number (omega (arith, below, holders_are_all_seats)) ∙ omega arith
 
   -- each is between two calls
-  pub all_between : All IsBetweenCalls holders
-  all_between k d below = between_opened made.table heap (slice_index_or holders k d) (opened k d below)
+  pub all_between_calls : All IsBetweenCalls holders
+  all_between_calls k d below = between_opened made.table heap (slice_index_or holders k d) (opened k d below)
 
   -- and they may run the scripts
-  pub may_run : (seats : List SeatHeld) (collector : CollectorValue) → seats ≡ holders → collector ≡ record { holder = made; last_turn = None } → length scripts ≡ heap.seats
+  pub seats_may_run : (seats : List SeatHeld) (collector : CollectorValue) → seats ≡ holders → collector ≡ record { holder = made; last_turn = None } → length scripts ≡ heap.seats
       → ((number : ℕ) → number < heap.seats → IsShortScript (script_at scripts number)) → MayRun seats collector scripts
-  may_run seats collector same collector_is seated short =
+  seats_may_run seats collector same collector_is seated short =
       subst (λ l. MayRun l collector scripts) (sym same) (subst (λ v. MayRun holders v scripts) (sym collector_is) (record {
         numbers = numbers ∙ ap (λ (h : Heap). range_with_len 0 h.seats) (sym heap_is);
         ready = λ k d below.
             let held = slice_index_or holders k d in
-            let within : held.number < heap.seats = omega (arith, number_there k d below, below, many_seats) in
+            let within : held.number < heap.seats = omega (arith, number_there k d below, below, holders_are_all_seats) in
             subst (λ h. IsReadyToWork made.table h scripts held) (sym heap_is) (ready_opened made.table heap scripts held (opened k d below) within seated (short held.number within));
       }))

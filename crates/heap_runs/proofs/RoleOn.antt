@@ -15,7 +15,7 @@ use Rattle.heap_model.specs.declared.heap.Heap.{Heap}
 use Rattle.collector_turns.specs.Collector.{CollectorValue, state_of}
 use Rattle.collector_turns.specs.Turning.{TakesTurn, MakesRoom}
 use Rattle.slack_pace.specs.Slack.{MakesOnward, MakesEach, MakesTurns}
-use Rattle.heap_record.proofs.TurnsInRoom.{step_of_heap}
+use Rattle.heap_record.proofs.TurnsInRoom.{step_entry_is_of_heap}
 use Rattle.heap_runs.specs.Role.{BeginsWith, IsOfRun}
 
 -- a list that is longer still begins so
@@ -42,13 +42,13 @@ adds_none old new same = record { added = []; own = refl; grown = same ∙ sym (
 
 turn_adds : (old new : CollectorState) (turn : Turn) → ComesTo old new turn → AddsOn old.log new.log
 turn_adds old new turns.Stepped (inl none) = adds_none old.log new.log none.0
-turn_adds old new turns.Stepped (inr steps) = record { added = steps.0 ∷ []; own = rw (step_of_heap old.phase steps.0 new.phase steps.1) refl; grown = steps.2 }
+turn_adds old new turns.Stepped (inr steps) = record { added = steps.0 ∷ []; own = rw (step_entry_is_of_heap old.phase steps.0 new.phase steps.1) refl; grown = steps.2 }
 turn_adds old new (turns.Waits seat answered phase) comes = adds_none old.log new.log comes.0.0
 turn_adds old new (turns.Ended cycle kept) comes = record { added = Ends cycle kept ∷ []; own = refl; grown = comes.0 }
 
 module _ (table : TableId) (heap : Heap) (before : List Entry) where
-  pub run_room : (old new : CollectorValue) → MakesRoom old new → IsOfRun table heap before old → IsOfRun table heap before new
-  run_room old new room run = record {
+  pub is_of_run_after_room : (old new : CollectorValue) → MakesRoom old new → IsOfRun table heap before old → IsOfRun table heap before new
+  is_of_run_after_room old new room run = record {
     table_is = ap (λ (v : CollectorValue). v.holder.table) room ∙ run.table_is;
     heap_is = ap (λ (v : CollectorValue). v.holder.heap) room ∙ run.heap_is;
     goes_on = subst (BeginsWith before) (sym (ap (λ (v : CollectorValue). v.holder.known.collector.log) room)) run.goes_on;
@@ -85,8 +85,8 @@ adds_each zero old new same = adds_none old.log new.log (ap (λ (s : CollectorSt
 adds_each (suc n) old new makes = adds_then old.log makes.0.log new.log (adds_onward n old makes.0 makes.2) (turn_adds makes.0 new makes.1 makes.3.comes_to)
 
 module _ (table : TableId) (heap : Heap) (before : List Entry) where
-  pub run_slack : (n : ℕ) (old new : CollectorValue) → MakesEach TakesTurn n old new → MakesTurns n (state_of old) (state_of new) → IsOfRun table heap before old → IsOfRun table heap before new
-  run_slack n old new makes turned run =
+  pub is_of_run_after_slack : (n : ℕ) (old new : CollectorValue) → MakesEach TakesTurn n old new → MakesTurns n (state_of old) (state_of new) → IsOfRun table heap before old → IsOfRun table heap before new
+  is_of_run_after_slack n old new makes turned run =
       let stays = stays_each n old new makes in
       let adds = adds_each n (state_of old) (state_of new) turned in
       record {

@@ -20,7 +20,7 @@ use Rattle.heap_model.specs.declared.reply.Reply.{Reply}
 use Rattle.heap_model.specs.runs.Told.{command_told, commands_told}
 use Rattle.heap_table.specs.Closed.{ClosedTable}
 use Rattle.heap_table.specs.SeatHeld.{SeatHeld}
-use Rattle.core_rule.proofs.runs.LoneEntries.{all_append}
+use Rattle.core_rule.proofs.runs.LoneEntries.{all_of_append}
 use Rattle.collector_turns.specs.Collector.{CollectorValue}
 use Rattle.heap_runs.specs.Finishing.{HasGone, HasLogs}
 use Rattle.heap_runs.specs.Role.{IsOfRun}
@@ -71,8 +71,8 @@ same_numbers (old ∷ olds) (new ∷ news) many each =
 module _ (patience : ℕ) (scripts : List (List Command)) (table : TableId) (heap : Heap) (olds news : List SeatHeld) (ready : All (IsReadyToWork table heap scripts) olds)
     (worked : HaveWorked patience scripts olds news) where
   -- each seat has left
-  pub all_gone : All (HasGone table heap) news
-  all_gone k d below =
+  pub all_have_gone : All (HasGone table heap) news
+  all_have_gone k d below =
       let within : k < length olds = omega (arith, below, worked.each_once) in
       let old = slice_index_or olds k d in
       let new = slice_index_or news k d in
@@ -100,14 +100,14 @@ all_true (entry ∷ es) all = by (all_true es) (is_of_heap entry) refl all
     by rest false its all_ = absurd (cc all_)
 
 -- what the collector told in the run goes on from what it had told before
-pub logs_go_on : (table : TableId) (heap : Heap) (before : List Entry) (collector : CollectorValue) (seats : List SeatHeld) (closed : ClosedTable) → IsOfRun table heap before collector
+pub has_logs_from_before : (table : TableId) (heap : Heap) (before : List Entry) (collector : CollectorValue) (seats : List SeatHeld) (closed : ClosedTable) → IsOfRun table heap before collector
     → HasLogs seats collector.holder.known.collector.log closed → HasLogs seats before closed
-logs_go_on table heap before collector seats closed run logs =
+has_logs_from_before table heap before collector seats closed run logs =
     let log = collector.holder.known.collector.log in
     let rest = drop (length before) log in
     let whole : log ≡ before ++ rest = sym (take-append-drop (length before) log) ∙ ap (λ l. l ++ rest) run.goes_on in
     record {
       turned = rest ++ logs.turned;
-      own = all_append (λ entry. is_of_heap entry ≡ true) rest logs.turned (all_true rest run.own) logs.own;
+      own = all_of_append (λ entry. is_of_heap entry ≡ true) rest logs.turned (all_true rest run.own) logs.own;
       logs_are = logs.logs_are ∙ ap (λ (l : List Entry). map (λ (held : SeatHeld). held.seat.mine) seats ++ l ∷ []) (ap (λ l. l ++ logs.turned) whole ∙ append_assoc before rest logs.turned);
     }

@@ -7,7 +7,7 @@ use Rattle.heap_model.specs.declared.entry.Entry.{Entry}
 use Rattle.heap_model.specs.declared.entry.Entry.TheVariants.{Said, Answers}
 use Rattle.core_machine.specs.machine.Calls.{IsBeside}
 use Rattle.core_machine.specs.seat.Looks.{noted_reply}
-use Rattle.heap_record.proofs.TellsOne.{TellsOne, waits_of, one_noted}
+use Rattle.heap_record.proofs.TellsOne.{TellsOne, waits_of, tells_one_of_note}
 use Rattle.heap_runs.specs.CollectCall.{IsAnswerOf}
 
 -- answers of a seat stand beside a reply
@@ -17,6 +17,6 @@ answers_beside number (Answers other phase ∷ answers) own = (own.0, answers_be
 answers_beside number (_ ∷ answers) own = absurd own.0
 
 -- a collect answers its command behind them
-pub one_collected : (number : ℕ) (answers : List Entry) (came : CollectReply) → AllByRecursion (IsAnswerOf number) answers
+pub tells_one_collect : (number : ℕ) (answers : List Entry) (came : CollectReply) → AllByRecursion (IsAnswerOf number) answers
     → TellsOne number commands.Collect (waits_of came) (answers ++ Said number commands.Collect (noted_reply came) ∷ [])
-one_collected number answers came own = one_noted number answers came (answers_beside number answers own)
+tells_one_collect number answers came own = tells_one_of_note number answers came (answers_beside number answers own)

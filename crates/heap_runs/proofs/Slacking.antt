@@ -16,10 +16,10 @@ waits_last zero new last is waited = absurd (subst slack.HasWaited is waited)
 waits_last (suc n) new last is waited = subst slack.HasWaited is waited
 
 -- turns that were made once there was room, and noted
-pub slack_noted : (asked : ℕ) (old now new : PlayState) (made answered : ℕ) (last : Option Turn) → now ≡ record old { spare = now.spare } → (adds : AddsTurns now new)
+pub notes_slack_after_room : (asked : ℕ) (old now new : PlayState) (made answered : ℕ) (last : Option Turn) → now ≡ record old { spare = now.spare } → (adds : AddsTurns now new)
     → answered ≡ asked → made ≤ answered → (made < answered → slack.HasWaited last) → slack.CountsTurns made (collector_state_of now) (collector_state_of new)
     → last ≡ slack.last_made made (collector_state_of new) → NotesSlack asked old new
-slack_noted asked old now new made answered last same adds is most fewer counted answers = record {
+notes_slack_after_room asked old now new made answered last same adds is most fewer counted answers = record {
   adds = record {
     same_heap = adds.same_heap ∙ ap (λ (s : PlayState). s.heap) same;
     added = adds.added;
@@ -33,28 +33,28 @@ slack_noted asked old now new made answered last same adds is most fewer counted
 }
 
 -- what is made of a pace is there where the pace is
-pub some_mapped : {A B : Type 0} → (f : A → B) (pace : Option A) → is_some (option_map f pace) ≡ is_some pace
-some_mapped f None = refl
-some_mapped f (Some pace) = refl
+pub mapped_some_is_some : {A B : Type 0} → (f : A → B) (pace : Option A) → is_some (option_map f pace) ≡ is_some pace
+mapped_some_is_some f None = refl
+mapped_some_is_some f (Some pace) = refl
 
 -- turns were added, and without a pace nothing
 pub record AddsSlack (paced : Bool) (old new : PlayState) : Type 0 where
   pub adds : AddsTurns old new
   pub none : paced ≡ false → adds.added ≡ []
 
-pub pace_adds : (asks : Option (ℕ → ℕ)) (claimed : ℕ) (old new : PlayState) → NotesPace asks claimed old new → AddsSlack (is_some asks) old new
-pace_adds None claimed old new none = record { adds = turns_none old new (ap (λ (s : PlayState). s.heap) none) (ap (λ (s : PlayState). s.entries) none); none = λ unpaced. refl }
-pace_adds (Some asks) claimed old new notes = record { adds = notes.adds; none = λ unpaced. absurd (cc unpaced) }
+pub pace_adds_slack : (asks : Option (ℕ → ℕ)) (claimed : ℕ) (old new : PlayState) → NotesPace asks claimed old new → AddsSlack (is_some asks) old new
+pace_adds_slack None claimed old new none = record { adds = turns_none old new (ap (λ (s : PlayState). s.heap) none) (ap (λ (s : PlayState). s.entries) none); none = λ unpaced. refl }
+pace_adds_slack (Some asks) claimed old new notes = record { adds = notes.adds; none = λ unpaced. absurd (cc unpaced) }
 
 module _ (old now : PlayState) (number : ℕ) (command : Command) (call : NotesCall old now number command) where
   -- a call and no turns
-  pub bare_line : NotesSeatLine None old now number command
-  bare_line = record { now = now; call = call; slack = refl }
+  pub notes_line_without_turns : NotesSeatLine None old now number command
+  notes_line_without_turns = record { now = now; call = call; slack = refl }
 
   -- what was claimed by the call
-  pub claimed_is : (claimed : ℕ) → claimed ≡ claimed_by (drop (length old.entries) now.entries) → claimed ≡ claimed_by call.added
-  claimed_is claimed is = is ∙ ap claimed_by (ap (drop (length old.entries)) call.told ∙ drop-append_seam old.entries call.added)
+  pub claimed_is_by_call : (claimed : ℕ) → claimed ≡ claimed_by (drop (length old.entries) now.entries) → claimed ≡ claimed_by call.added
+  claimed_is_by_call claimed is = is ∙ ap claimed_by (ap (drop (length old.entries)) call.told ∙ drop-append_seam old.entries call.added)
 
   -- a call and turns
-  pub slack_line : (asks : ℕ → ℕ) (claimed : ℕ) (new : PlayState) → claimed ≡ claimed_by call.added → NotesSlack (asks claimed) now new → NotesSeatLine (Some asks) old new number command
-  slack_line asks claimed new is notes = record { now = now; call = call; slack = subst (λ (n : ℕ). NotesSlack (asks n) now new) is notes }
+  pub notes_line_with_turns : (asks : ℕ → ℕ) (claimed : ℕ) (new : PlayState) → claimed ≡ claimed_by call.added → NotesSlack (asks claimed) now new → NotesSeatLine (Some asks) old new number command
+  notes_line_with_turns asks claimed new is notes = record { now = now; call = call; slack = subst (λ (n : ℕ). NotesSlack (asks n) now new) is notes }

@@ -37,8 +37,8 @@ collect_graph number g [] tells = refl
 collect_graph number g (entries.Said other command reply ∷ told) tells = absurd (cc tells.0)
 collect_graph number g (entry ∷ told) tells = collect_graph number g told tells.1
 
-pub collect_stays : (old new : PlayState) (number : ℕ) (reply : Reply) → AnswersCollect old new number reply → graph_after (opening new.heap) new.entries ≡ graph_after (opening old.heap) old.entries
-collect_stays old new number reply answers =
+pub graph_stays_by_collect : (old new : PlayState) (number : ℕ) (reply : Reply) → AnswersCollect old new number reply → graph_after (opening new.heap) new.entries ≡ graph_after (opening old.heap) old.entries
+graph_stays_by_collect old new number reply answers =
     let said : List Entry = entries.Said number commands.Collect reply ∷ [] in
     let first = graph_after (opening old.heap) old.entries in
     ap (λ h. graph_after (opening h) new.entries) answers.heap ∙ ap (graph_after (opening old.heap)) answers.entries ∙ fold-append after_entry (opening old.heap) old.entries (answers.before ++ said)
@@ -62,7 +62,7 @@ tells_call old new number commands.Collect reply answers = tells_collect old new
 tells_call old new number command reply answers = tells_once old new number command reply (λ e. cc e) (answers.once (λ e. cc e))
 
 -- it is noted by its entries
-pub call_noted : (old new : PlayState) (number : ℕ) (command : Command) (reply : Reply) → AnswersCall old new number command reply → NotesCall old new number command
-call_noted old new number command reply answers =
+pub notes_call_by_entries : (old new : PlayState) (number : ℕ) (command : Command) (reply : Reply) → AnswersCall old new number command reply → NotesCall old new number command
+notes_call_by_entries old new number command reply answers =
     let tells = tells_call old new number command reply answers in
     record { reply = reply; answers = answers; added = tells.before ++ entries.Said number command reply ∷ []; told = tells.told }

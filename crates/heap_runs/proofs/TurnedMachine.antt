@@ -20,9 +20,9 @@ waits_rightly each whole (turns.Waits number answer p) s answered =
 waits_rightly each whole _ s answered = tt
 
 -- the machine's turn is one of a heap that is played on
-pub takes_turn : EachWaitIsBehind → EachTurnLeavesFewer → (old new : Recorded) (turn : Turn) → StandsFor old.machine.heap old.machine.state [] old.history → MakesTurn old new turn
+pub machine_takes_turn : EachWaitIsBehind → EachTurnLeavesFewer → (old new : Recorded) (turn : Turn) → StandsFor old.machine.heap old.machine.state [] old.history → MakesTurn old new turn
     → TakesTurn (run_state_of old) (run_state_of new) turn
-takes_turn waits lowers old new turn s makes =
+machine_takes_turn waits lowers old new turn s makes =
     record {
       heap = makes.same_heap;
       added = entries old.machine.heap old.machine.state Turns;

@@ -12,12 +12,12 @@ pub record KeepsFolded (old new : CollectorValue) : Type 0 where
   pub folded_stays : new.holder.known.folded ≡ old.holder.known.folded
 
 -- so it is behind turns, one after another, with room before each
-pub turns_keep : (n : ℕ) (old new : CollectorValue) → MakesInRoom MakesRoom TakesTurn n old new → KeepsFolded old new
-turns_keep zero old new same = subst (KeepsFolded old) (sym same) (record { heap_stays = refl; seats_stay = refl; folded_stays = refl })
-turns_keep (suc n) old new makes =
+pub turns_keep_folded : (n : ℕ) (old new : CollectorValue) → MakesInRoom MakesRoom TakesTurn n old new → KeepsFolded old new
+turns_keep_folded zero old new same = subst (KeepsFolded old) (sym same) (record { heap_stays = refl; seats_stay = refl; folded_stays = refl })
+turns_keep_folded (suc n) old new makes =
     let now = makes.0 in
     let ready = makes.1 in
-    let kept = turns_keep n old now makes.3 in
+    let kept = turns_keep_folded n old now makes.3 in
     let room : ready ≡ _ = makes.4 in
     let turned = makes.5.turned in
     record {

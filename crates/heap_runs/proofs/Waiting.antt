@@ -18,8 +18,8 @@ use Rattle.core_machine.specs.seat.Seat.{Seat}
 use Rattle.core_machine.specs.table.Layout.{at}
 use Rattle.core_rule.specs.runs.Laws.{StandsFor}
 use Rattle.core_rule.specs.turns.TurnsLeft.{turns_left, turns_left_at}
-use Rattle.core_rule.proofs.parties.OneSeat.{after_inner}
-use Rattle.core_rule.proofs.parties.Standing.{word_is, answered_last, phase_near}
+use Rattle.core_rule.proofs.parties.OneSeat.{others_same_after_inner}
+use Rattle.core_rule.proofs.parties.Standing.{phase_word_is_phase, answered_is_last_answer, phase_word_is_near}
 use Rattle.heap_record.specs.Recorded.{MakesInner, Recorded, MakesTurn}
 use Rattle.heap_runs.specs.Collecting.{IsStillThere}
 use Rattle.heap_runs.specs.MachineHeap.{IsBetweenCalls, run_state_of}
@@ -77,12 +77,12 @@ waits_still old new other answer p turned =
     }
 
 -- a step leaves fewer, and the seat may be behind then
-pub stepped_fewer : (old new : Recorded) (number : ℕ) → StandsFor new.machine.heap new.machine.state [] new.history → IsBetweenCalls new.machine.heap new.machine.state new.history → IsStillThere new number
+pub step_leaves_fewer_turns : (old new : Recorded) (number : ℕ) → StandsFor new.machine.heap new.machine.state [] new.history → IsBetweenCalls new.machine.heap new.machine.state new.history → IsStillThere new number
     → TakesTurn (run_state_of old) (run_state_of new) turns.Stepped → left_for new number < left_for old number
-stepped_fewer old new number s between present takes =
+step_leaves_fewer_turns old new number s between present takes =
     let below : number < new.machine.heap.seats = omega (arith, present.within, s.stands.rule.machine.seated) in
     let fewer = takes.fewer refl in
-    elim (phase_near new.machine.heap new.machine.state new.history s number below (between.all_idle number present.within) present.there) [
+    elim (phase_word_is_near new.machine.heap new.machine.state new.history s number below (between.all_idle number present.within) present.there) [
       | inl same ↦ omega (arith, same, fewer)
       | inr next ↦ omega (arith, next, fewer)
     ]
@@ -95,24 +95,24 @@ answer_phase number p answered = elim (eqb_tells p answered) [
 ]
 
 -- a turn that waits for the seat, and its answer, leave as many turns, and the seat isn't behind any more
-pub answered_fewer : (old now new : Recorded) (number answer p : ℕ) → StandsFor old.machine.heap old.machine.state [] old.history → StandsFor now.machine.heap now.machine.state [] now.history
+pub answer_leaves_fewer_turns : (old now new : Recorded) (number answer p : ℕ) → StandsFor old.machine.heap old.machine.state [] old.history → StandsFor now.machine.heap now.machine.state [] now.history
     → StandsFor new.machine.heap new.machine.state [] new.history → IsBetweenCalls old.machine.heap old.machine.state old.history → IsStillThere old number
     → TakesTurn (run_state_of old) (run_state_of now) (turns.Waits number answer p) → MakesTurn old now (turns.Waits number answer p) → MakesInner now new number inners.Answer
     → left_for new number < left_for old number
-answered_fewer old now new number answer p one two three between present takes turned makes =
+answer_leaves_fewer_turns old now new number answer p one two three between present takes turned makes =
     let still = waits_still old now number answer p turned in
-    let others = after_inner now.machine.heap now.machine.state new.machine.state number inners.Answer makes.plays in
+    let others = others_same_after_inner now.machine.heap now.machine.state new.machine.state number inners.Answer makes.plays in
     let collector : new.machine.state.collector ≡ now.machine.state.collector = others.collector in
     let same : turns_left new.machine.heap new.machine.state ≡ turns_left now.machine.heap now.machine.state
     = rw (makes.same_heap, collector) (looking_left now.machine.heap new.machine.state.words now.machine.state.words now.machine.state.collector.phase now.machine.state.collector.looked now.machine.state.collector.stage still.looking) in
     let below : number < old.machine.heap.seats = takes.waits.0 in
-    let before : at old.machine.heap old.machine.state.words Phase ≡ p = word_is old.machine.heap old.machine.state old.history one ∙ takes.waits.1.here in
+    let before : at old.machine.heap old.machine.state.words Phase ≡ p = phase_word_is_phase old.machine.heap old.machine.state old.history one ∙ takes.waits.1.here in
     let gave : (seat_at old.machine.state number).answered ≡ answer
-    = answered_last old.machine.heap old.machine.state old.history one number below (between.all_idle number present.within) ∙ takes.waits.1.answered in
+    = answered_is_last_answer old.machine.heap old.machine.state old.history one number below (between.all_idle number present.within) ∙ takes.waits.1.answered in
     let told : List Entry = (if at now.machine.heap now.machine.state.words Phase == (seat_at now.machine.state number).answered then [] else entries.Answers number (at now.machine.heap now.machine.state.words Phase) ∷ []) in
     let phases : phase new.history ≡ phase now.history = ap phase makes.noted ∙ plain now.history told (answer_phase number (at now.machine.heap now.machine.state.words Phase) (seat_at now.machine.state number).answered) in
-    let now_word = word_is now.machine.heap now.machine.state now.history two in
-    let new_word = word_is new.machine.heap new.machine.state new.history three in
+    let now_word = phase_word_is_phase now.machine.heap now.machine.state now.history two in
+    let new_word = phase_word_is_phase new.machine.heap new.machine.state new.history three in
     let answers : (seat_at new.machine.state number).answered ≡ at now.machine.heap now.machine.state.words Phase = ap (λ (t : Seat). t.answered) makes.plays.seat in
     omega (arith, same, still.same, before, gave, takes.waits.2, phases, now_word, new_word, answers)
   where

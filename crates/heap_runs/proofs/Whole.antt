@@ -16,7 +16,7 @@ use Rattle.script_text.specs.declared.script.Script.{Script}
 use Rattle.reply_text.specs.declared.history.History.{History}
 use Rattle.reply_text.specs.declared.history.SpaceMark.{SpaceMark}
 use Rattle.log_merge.specs.Legal.{ShowsUse, ShowsCounts}
-use Rattle.core_rule.proofs.parties.LeftStill.{left_still, up_to_last_later}
+use Rattle.core_rule.proofs.parties.LeftStill.{left_stays_left, up_to_last_in_later}
 use Rattle.heap_runs.specs.Play.{StandForLines, IsLastCycle, IsPlay}
 use Rattle.heap_runs.specs.PlayHeap.{PlayState, IsPlayed}
 use Rattle.heap_runs.specs.Playing.{HaveLeft, NotesLastCycle}
@@ -32,17 +32,17 @@ none_used empties heap told turned played gone cycle =
     let all : told ++ turned ≡ (before ++ last.steps) ++ ending
     = ap (λ es. told ++ es) (cycle.both ∙ ap (λ es. cycle.under_way ++ es) last.ends) ∙ sym (append_assoc told cycle.under_way (last.steps ++ ending)) ∙ sym (append_assoc before last.steps ending) in
     let left : (number : ℕ) → number < heap.seats → has_left number (up_to_cycle (before ++ last.steps)) ≡ true
-    = λ number under. ap (has_left number) (up_to_last_later begins_cycle before last.steps last.begins)
-    ∙ left_still number before (up_to_cycle last.steps) (left_still number told cycle.under_way (gone number under)) in
+    = λ number under. ap (has_left number) (up_to_last_in_later begins_cycle before last.steps last.begins)
+    ∙ left_stays_left number before (up_to_cycle last.steps) (left_stays_left number told cycle.under_way (gone number under)) in
     let empty = empties heap true (before ++ last.steps) last.cycle last.kept (subst (IsLegal heap true) all played.legal) left in
     (omega (arith, ap (fragments_used heap) all, empty.0, played.none_short), omega (arith, ap words_used all, empty.1, returned_within heap (told ++ turned) played.legal))
 
 -- the whole play: the script was answered, the seats have left, and a last cycle was made
-pub whole_play : EachLastCycleEmpties → (paced : Bool) (script : Script) (middle gone last : PlayState) (entries : List Entry) (mark : SpaceMark) (used : ℕ) (told : History)
+pub script_is_played_whole : EachLastCycleEmpties → (paced : Bool) (script : Script) (middle gone last : PlayState) (entries : List Entry) (mark : SpaceMark) (used : ℕ) (told : History)
     → StandForLines paced [] script.lines middle.entries → HaveLeft script.heap middle gone script.heap.seats → NotesLastCycle gone last → IsPlayed script.heap last.entries → entries ≡ last.entries
     → mark.before ≡ length middle.entries → ShowsUse script.heap middle.entries mark.used → mark.total ≡ 16 * script.heap.groups → mark.spine + words_returned middle.entries ≡ words_granted middle.entries → mark.budget ≡ script.heap.spine
     → ShowsUse script.heap last.entries used → told ≡ record { form = forms.Play; heap = script.heap; entries = entries; mark = Some mark; end_used = used } → IsPlay paced script told
-whole_play empties paced script middle gone last entries mark used told answered left notes played listed before in_use total spine budget at_end is =
+script_is_played_whole empties paced script middle gone last entries mark used told answered left notes played listed before in_use total spine budget at_end is =
     let leaving : List Entry = flat_map (λ number. leave_entries number (left.left number)) (range_with_len 0 script.heap.seats) in
     let front = middle.entries in
     let all : entries ≡ front ++ (leaving ++ notes.turned) = listed ∙ notes.told ∙ ap (λ es. es ++ notes.turned) left.leaves ∙ append_assoc front leaving notes.turned in

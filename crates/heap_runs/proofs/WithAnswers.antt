@@ -20,11 +20,11 @@ use Rattle.heap_model.specs.calls.SeatReplies.{next_id}
 use Rattle.heap_model.specs.calls.SeatState.{own_graph_seat}
 use Rattle.heap_model.specs.graph.Graph.{Graph, GraphSeat}
 use Rattle.heap_model.specs.graph.Objects.{graph_seat}
-use Rattle.heap_model.proofs.account_lemmas.TurnedCounts.{gained, lost, granted, returned, here, took, spent, answered, graphs, turned_hold_nobody}
-use Rattle.core_rule.proofs.parties.Collectors.{all_collectors}
+use Rattle.heap_model.proofs.account_lemmas.TurnedCounts.{gained_without_turned, lost_without_turned, granted_without_turned, returned_without_turned, phase_without_turned, taken_without_turned, spent_without_turned, last_answer_without_turned, graph_without_turned, turned_hold_nobody}
+use Rattle.core_rule.proofs.parties.Collectors.{all_are_collectors}
 use Rattle.heap_runs.specs.Play.{ComesInCollect}
 use Rattle.heap_runs.specs.PlayHeap.{PlayState, MayCall, IsEnough, LacksWords, RefusesWords, RefusesFragments, AnswersArrayOnce, AnswersOnce, AnswersCollect, AnswersCall, WaitsRightly, TakesTurn, seat_state_of, collector_state_of}
-use Rattle.heap_runs.proofs.TurnFacts.{added_is}
+use Rattle.heap_runs.proofs.TurnFacts.{turn_adds_just_more}
 
 -- the state with the machine's entries alone
 abbrev pub bare : PlayState → PlayState
@@ -32,14 +32,14 @@ bare state = record state { entries = without_turned state.entries }
 
 module _ (state : PlayState) (number : ℕ) where
   own_same : own_graph_seat (seat_state_of (bare state) number) ≡ own_graph_seat (seat_state_of state number)
-  own_same = ap (λ (g : Graph). graph_seat g number) (graphs state.entries state.heap)
+  own_same = ap (λ (g : Graph). graph_seat g number) (graph_without_turned state.entries state.heap)
 
   next_same : next_id (seat_state_of (bare state) number) ≡ next_id (seat_state_of state number)
   next_same = ap (λ (s : GraphSeat). ids.Made number (length s.objects)) own_same
 
   -- a call that may be made may be made without the answers
-  pub may_bare : (command : Command) → MayCall state number command → MayCall (bare state) number command
-  may_bare command may = record { within = may.within; present = ap (λ (s : GraphSeat). s.left) own_same ∙ may.present; in_range = may.in_range; numbered = numbered command may.numbered }
+  pub may_call_when_bare : (command : Command) → MayCall state number command → MayCall (bare state) number command
+  may_call_when_bare command may = record { within = may.within; present = ap (λ (s : GraphSeat). s.left) own_same ∙ may.present; in_range = may.in_range; numbered = numbered command may.numbered }
     where
       numbered : (command : Command) → HasNumber (seat_state_of state number) command → HasNumber (seat_state_of (bare state) number) command
       numbered (commands.New d fields) has = omega (arith, has, ap (λ (s : GraphSeat). length s.objects) own_same)
@@ -49,30 +49,30 @@ module _ (state : PlayState) (number : ℕ) where
 
   module _ (command : Command) where
     enough_with : IsEnough (bare state) number command → IsEnough state number command
-    enough_with enough = omega (arith, enough, gained state.entries state.heap, lost state.entries, spent state.entries number, took state.entries number)
+    enough_with enough = omega (arith, enough, gained_without_turned state.entries state.heap, lost_without_turned state.entries, spent_without_turned state.entries number, taken_without_turned state.entries number)
 
     enough_bare : IsEnough state number command → IsEnough (bare state) number command
-    enough_bare enough = omega (arith, enough, gained state.entries state.heap, lost state.entries, spent state.entries number, took state.entries number)
+    enough_bare enough = omega (arith, enough, gained_without_turned state.entries state.heap, lost_without_turned state.entries, spent_without_turned state.entries number, taken_without_turned state.entries number)
 
     lacks_with : LacksWords (bare state) command → LacksWords state command
-    lacks_with lacks = omega (arith, lacks, granted state.entries, returned state.entries)
+    lacks_with lacks = omega (arith, lacks, granted_without_turned state.entries, returned_without_turned state.entries)
 
     lacks_bare : LacksWords state command → LacksWords (bare state) command
-    lacks_bare lacks = omega (arith, lacks, granted state.entries, returned state.entries)
+    lacks_bare lacks = omega (arith, lacks, granted_without_turned state.entries, returned_without_turned state.entries)
 
     words_with : (reply : Reply) → RefusesWords (bare state) command reply → RefusesWords state command reply
-    words_with reply (used, is, shows) = (used, omega (arith, is, granted state.entries, returned state.entries), shows)
+    words_with reply (used, is, shows) = (used, omega (arith, is, granted_without_turned state.entries, returned_without_turned state.entries), shows)
 
     words_bare : (reply : Reply) → RefusesWords state command reply → RefusesWords (bare state) command reply
-    words_bare reply (used, is, shows) = (used, omega (arith, is, granted state.entries, returned state.entries), shows)
+    words_bare reply (used, is, shows) = (used, omega (arith, is, granted_without_turned state.entries, returned_without_turned state.entries), shows)
 
     fragments_with : (reply : Reply) → RefusesFragments (bare state) number command reply → RefusesFragments state number command reply
     fragments_with reply (found, finds, shows) =
-        (found, omega (arith, finds, gained state.entries state.heap, lost state.entries, spent state.entries number, took state.entries number), shows)
+        (found, omega (arith, finds, gained_without_turned state.entries state.heap, lost_without_turned state.entries, spent_without_turned state.entries number, taken_without_turned state.entries number), shows)
 
     fragments_bare : (reply : Reply) → RefusesFragments state number command reply → RefusesFragments (bare state) number command reply
     fragments_bare reply (found, finds, shows) =
-        (found, omega (arith, finds, gained state.entries state.heap, lost state.entries, spent state.entries number, took state.entries number), shows)
+        (found, omega (arith, finds, gained_without_turned state.entries state.heap, lost_without_turned state.entries, spent_without_turned state.entries number, taken_without_turned state.entries number), shows)
 
     -- what an array is answered
     array_with : (reply : Reply) → AnswersArrayOnce (bare state) number command reply → AnswersArrayOnce state number command reply
@@ -103,9 +103,9 @@ module _ (old new : PlayState) (added : List Entry) (grown : new.entries ≡ old
       heap = adds.heap;
       number = refl;
       unborn = adds.unborn;
-      had = omega (arith, adds.had, spent old.entries number, took old.entries number);
+      had = omega (arith, adds.had, spent_without_turned old.entries number, taken_without_turned old.entries number);
       before = adds.before;
-      comes = subst (λ (p : ℕ). ComesBefore number adds.unborn p command reply adds.before) (answered old.entries number) adds.comes;
+      comes = subst (λ (p : ℕ). ComesBefore number adds.unborn p command reply adds.before) (last_answer_without_turned old.entries number) adds.comes;
       entries = more_is _ adds.entries;
       spare = longer old.spare new.spare adds.spare;
     }
@@ -127,7 +127,7 @@ module _ (old new : PlayState) (added : List Entry) (grown : new.entries ≡ old
     collect_with collects = record {
       heap = collects.heap;
       before = collects.before;
-      comes = subst (λ (p : ℕ). ComesInCollect number p reply collects.before) (here old.entries) collects.comes;
+      comes = subst (λ (p : ℕ). ComesInCollect number p reply collects.before) (phase_without_turned old.entries) collects.comes;
       entries = more_is _ collects.entries;
       turns = collects.turns;
       some = collects.some;
@@ -137,8 +137,8 @@ module _ (old new : PlayState) (added : List Entry) (grown : new.entries ≡ old
     }
 
     -- a call
-    pub call_with : AnswersCall (bare old) (bare new) number command reply → AnswersCall old new number command reply
-    call_with answers = record { once = λ apart. once_with (answers.once apart); collects = λ is. collect_with (answers.collects is) }
+    pub answers_call_with_answers : AnswersCall (bare old) (bare new) number command reply → AnswersCall old new number command reply
+    answers_call_with_answers answers = record { once = λ apart. once_with (answers.once apart); collects = λ is. collect_with (answers.collects is) }
 
   module _ (turn : Turn) (takes : TakesTurn (bare old) (bare new) turn) where
     told_is : new.entries ≡ old.entries ++ takes.added
@@ -146,37 +146,37 @@ module _ (old new : PlayState) (added : List Entry) (grown : new.entries ≡ old
 
     -- the collector's part of both lists has what was added more
     own_more : (before : List Entry) → filter is_collectors (before ++ takes.added) ≡ filter is_collectors before ++ takes.added
-    own_more before = filter-append is_collectors before takes.added ∙ ap (λ es. filter is_collectors before ++ es) (all_collectors takes.added takes.own)
+    own_more before = filter-append is_collectors before takes.added ∙ ap (λ es. filter is_collectors before ++ es) (all_are_collectors takes.added takes.own)
 
     log_is : (collector_state_of new).log ≡ (collector_state_of old).log ++ takes.added
     log_is = ap (filter is_collectors) told_is ∙ own_more old.entries
 
     log_more : (more : List Entry) → (collector_state_of (bare new)).log ≡ (collector_state_of (bare old)).log ++ more → (collector_state_of new).log ≡ (collector_state_of old).log ++ more
-    log_more more is = log_is ∙ ap (λ (l : List Entry). (collector_state_of old).log ++ l) (added_is (bare old) (bare new) turn takes more is)
+    log_more more is = log_is ∙ ap (λ (l : List Entry). (collector_state_of old).log ++ l) (turn_adds_just_more (bare old) (bare new) turn takes more is)
 
     log_same : (collector_state_of (bare new)).log ≡ (collector_state_of (bare old)).log → (collector_state_of new).log ≡ (collector_state_of old).log
     log_same is = log_more [] (is ∙ sym (append-nil (collector_state_of (bare old)).log)) ∙ append-nil (collector_state_of old).log
 
     phase_same : phase (without_turned new.entries) ≡ phase (without_turned old.entries) → phase new.entries ≡ phase old.entries
-    phase_same same = sym (here new.entries) ∙ same ∙ here old.entries
+    phase_same same = sym (phase_without_turned new.entries) ∙ same ∙ phase_without_turned old.entries
 
     comes_with : (turn : Turn) → ComesTo (collector_state_of (bare old)) (collector_state_of (bare new)) turn → ComesTo (collector_state_of old) (collector_state_of new) turn
     comes_with turns.Stepped (inl none) = inl (log_same none.0, phase_same none.1)
     comes_with turns.Stepped (inr steps) = inr (
       steps.0,
-      subst (λ (p : ℕ). StepsTo p steps.0 (phase new.entries)) (here old.entries) (subst (λ (p : ℕ). StepsTo (phase (without_turned old.entries)) steps.0 p) (here new.entries) steps.1),
+      subst (λ (p : ℕ). StepsTo p steps.0 (phase new.entries)) (phase_without_turned old.entries) (subst (λ (p : ℕ). StepsTo (phase (without_turned old.entries)) steps.0 p) (phase_without_turned new.entries) steps.1),
       log_more (steps.0 ∷ []) steps.2,
     )
-    comes_with (turns.Waits seat answer p) comes = ((log_same comes.0.0, phase_same comes.0.1), comes.1, comes.2 ∙ here old.entries, comes.3, comes.4)
-    comes_with (turns.Ended cycle kept) comes = (log_more (Ends cycle kept ∷ []) comes.0, sym (here old.entries) ∙ comes.1, sym (here new.entries) ∙ comes.2)
+    comes_with (turns.Waits seat answer p) comes = ((log_same comes.0.0, phase_same comes.0.1), comes.1, comes.2 ∙ phase_without_turned old.entries, comes.3, comes.4)
+    comes_with (turns.Ended cycle kept) comes = (log_more (Ends cycle kept ∷ []) comes.0, sym (phase_without_turned old.entries) ∙ comes.1, sym (phase_without_turned new.entries) ∙ comes.2)
 
     waits_with : (turn : Turn) → WaitsRightly (bare old) turn → WaitsRightly old turn
     waits_with (turns.Waits seat answer p) waits = (waits.0, turned_hold_nobody seat answer p old.entries waits.1, waits.2)
     waits_with _ waits = tt
 
     -- a turn
-    pub turn_with : TakesTurn old new turn
-    turn_with = record {
+    pub takes_turn_with_answers : TakesTurn old new turn
+    takes_turn_with_answers = record {
       heap = takes.heap;
       added = takes.added;
       entries = told_is;

@@ -13,9 +13,9 @@ abbrev ok_of : SeatHeld → Result SeatHeld Memory
 ok_of seat = Ok seat
 
 -- where each came to its end, each has worked
-pub all_worked : (patience : ℕ) (scripts : List (List Command)) (olds back : List SeatHeld) (ends : List (Result SeatHeld Memory)) → HaveEnded patience scripts olds ends → ends ≡ map ok_of back
+pub all_have_worked : (patience : ℕ) (scripts : List (List Command)) (olds back : List SeatHeld) (ends : List (Result SeatHeld Memory)) → HaveEnded patience scripts olds ends → ends ≡ map ok_of back
     → HaveWorked patience scripts olds back
-all_worked patience scripts olds back ends ended is = record {
+all_have_worked patience scripts olds back ends ended is = record {
   each_once = sym (length-map back ok_of) ∙ sym (ap (length {A = Result SeatHeld Memory}) is) ∙ ended.each_once;
   each = λ place old new was now.
       let here : slice_get ends place ≡ Some (Ok new) =
@@ -24,6 +24,6 @@ all_worked patience scripts olds back ends ended is = record {
 }
 
 -- what follows of a value follows of the value where there is one
-pub if_ok_then : {A E : Type 0} (P Q : A → Type 0) (result : Result A E) → ((value : A) → P value → Q value) → IfOk result P → IfOk result Q
-if_ok_then P Q (Ok value) then_so holds = then_so value holds
-if_ok_then P Q (Err error) then_so holds = tt
+pub if_ok_implied : {A E : Type 0} (P Q : A → Type 0) (result : Result A E) → ((value : A) → P value → Q value) → IfOk result P → IfOk result Q
+if_ok_implied P Q (Ok value) then_so holds = then_so value holds
+if_ok_implied P Q (Err error) then_so holds = tt

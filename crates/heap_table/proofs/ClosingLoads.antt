@@ -18,7 +18,7 @@ use Rattle.heap_table.specs.Told.{Tells}
 use Rattle.heap_table.specs.Views.{collector_view}
 use Rattle.heap_table.specs.declared.view.View.{View}
 use Rattle.heap_table.specs.declared.view.View.TheVariants.{Spent}
-use Rattle.heap_table.proofs.Knowers.{IsCollectors, is_collectors}
+use Rattle.heap_table.proofs.Knowers.{IsCollectors, holder_is_collectors}
 
 module _ (heap : Heap) (known : CollectorKnown) (all : AllFolded heap known.seats) (more : length known.closed < table_length heap) where
   module _ (table : Table (Unit {0}) View) (holds : Holds heap table) (its : IsCollectors heap table 0 known holds) where
@@ -84,10 +84,10 @@ module _ (heap : Heap) (known : CollectorKnown) (all : AllFolded heap known.seat
       late = late_now;
     }
 
-  pub reading_allowed : (id : ℕ) → Allows (Holds heap) 0 id (collector_view known, []) (length known.closed) (λ n. n)
+  pub reading_is_allowed : (id : ℕ) → Allows (Holds heap) 0 id (collector_view known, []) (length known.closed) (λ n. n)
       (Tells (λ n. collector_view (with_closed known n)) (λ n. EndsWhole heap (with_closed known n)) (collector_view known, []))
-  reading_allowed id table holds none_home at small =
-      let first = is_collectors heap table id known holds at in
+  reading_is_allowed id table holds none_home at small =
+      let first = holder_is_collectors heap table id known holds at in
       let its = subst (λ (i : ℕ). IsCollectors heap table i known holds) first.id_is first in
       let n = get_or table.words (length known.closed) 0 in (
         collector_view (with_closed known n),

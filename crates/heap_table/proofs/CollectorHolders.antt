@@ -30,10 +30,10 @@ use Rattle.heap_table.specs.TokenOf.{IsTokenOf}
 use Rattle.heap_table.specs.Views.{seat_view, collector_view, known_by}
 use Rattle.heap_table.specs.declared.view.View.{View}
 use Rattle.heap_table.specs.declared.view.View.TheVariants.{Spent}
-use Rattle.heap_table.proofs.Folding.{folding_allowed}
-use Rattle.heap_table.proofs.Quiet.{quiet_collector, quiet_answer, store_is_quiet}
-use Rattle.heap_table.proofs.Stored.{tells_stored}
-use Rattle.heap_table.proofs.Turns.{turn_allows, may_turn}
+use Rattle.heap_table.proofs.Folding.{folding_is_allowed}
+use Rattle.heap_table.proofs.Quiet.{quiet_collector_ignores_word, quiet_answer_ignores_word, store_is_quiet}
+use Rattle.heap_table.proofs.Stored.{tells_stored_of_store}
+use Rattle.heap_table.proofs.Turns.{rule_allows_turn, next_turn_may}
 
 -- what is told at the due turn of the collector whose view this is
 abbrev pub TurnTells : Heap → Me (Unit {0}) View → ℕ → Me (Unit {0}) View → Type 0
@@ -50,41 +50,41 @@ module _ (shared : TableId) (key : Heap) (mine : TableId) (me : Me (Unit {0}) Vi
 
   module _ (step : Step) (due : (next_turn heap known.collector).step ≡ step) where
     -- the turn has its word
-    pub turn_word : HasWord heap (address_of step)
-    turn_word = subst (λ (s : Step). HasWord heap (address_of s)) (ap (λ (c : Collector). (next_turn heap c).step) (sym keeps.collector_is) ∙ due) keeps.has_word
+    pub turn_has_its_word : HasWord heap (address_of step)
+    turn_has_its_word = subst (λ (s : Step). HasWord heap (address_of s)) (ap (λ (c : Collector). (next_turn heap c).step) (sym keeps.collector_is) ∙ due) keeps.has_word
 
     -- the rule allows it
-    pub turn_allowed : (slots id room : ℕ) (key' : Heap) → slots ≡ shared.slots → key' ≡ key → 2 ≤ room → room + length collector.log < 2 ^ 64
+    pub turn_is_allowed : (slots id room : ℕ) (key' : Heap) → slots ≡ shared.slots → key' ≡ key → 2 ≤ room → room + length collector.log < 2 ^ 64
         → Allows (Holds key') slots id me (index_of heap (address_of step)) (word_after step) (TurnTells heap me)
-    turn_allowed slots id room key' slots_are key_is some_room within =
-        let may = may_turn heap known.collector known_fits (omega (arith, some_room, within, ap (λ (c : Collector). length c.log) keeps.collector_is)) in
+    turn_is_allowed slots id room key' slots_are key_is some_room within =
+        let may = next_turn_may heap known.collector known_fits (omega (arith, some_room, within, ap (λ (c : Collector). length c.log) keeps.collector_is)) in
         let none_ : slots ≡ 0 = slots_are ∙ ap (λ (z : TableId). z.slots) (sym keeps.token.of.table) ∙ keeps.token.of.slots in
         subst (λ (k : Heap). Allows (Holds k) slots id me (index_of heap (address_of step)) (word_after step) (TurnTells heap me)) (sym (key_is ∙ keeps.token.of.key_is))
         (subst (λ (k : ℕ). Allows (Holds heap) k id me (index_of heap (address_of step)) (word_after step) (TurnTells heap me)) (sym none_)
         (subst (λ (m : Me (Unit {0}) View). Allows (Holds heap) 0 id m (index_of heap (address_of step)) (word_after step) (Tells (λ n. collector_view (next_known heap known n)) (ToldAtTurn heap known.collector) m)) (sym keeps.token.knows)
-        (turn_allows heap known step due may keeps.unread id)))
+        (rule_allows_turn heap known step due may keeps.unread id)))
 
     -- of a store, it tells what goes with the word stored
-    pub turn_stored : TellsStored (operation_of step) (TurnTells heap me)
-    turn_stored = tells_stored (operation_of step) (TurnTells heap me) (λ word is found after tells.
+    pub turn_tells_stored : TellsStored (operation_of step) (TurnTells heap me)
+    turn_tells_stored = tells_stored_of_store (operation_of step) (TurnTells heap me) (λ word is found after tells.
         let stores : operation_of (next_turn heap known.collector).step ≡ Store word = ap operation_of due ∙ is in
         let quiet = store_is_quiet (next_turn heap known.collector).step word stores in
-        let same = quiet_collector heap known.collector found word quiet in
+        let same = quiet_collector_ignores_word heap known.collector found word quiet in
         let stands = turn_stands heap known.collector keeps.token.limits known_fits in (
           tells.0 ∙ ap (λ (c : Collector). (collector_view (record known { collector = c }), me.1)) same,
           record {
             leads = subst (λ (o : Operation). FoundPointsWithin heap (address_of (next_turn heap known.collector).step) (operation_result o found)) stores (stands.step.leads found tells.1.leads);
             fits = subst (CollectorFits heap) same tells.1.fits;
             has_word = subst (TurnHasWord heap) same tells.1.has_word;
-            comes_to = λ old new shown shown_after. subst (ComesTo old new) (quiet_answer heap known.collector found word quiet)
+            comes_to = λ old new shown shown_after. subst (ComesTo old new) (quiet_answer_ignores_word heap known.collector found word quiet)
                 (tells.1.comes_to old new shown (subst (Shows new) (sym same) shown_after));
           },
         ))
 
   -- what the holder keeps after the turn
-  pub keeps_turned : (mine' : TableId) (me' : Me (Unit {0}) View) (next : Collector) (found : ℕ) → mine' ≡ mine → TurnTells heap me found me' → next ≡ next_collector heap collector found
+  pub keeps_collector_after_turn : (mine' : TableId) (me' : Me (Unit {0}) View) (next : Collector) (found : ℕ) → mine' ≡ mine → TurnTells heap me found me' → next ≡ next_collector heap collector found
       → KeepsCollector shared key mine' me' heap next places folded
-  keeps_turned mine' me' next found same tells is =
+  keeps_collector_after_turn mine' me' next found same tells is =
       let known_is : known_by me'.0 ≡ next_known heap known found = ap (λ (m : Me (Unit {0}) View). known_by m.0) tells.0 in
       let collector_is : (known_by me'.0).collector ≡ next = ap (λ (k : CollectorKnown). k.collector) known_is ∙ ap (λ (c : Collector). next_collector heap c found) keeps.collector_is ∙ sym is in
       record {
@@ -103,19 +103,19 @@ module _ (shared : TableId) (key : Heap) (mine : TableId) (me : Me (Unit {0}) Vi
       }
 
   -- folding in a seat is allowed
-  pub fold_allowed : (id other number : ℕ) (seat : Seat) (key' : Heap) (view : View) → seat.left ≡ true → key' ≡ key → view ≡ seat_view number seat
+  pub fold_is_allowed : (id other number : ℕ) (seat : Seat) (key' : Heap) (view : View) → seat.left ≡ true → key' ≡ key → view ≡ seat_view number seat
       → Joins (Holds key') id me.0 other view (folding_view me.0 view) Spent
-  fold_allowed id other number seat key' view left key_is view_is =
+  fold_is_allowed id other number seat key' view left key_is view_is =
       subst (λ (k : Heap). Joins (Holds k) id me.0 other view (folding_view me.0 view) Spent) (sym (key_is ∙ keeps.token.of.key_is))
       (subst (λ (v : View). Joins (Holds heap) id me.0 other v (folding_view me.0 v) Spent) (sym view_is)
       (subst (λ (v : View). Joins (Holds heap) id v other (seat_view number seat) (folding_view v (seat_view number seat)) Spent) (sym (ap (λ (m : Me (Unit {0}) View). m.0) keeps.token.knows))
-      (folding_allowed heap known number seat left id other)))
+      (folding_is_allowed heap known number seat left id other)))
 
   -- what the holder keeps after that
-  pub keeps_folded : (mine' : TableId) (me' : Me (Unit {0}) View) (places' : List (Option SeatWithRoom)) (now number : ℕ) (seat : Seat) (party : SeatWithRoom) (view : View)
+  pub keeps_collector_after_fold : (mine' : TableId) (me' : Me (Unit {0}) View) (places' : List (Option SeatWithRoom)) (now number : ℕ) (seat : Seat) (party : SeatWithRoom) (view : View)
       → mine' ≡ mine → me' ≡ (folding_view me.0 view, me.1) → view ≡ seat_view number seat → places' ≡ set places number (Some party) → party.seat ≡ seat → now ≡ collector.phase
       → KeepsCollector shared key mine' me' heap collector places' now
-  keeps_folded mine' me' places' now number seat party view same me_is view_is places_are party_is now_is =
+  keeps_collector_after_fold mine' me' places' now number seat party view same me_is view_is places_are party_is now_is =
       let known_is : known_by me'.0 ≡ with_folded known number seat = ap (λ (m : Me (Unit {0}) View). known_by m.0) me_is ∙ ap (λ (v : View). known_by (folding_view me.0 v)) view_is in
       record {
         token = record {
@@ -140,25 +140,25 @@ module _ (shared : TableId) (key : Heap) (mine : TableId) (me : Me (Unit {0}) Vi
       seats_set (x ∷ l) (suc i) p = ap (λ (m : List (Option Seat)). option_map (λ (q : SeatWithRoom). q.seat) x ∷ m) (seats_set l i p)
 
 -- what holds of the holder as contracts see it holds of its parts
-pub due_of : (whole value : CollectorHeld) (step : Step) → whole ≡ value → (next_turn value.heap value.known.collector).step ≡ step → (next_turn whole.heap whole.known.collector).step ≡ step
-due_of whole value step is due = subst (λ (v : CollectorHeld). (next_turn v.heap v.known.collector).step ≡ step) (sym is) due
+pub due_turn_is_step : (whole value : CollectorHeld) (step : Step) → whole ≡ value → (next_turn value.heap value.known.collector).step ≡ step → (next_turn whole.heap whole.known.collector).step ≡ step
+due_turn_is_step whole value step is due = subst (λ (v : CollectorHeld). (next_turn v.heap v.known.collector).step ≡ step) (sym is) due
 
-pub room_of : (whole value : CollectorHeld) → whole ≡ value → 2 ≤ value.spare → 2 ≤ whole.spare
-room_of whole value is some_room = subst (λ (v : CollectorHeld). 2 ≤ v.spare) (sym is) some_room
+pub holder_has_room : (whole value : CollectorHeld) → whole ≡ value → 2 ≤ value.spare → 2 ≤ whole.spare
+holder_has_room whole value is some_room = subst (λ (v : CollectorHeld). 2 ≤ v.spare) (sym is) some_room
 
 -- after a quiet turn no found word matters
-pub quietly_turned : (old new : CollectorHeld) (step : Step) (found : ℕ) → (next_turn old.heap old.known.collector).step ≡ step → is_quiet step ≡ true → IsTurned old new found → IsTurned old new 0
-quietly_turned old new step found due quiet turned = record {
+pub quiet_turn_is_turned : (old new : CollectorHeld) (step : Step) (found : ℕ) → (next_turn old.heap old.known.collector).step ≡ step → is_quiet step ≡ true → IsTurned old new found → IsTurned old new 0
+quiet_turn_is_turned old new step found due quiet turned = record {
   table_stays = turned.table_stays;
   heap_stays = turned.heap_stays;
-  known_is = turned.known_is ∙ ap (λ (c : Collector). record old.known { collector = c }) (quiet_collector old.heap old.known.collector found 0 (ap is_quiet due ∙ quiet));
+  known_is = turned.known_is ∙ ap (λ (c : Collector). record old.known { collector = c }) (quiet_collector_ignores_word old.heap old.known.collector found 0 (ap is_quiet due ∙ quiet));
   counted = turned.counted;
   room_stays = turned.room_stays;
 }
 
 -- the table has words
-pub some_words : (heap : Heap) (words : ℕ) → words ≡ table_length heap → 0 < words
-some_words heap words is = omega (arith, is)
+pub table_has_words : (heap : Heap) (words : ℕ) → words ≡ table_length heap → 0 < words
+table_has_words heap words is = omega (arith, is)
 
 -- there is a seat in each place exactly where every seat was folded in
 all_there : (places : List (Option SeatWithRoom)) → list_all is_some places ≡ true → (number : ℕ) → number < length places → (seat : Seat) × IsFolded (seats_in places) number seat
@@ -175,11 +175,11 @@ none_missing (None ∷ places) all = let first = (all 0 (omega arith)).1 in absu
     nobody seat e = let f = some-injective _ _ e in cc f
 none_missing (Some party ∷ places) all = none_missing places (λ number within. all (suc number) (omega (arith, within)))
 
-pub full_folded : (heap : Heap) (places : List (Option SeatWithRoom)) (known : CollectorKnown) (full : Bool) → full ≡ list_all is_some places → seats_in places ≡ known.seats → length places ≡ heap.seats → IsTrue full ↔ AllFolded heap known.seats
-full_folded heap places known full is seats long = (
+pub full_is_all_folded : (heap : Heap) (places : List (Option SeatWithRoom)) (known : CollectorKnown) (full : Bool) → full ≡ list_all is_some places → seats_in places ≡ known.seats → length places ≡ heap.seats → IsTrue full ↔ AllFolded heap known.seats
+full_is_all_folded heap places known full is seats long = (
   λ yes number within. subst (λ (l : List (Option Seat)). (seat : Seat) × IsFolded l number seat) seats (all_there places (sym is ∙ yes) number (rw long within)),
   λ all. is ∙ none_missing places (λ number within. subst (λ (l : List (Option Seat)). (seat : Seat) × IsFolded l number seat) (sym seats) (all number (rw (← long) within))),
 )
 
-pub folded_of : (whole value : CollectorHeld) (full : Bool) → whole ≡ value → IsTrue full ↔ AllFolded whole.heap whole.known.seats → IsTrue full ↔ AllFolded value.heap value.known.seats
-folded_of whole value full is folded = subst (λ (v : CollectorHeld). IsTrue full ↔ AllFolded v.heap v.known.seats) is folded
+pub holder_full_is_folded : (whole value : CollectorHeld) (full : Bool) → whole ≡ value → IsTrue full ↔ AllFolded whole.heap whole.known.seats → IsTrue full ↔ AllFolded value.heap value.known.seats
+holder_full_is_folded whole value full is folded = subst (λ (v : CollectorHeld). IsTrue full ↔ AllFolded v.heap v.known.seats) is folded

@@ -21,12 +21,12 @@ use Rattle.heap_table.specs.Known.{CollectorKnown}
 use Rattle.heap_table.specs.Views.{seat_view, collector_view}
 use Rattle.heap_table.specs.declared.view.View.{View}
 use Rattle.heap_table.specs.declared.view.View.TheVariants.{OfSeat, OfCollector, Spent}
-use Rattle.heap_table.proofs.Knowers.{IsSeats, is_seats, IsCollectors, is_collectors}
-use Rattle.heap_table.proofs.Places.{same_some}
+use Rattle.heap_table.proofs.Knowers.{IsSeats, holder_is_seats, IsCollectors, holder_is_collectors}
+use Rattle.heap_table.proofs.Places.{equal_somes_equal_values}
 
 -- no phase before some entry of a history is above the phase that is now
-pub none_later : (history : List Entry) (now : ℕ) → now ≡ phase history → SeatsBefore now history
-none_later history now is before rest entry split seats =
+pub seats_stand_before : (history : List Entry) (now : ℕ) → now ≡ phase history → SeatsBefore now history
+seats_stand_before history now is before rest entry split seats =
     let sum : phase history ≡ phase before + phase (entry ∷ rest) = ap phase split ∙ sum_by-append (λ (e : Entry). (effect_of e).phases) before (entry ∷ rest) in
     omega (arith, sum, is)
 
@@ -89,23 +89,23 @@ module _ (heap : Heap) (known : CollectorKnown) (number : ℕ) (seat : Seat) (le
           | inr other ↦ view_else s other.1 ∙ holds.is.spent s kept (was_folded s kept other.1 folded)
         ];
         gone = λ s kept folded. elim (eqb_tells s number) as (λ _. kept.left ≡ true) [
-          | inl here ↦ ap (λ (x : Seat). x.left) (same_some kept seat (sym folded ∙ ap (get_elem? seats_now) here.1 ∙ folded_here)) ∙ left
+          | inl here ↦ ap (λ (x : Seat). x.left) (equal_somes_equal_values kept seat (sym folded ∙ ap (get_elem? seats_now) here.1 ∙ folded_here)) ∙ left
           | inr other ↦ holds.is.gone s kept (was_folded s kept other.1 folded)
         ];
         closed_are = rw unread refl;
         still = λ some_read. absurd (omega (arith, some_read, ap length unread));
       };
       stands = holds.stands;
-      late = λ all. none_later holds.book.history known.collector.phase
+      late = λ all. seats_stand_before holds.book.history known.collector.phase
           (ap (λ (c : Collector). c.phase) (sym (holds.is.collector_is ∙ ap (λ (k : CollectorKnown). k.collector) its.known_is)) ∙ holds.stands.rule.collector_stands.phase_told);
     }
 
-  pub folding_allowed : (id other : ℕ) → Joins (Holds heap) id (collector_view known) other (seat_view number seat) (folding_view (collector_view known) (seat_view number seat)) Spent
-  folding_allowed id other table holds at apart at_other =
-      let first_view = is_collectors heap table id known holds at in
+  pub folding_is_allowed : (id other : ℕ) → Joins (Holds heap) id (collector_view known) other (seat_view number seat) (folding_view (collector_view known) (seat_view number seat)) Spent
+  folding_is_allowed id other table holds at apart at_other =
+      let first_view = holder_is_collectors heap table id known holds at in
       let its = subst (λ (i : ℕ). IsCollectors heap table i known holds) first_view.id_is first_view in
       let there : get_elem? table.views other ≡ some (seat_view number seat) = sym (set_else table.views id other (folding_view (collector_view known) (seat_view number seat)) apart) ∙ at_other in
-      let its_view = is_seats heap table other number seat holds there in
+      let its_view = holder_is_seats heap table other number seat holds there in
       let seats = subst (λ (i : ℕ). IsSeats heap table i number seat holds) its_view.id_is its_view in
       subst (λ (i : ℕ). Holds heap (record { words = table.words; homes = table.homes; views = set (set table.views i (folding_view (collector_view known) (seat_view number seat))) other Spent })) (sym first_view.id_is)
       (subst (λ (i : ℕ). Holds heap (record { words = table.words; homes = table.homes; views = set (set table.views 0 (folding_view (collector_view known) (seat_view number seat))) i Spent })) (sym its_view.id_is) (holds_folded table holds its seats))

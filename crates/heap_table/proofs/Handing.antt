@@ -16,8 +16,8 @@ use Rattle.heap_table.specs.Known.{CollectorKnown}
 use Rattle.heap_table.specs.Views.{collector_view}
 use Rattle.heap_table.specs.declared.view.View.{View}
 use Rattle.heap_table.specs.declared.view.View.TheVariants.{Spent}
-use Rattle.heap_table.proofs.Knowers.{IsCollectors, is_collectors}
-use Rattle.heap_table.proofs.Places.{place_within, get_longer, get_past}
+use Rattle.heap_table.proofs.Knowers.{IsCollectors, holder_is_collectors}
+use Rattle.heap_table.proofs.Places.{place_within_list, get_stays_by_append, get_past_end_is_none}
 
 module _ (heap : Heap) (known : CollectorKnown) (few : known.handed < heap.seats) (open_ : known.closed ≡ []) where
   module _ (table : Table (Unit {0}) View) (holds : Holds heap table) (its : IsCollectors heap table 0 known holds) where
@@ -34,14 +34,14 @@ module _ (heap : Heap) (known : CollectorKnown) (few : known.handed < heap.seats
     long = length-set table.views 0 (handing_view (collector_view known)) ∙ counted
 
     view_before : (s : ℕ) → s < known.handed → get_elem? views (suc s) ≡ get_elem? table.views (suc s)
-    view_before s below = get_longer first (handed_view heap (collector_view known) ∷ []) (suc s) (omega (arith, long, below))
+    view_before s below = get_stays_by_append first (handed_view heap (collector_view known) ∷ []) (suc s) (omega (arith, long, below))
         ∙ set_else table.views 0 (suc s) (handing_view (collector_view known)) (λ e. omega arith)
 
     seat_was : (s : ℕ) → s < heap.seats → IsSeatOf heap known.seats s (get_elem? table.views (suc s)) (seat_at holds.state s)
     seat_was s within = subst (λ (k : CollectorKnown). IsSeatOf heap k.seats s (get_elem? table.views (suc s)) (seat_at holds.state s)) its.known_is (holds.is.seats_are s within)
 
     none_yet : (s : ℕ) → known.handed ≤ s → get_elem? table.views (suc s) ≡ none
-    none_yet s past = get_past table.views (suc s) (omega (arith, past, counted))
+    none_yet s past = get_past_end_is_none table.views (suc s) (omega (arith, past, counted))
 
     holds_handed : Holds heap (record { words = table.words; homes = table.homes; views = set table.views 0 (handing_view (collector_view known)) ++ handed_view heap (collector_view known) ∷ [] })
     holds_handed = record {
@@ -50,7 +50,7 @@ module _ (heap : Heap) (known : CollectorKnown) (few : known.handed < heap.seats
       book = holds.book;
       is = record {
         words_are = holds.is.words_are;
-        knows = get_longer first (handed_view heap (collector_view known) ∷ []) 0 (omega (arith, long)) ∙ set_here table.views 0 (handing_view (collector_view known)) its.has_view;
+        knows = get_stays_by_append first (handed_view heap (collector_view known) ∷ []) 0 (omega (arith, long)) ∙ set_here table.views 0 (handing_view (collector_view known)) its.has_view;
         collector_is = holds.is.collector_is ∙ ap (λ (k : CollectorKnown). k.collector) its.known_is;
         counted = omega (arith, length-append first (handed_view heap (collector_view known) ∷ []), long);
         few = few;
@@ -64,13 +64,13 @@ module _ (heap : Heap) (known : CollectorKnown) (few : known.handed < heap.seats
                 (sym (ap (λ (i : ℕ). get_elem? views (suc i)) here.1 ∙ at_last first (handed_view heap (collector_view known)) (suc known.handed) long))
                 (sym here.1, ap (opening_seat heap) (sym here.1) ∙ sym opened)
             | inr other ↦
-                let beyond : get_elem? views (suc s) ≡ none = get_past views (suc s) (omega (arith, past.1, other.1, length-append first (handed_view heap (collector_view known) ∷ []), long)) in
+                let beyond : get_elem? views (suc s) ≡ none = get_past_end_is_none views (suc s) (omega (arith, past.1, other.1, length-append first (handed_view heap (collector_view known) ∷ []), long)) in
                 subst (λ (v : Found View). IsSeatOf heap known.seats s v (seat_at holds.state s)) (none_yet s (omega (arith, past.1)) ∙ sym beyond) (seat_was s within)
           ]
         ];
         spent = λ s seat folded.
             let was = holds.is.spent s seat (subst (λ (k : CollectorKnown). IsFolded k.seats s seat) (sym its.known_is) folded) in
-            let there = place_within table.views (suc s) Spent was in
+            let there = place_within_list table.views (suc s) Spent was in
             view_before s (omega (arith, there, counted)) ∙ was;
         gone = λ s seat folded. holds.is.gone s seat (subst (λ (k : CollectorKnown). IsFolded k.seats s seat) (sym its.known_is) folded);
         closed_are = rw open_ refl;
@@ -80,8 +80,8 @@ module _ (heap : Heap) (known : CollectorKnown) (few : known.handed < heap.seats
       late = λ all. subst (λ (k : CollectorKnown). SeatsBefore k.folded holds.book.history) its.known_is (holds.late (subst (λ (k : CollectorKnown). AllFolded heap k.seats) (sym its.known_is) all));
     }
 
-  pub handing_allowed : (id : ℕ) → Splits (Holds heap) id (collector_view known) (handing_view (collector_view known)) (handed_view heap (collector_view known))
-  handing_allowed id table holds at =
-      let first_view = is_collectors heap table id known holds at in
+  pub handing_is_allowed : (id : ℕ) → Splits (Holds heap) id (collector_view known) (handing_view (collector_view known)) (handed_view heap (collector_view known))
+  handing_is_allowed id table holds at =
+      let first_view = holder_is_collectors heap table id known holds at in
       let its = subst (λ (i : ℕ). IsCollectors heap table i known holds) first_view.id_is first_view in
       subst (λ (i : ℕ). Holds heap (record { words = table.words; homes = table.homes; views = set table.views i (handing_view (collector_view known)) ++ handed_view heap (collector_view known) ∷ [] })) (sym first_view.id_is) (holds_handed table holds its)

@@ -18,7 +18,7 @@ use Rattle.core_machine.specs.machine.Value.{SeatWithRoom}
 use Rattle.core_machine.specs.seat.Seat.{Seat}
 use Rattle.core_machine.specs.table.Layout.{table_length}
 use Rattle.core_rule.proofs.entries.AtRest.{seat_fits}
-use Rattle.core_rule.proofs.entries.SeatLists.{idle_list}
+use Rattle.core_rule.proofs.entries.SeatLists.{idle_list_is_all_told}
 use Rattle.heap_table.specs.Closed.{IsWhole, EndsWhole, logs_in, logs_known, HasOneHistory}
 use Rattle.heap_table.specs.CollectorHeld.{KeepsToken, seats_in}
 use Rattle.heap_table.specs.Folded.{AllFolded}
@@ -29,7 +29,7 @@ use Rattle.heap_table.specs.Told.{Tells}
 use Rattle.heap_table.specs.TokenOf.{IsTokenOf}
 use Rattle.heap_table.specs.Views.{collector_view, known_by}
 use Rattle.heap_table.specs.declared.view.View.{View}
-use Rattle.heap_table.proofs.ClosingLoads.{reading_allowed}
+use Rattle.heap_table.proofs.ClosingLoads.{reading_is_allowed}
 
 -- a list that has f of each number at its place is the row of these
 row_of : {A B : Type 0} (g : A → B) (f : ℕ → B) (l : List A) (a n : ℕ) → length l ≡ n → ((i : ℕ) → i < n → (x : A) × (get_elem? l i ≡ some x) × (g x ≡ f (a + i))) → map g l ≡ map f (range_with_len a n)
@@ -68,7 +68,7 @@ one_history heap known places whole =
     own number within =
         let rule = whole.stands.rule in
         let idle = ((seat_fits rule number within).gone (whole.gone number within)).idle in
-        idle_list (graph_of heap whole.book.history) whole.book.history whole.book.made whole.book.owner whole.book.fragments number (seat_at whole.state number) idle (rule.seats_stand number within).told.list
+        idle_list_is_all_told (graph_of heap whole.book.history) whole.book.history whole.book.made whole.book.owner whole.book.fragments number (seat_at whole.state number) idle (rule.seats_stand number within).told.list
         ∙ ap (λ (n : ℕ). filter (is_of n) whole.book.history) (omega arith)
 
 -- the logs in the places are those that are known
@@ -83,19 +83,19 @@ ReadTells heap me = Tells (λ n. collector_view (with_closed (known_by me.0) n))
 
 module _ (shared : TableId) (key : Heap) (mine : TableId) (me : Me (Unit {0}) View) (heap : Heap) (keeps : KeepsToken shared key mine me heap) where
   -- reading it is allowed
-  pub read_allowed : (slots id word : ℕ) (key' : Heap) → slots ≡ shared.slots → key' ≡ key → AllFolded heap (known_by me.0).seats → word ≡ length (known_by me.0).closed → word < table_length heap
+  pub word_read_is_allowed : (slots id word : ℕ) (key' : Heap) → slots ≡ shared.slots → key' ≡ key → AllFolded heap (known_by me.0).seats → word ≡ length (known_by me.0).closed → word < table_length heap
       → Allows (Holds key') slots id me word (λ n. n) (ReadTells heap me)
-  read_allowed slots id word key' slots_are key_is all next within =
+  word_read_is_allowed slots id word key' slots_are key_is all next within =
       let none_ : slots ≡ 0 = slots_are ∙ ap (λ (z : TableId). z.slots) (sym keeps.of.table) ∙ keeps.of.slots in
       subst (λ (k : Heap). Allows (Holds k) slots id me word (λ n. n) (ReadTells heap me)) (sym (key_is ∙ keeps.of.key_is))
       (subst (λ (k : ℕ). Allows (Holds heap) k id me word (λ n. n) (ReadTells heap me)) (sym none_)
       (subst (λ (k : ℕ). Allows (Holds heap) 0 id me k (λ n. n) (ReadTells heap me)) (sym next)
       (subst (λ (m : Me (Unit {0}) View). Allows (Holds heap) 0 id m (length (known_by me.0).closed) (λ n. n) (Tells (λ n. collector_view (with_closed (known_by me.0) n)) (λ n. EndsWhole heap (with_closed (known_by me.0) n)) m)) (sym keeps.knows)
-      (reading_allowed heap (known_by me.0) all (rw (← next) within) id))))
+      (reading_is_allowed heap (known_by me.0) all (rw (← next) within) id))))
 
   -- and leaves the collector's token
-  pub keeps_read : (mine' : TableId) (me' : Me (Unit {0}) View) (found : ℕ) → mine' ≡ mine → ReadTells heap me found me' → KeepsToken shared key mine' me' heap
-  keeps_read mine' me' found same tells = record {
+  pub keeps_token_after_read : (mine' : TableId) (me' : Me (Unit {0}) View) (found : ℕ) → mine' ≡ mine → ReadTells heap me found me' → KeepsToken shared key mine' me' heap
+  keeps_token_after_read mine' me' found same tells = record {
     of = subst (λ (z : TableId). IsTokenOf shared key z heap) (sym same) keeps.of;
     limits = keeps.limits;
     knows = tells.0 ∙ ap (λ (m : Me (Unit {0}) View). (collector_view (with_closed (known_by me.0) found), m.1)) keeps.knows
@@ -113,17 +113,17 @@ pub record IsMoving (before : List (List Entry)) (places : List (Option SeatWith
   pub together : logs ++ logs_in rest ≡ before ++ logs_in places
 
 -- so all logs stand behind one another
-pub logs_closed : (places : List (Option SeatWithRoom)) (known : CollectorKnown) (collector : Collector) (before moved all : List (List Entry)) (log : List Entry) → seats_in places ≡ known.seats → known.collector ≡ collector
+pub closed_logs_are_known : (places : List (Option SeatWithRoom)) (known : CollectorKnown) (collector : Collector) (before moved all : List (List Entry)) (log : List Entry) → seats_in places ≡ known.seats → known.collector ≡ collector
     → log ≡ collector.log → before ≡ [] → moved ≡ before ++ logs_in places → all ≡ moved ++ log ∷ [] → all ≡ logs_known known
-logs_closed places known collector before moved all log seats its its_log none_ moved_are all_are =
+closed_logs_are_known places known collector before moved all log seats its its_log none_ moved_are all_are =
     all_are
     ∙ ap (λ (l : List (List Entry)). l ++ log ∷ []) (moved_are ∙ ap (λ (l : List (List Entry)). l ++ logs_in places) none_ ∙ logs_placed places ∙ ap (map (λ place. option_map_or (λ (seat : Seat). seat.mine) place [])) seats)
     ∙ ap (λ (l : List Entry). map (λ place. option_map_or (λ (seat : Seat). seat.mine) place []) known.seats ++ l ∷ []) (its_log ∙ ap (λ (c : Collector). c.log) (sym its))
 
 -- and one history has them
-pub closes : (heap : Heap) (known read : CollectorKnown) (places : List (Option SeatWithRoom)) (words : List ℕ) (logs : List (List Entry)) (folded : ℕ) → read ≡ record known { closed = words } → seats_in places ≡ known.seats → length places ≡ heap.seats
+pub closed_has_one_history : (heap : Heap) (known read : CollectorKnown) (places : List (Option SeatWithRoom)) (words : List ℕ) (logs : List (List Entry)) (folded : ℕ) → read ≡ record known { closed = words } → seats_in places ≡ known.seats → length places ≡ heap.seats
     → EndsWhole heap read → length words ≡ table_length heap → logs ≡ logs_known known → known.folded ≡ folded → HasOneHistory (record { heap = heap; words = words; logs = logs; folded = folded })
-closes heap known read places words logs folded read_is seats places_are ends long logs_are folded_is =
+closed_has_one_history heap known read places words logs folded read_is seats places_are ends long logs_are folded_is =
     let whole : IsWhole heap (record known { closed = words }) = subst (IsWhole heap) read_is (ends (ap (λ (k : CollectorKnown). length k.closed) read_is ∙ long)) in
     let one = one_history heap (record known { closed = words }) (ap length (sym seats) ∙ length-map places (λ place. option_map (λ (party : SeatWithRoom). party.seat) place) ∙ places_are) whole in
     subst (λ (n : ℕ). HasOneHistory (record { heap = heap; words = words; logs = logs; folded = n })) folded_is

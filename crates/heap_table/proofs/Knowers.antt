@@ -11,7 +11,7 @@ use Rattle.heap_table.specs.Known.{CollectorKnown}
 use Rattle.heap_table.specs.Views.{seat_view, collector_view, known_by}
 use Rattle.heap_table.specs.declared.view.View.{View}
 use Rattle.heap_table.specs.declared.view.View.TheVariants.{Spent}
-use Rattle.heap_table.proofs.Places.{place_within, none_in}
+use Rattle.heap_table.proofs.Places.{place_within_list, list_without_elements_is_empty}
 
 -- the token is that of the holder of this seat
 pub record IsSeats (heap : Heap) (table : Table (Unit {0}) View) (id number : ℕ) (old : Seat) (holds : Holds heap table) : Type 0 where
@@ -26,14 +26,14 @@ pub record IsSeats (heap : Heap) (table : Table (Unit {0}) View) (id number : �
 pub not_collectors : (known : CollectorKnown) (number : ℕ) (seat : Seat) → collector_view known ≡ seat_view number seat → ⊥
 not_collectors known number seat e = cc
 
-pub not_spent : (number : ℕ) (seat : Seat) → Spent ≡ seat_view number seat → ⊥
-not_spent number seat e = cc
+pub holder_is_not_spent : (number : ℕ) (seat : Seat) → Spent ≡ seat_view number seat → ⊥
+holder_is_not_spent number seat e = cc
 
-pub is_seats : (heap : Heap) (table : Table (Unit {0}) View) (id number : ℕ) (old : Seat) (holds : Holds heap table) → get_elem? table.views id ≡ some (seat_view number old)
+pub holder_is_seats : (heap : Heap) (table : Table (Unit {0}) View) (id number : ℕ) (old : Seat) (holds : Holds heap table) → get_elem? table.views id ≡ some (seat_view number old)
     → IsSeats heap table id number old holds
-is_seats heap table zero number old holds at = absurd (not_collectors holds.known number old (some-injective _ _ (sym holds.is.knows ∙ at)))
-is_seats heap table (suc s) number old holds at =
-    let below = place_within table.views (suc s) (seat_view number old) at in
+holder_is_seats heap table zero number old holds at = absurd (not_collectors holds.known number old (some-injective _ _ (sym holds.is.knows ∙ at)))
+holder_is_seats heap table (suc s) number old holds at =
+    let below = place_within_list table.views (suc s) (seat_view number old) at in
     let within : s < heap.seats = omega (arith, below, holds.is.counted, holds.is.few) in
     let seat = subst (λ (v : Found View). IsSeatOf heap holds.known.seats s v (seat_at holds.state s)) at (holds.is.seats_are s within) in
     record {
@@ -42,7 +42,7 @@ is_seats heap table (suc s) number old holds at =
       has_view = rw seat.0 below;
       viewed = subst (λ (n : ℕ). get_elem? table.views (suc n) ≡ some (seat_view number old)) (sym seat.0) at;
       seat_is = ap (seat_at holds.state) seat.0 ∙ sym seat.1;
-      unread = none_in holds.known.closed (λ some_read. not_spent number old (some-injective _ _ (sym (holds.is.still some_read s within) ∙ at)));
+      unread = list_without_elements_is_empty holds.known.closed (λ some_read. holder_is_not_spent number old (some-injective _ _ (sym (holds.is.still some_read s within) ∙ at)));
     }
 
 -- the token is that of the collector's holder
@@ -51,13 +51,13 @@ pub record IsCollectors (heap : Heap) (table : Table (Unit {0}) View) (id : ℕ)
   pub known_is : holds.known ≡ known
   pub has_view : 0 < length table.views
 
-pub is_collectors : (heap : Heap) (table : Table (Unit {0}) View) (id : ℕ) (known : CollectorKnown) (holds : Holds heap table) → get_elem? table.views id ≡ some (collector_view known)
+pub holder_is_collectors : (heap : Heap) (table : Table (Unit {0}) View) (id : ℕ) (known : CollectorKnown) (holds : Holds heap table) → get_elem? table.views id ≡ some (collector_view known)
     → IsCollectors heap table id known holds
-is_collectors heap table zero known holds at = record {
+holder_is_collectors heap table zero known holds at = record {
   id_is = refl;
   known_is = ap known_by (some-injective _ _ (sym holds.is.knows ∙ at));
-  has_view = place_within table.views 0 (collector_view known) at;
+  has_view = place_within_list table.views 0 (collector_view known) at;
 }
-is_collectors heap table (suc s) known holds at =
-    let below = place_within table.views (suc s) (collector_view known) at in
+holder_is_collectors heap table (suc s) known holds at =
+    let below = place_within_list table.views (suc s) (collector_view known) at in
     absurd (subst (λ (v : Found View). IsSeatOf heap holds.known.seats s v (seat_at holds.state s)) at (holds.is.seats_are s (omega (arith, below, holds.is.counted, holds.is.few))))

@@ -19,7 +19,7 @@ use Rattle.core_machine.specs.seat.Seat.{Seat}
 use Rattle.core_machine.specs.table.Layout.{at, index_of}
 use Rattle.core_machine.specs.table.Operation.{address_of}
 use Rattle.core_machine.specs.calls.Owes.{owes, steps_left}
-use Rattle.core_machine.proofs.moves.{move_stands}
+use Rattle.core_machine.proofs.moves.{due_move_stands}
 use Rattle.core_machine.proofs.moves.Standing.{MoveStands}
 use Rattle.core_machine.proofs.own_stages.{own_leads}
 use Rattle.core_rule.specs.cycle.Flight.{WhileAccess}
@@ -28,7 +28,7 @@ use Rattle.heap_table.specs.Begun.{next_seat}
 use Rattle.heap_table.specs.Made.{Made, FoundIn, LeadsTo, MakesSteps, IsSound}
 use Rattle.heap_table.specs.SeatHeld.{SeatHeld, IsStepped}
 use Rattle.heap_table.specs.Told.{ToldAtStep}
-use Rattle.heap_table.proofs.SeatSteps.{at_is}
+use Rattle.heap_table.proofs.SeatSteps.{at_is_read_at_index}
 
 -- steps behind other steps
 pub leads_append : (heap : Heap) (number : ℕ) (first mid last : Seat) (made more : List Made) → LeadsTo heap number first made mid → LeadsTo heap number mid more last
@@ -37,12 +37,12 @@ leads_append heap number first mid last [] more here there = subst (λ (s : Seat
 leads_append heap number first mid last (m ∷ made) more here there = (here.0, here.1, leads_append heap number (next_seat heap number first m.found) mid last made more here.2 there)
 
 -- a holder that has made no step yet
-pub makes_none : (held : SeatHeld) → MakesSteps held held []
-makes_none held = record { table_stays = refl; heap_stays = refl; number_stays = refl; leads = refl; room_stays = omega arith }
+pub makes_no_steps : (held : SeatHeld) → MakesSteps held held []
+makes_no_steps held = record { table_stays = refl; heap_stays = refl; number_stays = refl; leads = refl; room_stays = omega arith }
 
 -- and one that makes one list of steps behind another
-pub makes_append : (first mid last : SeatHeld) (made more : List Made) → MakesSteps first mid made → MakesSteps mid last more → MakesSteps first last (made ++ more)
-makes_append first mid last made more one two = record {
+pub makes_steps_of_append : (first mid last : SeatHeld) (made more : List Made) → MakesSteps first mid made → MakesSteps mid last more → MakesSteps first last (made ++ more)
+makes_steps_of_append first mid last made more one two = record {
   table_stays = two.table_stays ∙ one.table_stays;
   heap_stays = two.heap_stays ∙ one.heap_stays;
   number_stays = two.number_stays ∙ one.number_stays;
@@ -52,9 +52,9 @@ makes_append first mid last made more one two = record {
 }
 
 -- one step alone
-pub makes_one : (old new : SeatHeld) (step : Step) (found : ℕ) → due_step old.heap old.number old.seat ≡ Some step → ToldAtStep old.heap old.number old.seat found → IsStepped old new found
+pub makes_one_step : (old new : SeatHeld) (step : Step) (found : ℕ) → due_step old.heap old.number old.seat ≡ Some step → ToldAtStep old.heap old.number old.seat found → IsStepped old new found
     → MakesSteps old new (record { step = step; found = found } ∷ [])
-makes_one old new step found due told stepped = record {
+makes_one_step old new step found due told stepped = record {
   table_stays = stepped.table_stays;
   heap_stays = stepped.heap_stays;
   number_stays = stepped.number_stays;
@@ -63,29 +63,29 @@ makes_one old new step found due told stepped = record {
 }
 
 -- to what it has led a call on an object
-pub comes_to : (old new : SeatHeld) (found : ℕ) → IsStepped old new found → ToldAtStep old.heap old.number old.seat found → WhileAccess (HasReached new.heap new.number new.seat) new.seat.place
-comes_to old new found stepped told =
+pub while_access_has_reached : (old new : SeatHeld) (found : ℕ) → IsStepped old new found → ToldAtStep old.heap old.number old.seat found → WhileAccess (HasReached new.heap new.number new.seat) new.seat.place
+while_access_has_reached old new found stepped told =
     subst (λ (h : Heap). WhileAccess (HasReached h new.number new.seat) new.seat.place) (sym stepped.heap_stays)
     (subst (λ (n : ℕ). WhileAccess (HasReached old.heap n new.seat) new.seat.place) (sym stepped.number_stays)
     (subst (λ (s : Seat). WhileAccess (HasReached old.heap old.number s) s.place) (sym stepped.seat_is) told.comes))
 
 -- each of the steps is one of these and those
-pub found_more : (made : List Made) (m : Made) (step : Step) (word : ℕ) → FoundIn made step word → FoundIn (m ∷ made) step word
-found_more made m step word there = let inside = there.1 in (suc there.0, omega arith, there.2)
+pub found_in_longer_steps : (made : List Made) (m : Made) (step : Step) (word : ℕ) → FoundIn made step word → FoundIn (m ∷ made) step word
+found_in_longer_steps made m step word there = let inside = there.1 in (suc there.0, omega arith, there.2)
 
-pub found_first : (made : List Made) (m : Made) → FoundIn (m ∷ made) m.step m.found
-found_first made m = (0, omega arith, refl)
+pub found_in_first_step : (made : List Made) (m : Made) → FoundIn (m ∷ made) m.step m.found
+found_in_first_step made m = (0, omega arith, refl)
 
 -- no step is due any more
-pub no_more : (due : Option Step) → ((step : Step) → due ≡ Some step → ⊥) → due ≡ None
-no_more None none = refl
-no_more (Some step) none = absurd (none step refl)
+pub no_step_is_due : (due : Option Step) → ((step : Step) → due ≡ Some step → ⊥) → due ≡ None
+no_step_is_due None none = refl
+no_step_is_due (Some step) none = absurd (none step refl)
 
 -- some words have this one at an address
 some_words : (heap : Heap) (a : Address) (found : ℕ) → (words : List ℕ) × (at heap words a ≡ found)
 some_words heap a found =
     let before : List ℕ = replicate (index_of heap a) 0 in
-    (before ++ found ∷ [], at_is heap (before ++ found ∷ []) a ∙ get_or_push before found 0 (index_of heap a) (length-replicate (index_of heap a) 0))
+    (before ++ found ∷ [], at_is_read_at_index heap (before ++ found ∷ []) a ∙ get_or_push before found 0 (index_of heap a) (length-replicate (index_of heap a) 0))
 
 -- the move that is due
 module _ (heap : Heap) (number : ℕ) (seat : Seat) (limits : IsHeap heap) (few : number < 16) (fits : Fits heap seat) where
@@ -102,9 +102,9 @@ module _ (heap : Heap) (number : ℕ) (seat : Seat) (limits : IsHeap heap) (few 
       (near.fewer, omega (arith, near.paid, long, ap (length {A = Entry}) kept))
 
   -- by it fewer steps are left, and no more entries are added than were owed
-  pub step_nears : (step : Step) (found : ℕ) (next : Seat) → due_step heap number seat ≡ Some step → next ≡ next_seat heap number seat found
+  pub step_nears_end : (step : Step) (found : ℕ) (next : Seat) → due_step heap number seat ≡ Some step → next ≡ next_seat heap number seat found
       → (steps_left heap next < steps_left heap seat) × (owes next + length next.mine ≤ owes seat + length seat.mine)
-  step_nears step found next due is = near_by (next_move heap number seat) step found next due (move_stands heap number seat limits few fits) is
+  step_nears_end step found next due is = near_by (next_move heap number seat) step found next due (due_move_stands heap number seat limits few fits) is
 
   on_by : (tells : Step → ℕ → Type 0) (command : Command) (old : Seat) (told : List Entry) (move : Option Move) (step : Step) (found : ℕ) → next_move heap number seat ≡ move
       → option_map (λ (m : Move). m.step) move ≡ Some step → tells step found → OwnStage tells heap number command old seat told
@@ -115,31 +115,31 @@ module _ (heap : Heap) (number : ℕ) (seat : Seat) (limits : IsHeap heap) (few 
       (m.adds found, own_leads tells heap number command old seat told m found limits few fits next (subst (λ (s : Step). tells s found) (sym same) tell) stage)
 
   -- and the call stands after it as it is to, whatever word it found of which so much is told
-  pub stage_on : (tells : Step → ℕ → Type 0) (command : Command) (old : Seat) (told : List Entry) (step : Step) (found : ℕ) → due_step heap number seat ≡ Some step → tells step found
+  pub stage_stands_after_step : (tells : Step → ℕ → Type 0) (command : Command) (old : Seat) (told : List Entry) (step : Step) (found : ℕ) → due_step heap number seat ≡ Some step → tells step found
       → OwnStage tells heap number command old seat told → (more : List Entry) × OwnStage tells heap number command old (next_seat heap number seat found) (told ++ more)
-  stage_on tells command old told step found due tell stage = on_by tells command old told (next_move heap number seat) step found refl due tell stage
+  stage_stands_after_step tells command old told step found due tell stage = on_by tells command old told (next_move heap number seat) step found refl due tell stage
 
 -- a holder goes on by one step
 module _ (first now new : SeatHeld) (step : Step) (found : ℕ) (sound : IsSound now) (due : due_step now.heap now.number now.seat ≡ Some step)
     (stepped : IsStepped now new found) (told : ToldAtStep now.heap now.number now.seat found) where
   -- fewer steps are left, and no more entries are added than were owed
   nears : (steps_left now.heap new.seat < steps_left now.heap now.seat) × (owes new.seat + length new.seat.mine ≤ owes now.seat + length now.seat.mine)
-  nears = step_nears now.heap now.number now.seat sound.limits (omega (arith, sound.within, sound.limits.seats_fit)) sound.fits step found new.seat due stepped.seat_is
+  nears = step_nears_end now.heap now.number now.seat sound.limits (omega (arith, sound.within, sound.limits.seats_fit)) sound.fits step found new.seat due stepped.seat_is
 
-  pub step_falls : steps_left new.heap new.seat < steps_left now.heap now.seat
-  step_falls = subst (λ (h : Heap). steps_left h new.seat < steps_left now.heap now.seat) (sym stepped.heap_stays) nears.0
+  pub step_leaves_fewer : steps_left new.heap new.seat < steps_left now.heap now.seat
+  step_leaves_fewer = subst (λ (h : Heap). steps_left h new.seat < steps_left now.heap now.seat) (sym stepped.heap_stays) nears.0
 
   pub step_leaves_room : owes now.seat + 2 ≤ now.spare → owes new.seat + 2 ≤ new.spare
   step_leaves_room room = omega (arith, room, nears.1, stepped.room_stays)
 
-  pub step_pays : (most : ℕ) → owes now.seat + length now.seat.mine ≤ most → owes new.seat + length new.seat.mine ≤ most
-  step_pays most paid = omega (arith, paid, nears.1)
+  pub step_owes_within_most : (most : ℕ) → owes now.seat + length now.seat.mine ≤ most → owes new.seat + length new.seat.mine ≤ most
+  step_owes_within_most most paid = omega (arith, paid, nears.1)
 
   -- one step more was made
-  pub step_makes : ((made : List Made) × MakesSteps first now made) → (made : List Made) × MakesSteps first new made
-  step_makes steps =
+  pub step_makes_one_more : ((made : List Made) × MakesSteps first now made) → (made : List Made) × MakesSteps first new made
+  step_makes_one_more steps =
       let one = record { step = step; found = found } ∷ [] in
-      (steps.0 ++ one, makes_append first now new steps.0 one steps.1 (makes_one now new step found due told stepped))
+      (steps.0 ++ one, makes_steps_of_append first now new steps.0 one steps.1 (makes_one_step now new step found due told stepped))
 
 -- the step asks for an array's spine words
 abbrev pub AsksForWords : Step → Type 0
@@ -151,18 +151,18 @@ abbrev pub TellsHere : List Made → Step → ℕ → Type 0
 TellsHere made step word = FoundIn made step word ⊎ AsksForWords step
 
 -- another step is one of these
-pub made_here : (made : List Made) (step : Step) (word : ℕ) → (AsksForWords step → ⊥) → TellsHere made step word → FoundIn made step word
-made_here made step word other (inl here) = here
-made_here made step word other (inr asks) = absurd (other asks)
+pub found_in_made_steps : (made : List Made) (step : Step) (word : ℕ) → (AsksForWords step → ⊥) → TellsHere made step word → FoundIn made step word
+found_in_made_steps made step word other (inl here) = here
+found_in_made_steps made step word other (inr asks) = absurd (other asks)
 
 -- a call that stands so stands after all these steps as it is to, where so much is told of each of them
-pub stage_along : (tells : Step → ℕ → Type 0) (heap : Heap) (number : ℕ) (command : Command) (old : Seat) → IsHeap heap → number < 16
+pub stage_stands_along_steps : (tells : Step → ℕ → Type 0) (heap : Heap) (number : ℕ) (command : Command) (old : Seat) → IsHeap heap → number < 16
     → (made : List Made) (seat new : Seat) (told : List Entry) → Fits heap seat → LeadsTo heap number seat made new → ((step : Step) (word : ℕ) → FoundIn made step word → tells step word)
     → OwnStage tells heap number command old seat told → (more : List Entry) × OwnStage tells heap number command old new (told ++ more)
-stage_along tells heap number command old limits few [] seat new told fits leads tell stage =
+stage_stands_along_steps tells heap number command old limits few [] seat new told fits leads tell stage =
     ([], subst (λ (t : List Entry). OwnStage tells heap number command old new t) (sym (append-nil told)) (subst (λ (s : Seat). OwnStage tells heap number command old s told) (sym leads) stage))
-stage_along tells heap number command old limits few (m ∷ made) seat new told fits leads tell stage =
-    let on = stage_on heap number seat limits few fits tells command old told m.step m.found leads.0 (tell m.step m.found (found_first made m)) stage in
-    let rest = stage_along tells heap number command old limits few made (next_seat heap number seat m.found) new (told ++ on.0) leads.1.fits leads.2
-    (λ step word there. tell step word (found_more made m step word there)) on.1 in
+stage_stands_along_steps tells heap number command old limits few (m ∷ made) seat new told fits leads tell stage =
+    let on = stage_stands_after_step heap number seat limits few fits tells command old told m.step m.found leads.0 (tell m.step m.found (found_in_first_step made m)) stage in
+    let rest = stage_stands_along_steps tells heap number command old limits few made (next_seat heap number seat m.found) new (told ++ on.0) leads.1.fits leads.2
+    (λ step word there. tell step word (found_in_longer_steps made m step word there)) on.1 in
     (on.0 ++ rest.0, subst (λ (t : List Entry). OwnStage tells heap number command old new t) (append_assoc told on.0 rest.0) rest.1)

@@ -16,8 +16,8 @@ use Rattle.core_machine.specs.machine.Value.{SeatWithRoom}
 use Rattle.core_machine.specs.seat.Fits.{Fits}
 use Rattle.core_machine.specs.seat.Seat.{Seat}
 use Rattle.core_machine.specs.table.Layout.{at, InTable, table_length}
-use Rattle.core_machine.proofs.machine_lemmas.OpeningMachine.{opening_machine}
-use Rattle.core_rule.proofs.runs.OpeningStands.{opening_stands, opening_seat_at}
+use Rattle.core_machine.proofs.machine_lemmas.OpeningMachine.{opening_is_machine}
+use Rattle.core_rule.proofs.runs.OpeningStands.{opening_stands, seat_at_opening}
 use Rattle.core_rule.specs.told.Told.{IsAsTold}
 use Rattle.heap_table.specs.Begun.{Same}
 use Rattle.heap_table.specs.CollectorHeld.{CollectorHeld, KeepsCollector, seats_in}
@@ -29,11 +29,11 @@ use Rattle.heap_table.specs.SeatHeld.{SeatHeld, KeepsSeat}
 use Rattle.heap_table.specs.TokenOf.{IsTokenOf}
 use Rattle.heap_table.specs.Views.{seat_view, collector_view, known_by, opening_view}
 use Rattle.heap_table.specs.declared.view.View.{View}
-use Rattle.heap_table.proofs.Folding.{none_later}
-use Rattle.heap_table.proofs.Handing.{handing_allowed}
-use Rattle.heap_table.proofs.Places.{none_full}
-use Rattle.heap_table.proofs.SeatSteps.{next_has_word, seat_as_told}
-use Rattle.heap_table.proofs.Turns.{turn_has_word}
+use Rattle.heap_table.proofs.Folding.{seats_stand_before}
+use Rattle.heap_table.proofs.Handing.{handing_is_allowed}
+use Rattle.heap_table.proofs.Places.{all_empty_none_full}
+use Rattle.heap_table.proofs.SeatSteps.{next_step_has_word, state_seat_is_as_told}
+use Rattle.heap_table.proofs.Turns.{next_turn_has_word}
 
 -- the state of these words at the opening
 abbrev opening_state : Heap → List ℕ → State
@@ -44,8 +44,8 @@ module _ (heap : Heap) (words : List ℕ) (limits : IsHeap heap) (long : length 
   is_opening = record { table = long; words_open = opens; seats_open = refl; nothing_done = refl }
 
   -- the rule holds
-  pub holds_opening : Holds heap (opening words [] (opening_view heap))
-  holds_opening =
+  pub rule_holds_at_opening : Holds heap (opening words [] (opening_view heap))
+  rule_holds_at_opening =
       let stands = opening_stands heap (opening_state heap words) limits is_opening in
       record {
         state = opening_state heap words;
@@ -59,30 +59,30 @@ module _ (heap : Heap) (words : List ℕ) (limits : IsHeap heap) (long : length 
           counted = refl;
           few = omega arith;
           places = length-replicate heap.seats None;
-          seats_are = λ s within. opening_seat_at heap (opening_state heap words) s is_opening within;
-          spent = λ s seat folded. absurd (none_full heap.seats s seat folded);
-          gone = λ s seat folded. absurd (none_full heap.seats s seat folded);
+          seats_are = λ s within. seat_at_opening heap (opening_state heap words) s is_opening within;
+          spent = λ s seat folded. absurd (all_empty_none_full heap.seats s seat folded);
+          gone = λ s seat folded. absurd (all_empty_none_full heap.seats s seat folded);
           closed_are = refl;
           still = λ some_read. absurd (omega (arith, some_read));
         };
-        late = λ all. none_later stands.book.history 0 stands.stands.rule.collector_stands.phase_told;
+        late = λ all. seats_stand_before stands.book.history 0 stands.stands.rule.collector_stands.phase_told;
       }
 
   -- each seat may begin whatever it may begin
-  pub each_opens : EachOpens heap
-  each_opens number within =
+  pub each_seat_opens : EachOpens heap
+  each_seat_opens number within =
       let stands = opening_stands heap (opening_state heap words) limits is_opening in
       let there : number < length (opening_state heap words).seats = omega (arith, within, length-map-range_with_len (opening_seat heap) 0 heap.seats) in
-      let is = opening_seat_at heap (opening_state heap words) number is_opening within in (
-        next_has_word heap (opening_state heap words) stands.book number (opening_seat heap number) stands.stands there within is,
-        subst (Fits heap) is ((opening_machine heap (opening_state heap words) limits is_opening).fit number there),
-        subst (IsAsTold heap number) is (seat_as_told heap (opening_state heap words) stands.book number stands.stands.rule within),
+      let is = seat_at_opening heap (opening_state heap words) number is_opening within in (
+        next_step_has_word heap (opening_state heap words) stands.book number (opening_seat heap number) stands.stands there within is,
+        subst (Fits heap) is ((opening_is_machine heap (opening_state heap words) limits is_opening).fit number there),
+        subst (IsAsTold heap number) is (state_seat_is_as_told heap (opening_state heap words) stands.book number stands.stands.rule within),
       )
 
   -- what the collector's holder keeps then
-  pub keeps_opening : (shared mine : TableId) (key : Heap) (me : Me (Unit {0}) View) (places : List (Option SeatWithRoom)) → mine ≡ shared → shared.words ≡ length words → shared.slots ≡ 0 → key ≡ heap
+  pub keeps_collector_at_opening : (shared mine : TableId) (key : Heap) (me : Me (Unit {0}) View) (places : List (Option SeatWithRoom)) → mine ≡ shared → shared.words ≡ length words → shared.slots ≡ 0 → key ≡ heap
       → me ≡ (opening_view heap, []) → places ≡ replicate heap.seats None → KeepsCollector shared key mine me heap opening_collector places 0
-  keeps_opening shared mine key me places same words_are none_ key_is me_is places_are =
+  keeps_collector_at_opening shared mine key me places same words_are none_ key_is me_is places_are =
       let stands = opening_stands heap (opening_state heap words) limits is_opening in
       record {
         token = record {
@@ -95,8 +95,8 @@ module _ (heap : Heap) (words : List ℕ) (limits : IsHeap heap) (long : length 
         a_place_each = ap length places_are ∙ length-replicate heap.seats None;
         folded_is = ap (λ (m : Me (Unit {0}) View). (known_by m.0).folded) me_is;
         unread = ap (λ (m : Me (Unit {0}) View). (known_by m.0).closed) me_is;
-        fits = (opening_machine heap (opening_state heap words) limits is_opening).collector_fit;
-        has_word = turn_has_word heap (opening_state heap words) stands.book stands.stands;
+        fits = (opening_is_machine heap (opening_state heap words) limits is_opening).collector_fit;
+        has_word = next_turn_has_word heap (opening_state heap words) stands.book stands.stands;
       }
     where
       still_empty : (n : ℕ) → seats_in (replicate n None) ≡ replicate n None
@@ -104,16 +104,16 @@ module _ (heap : Heap) (words : List ℕ) (limits : IsHeap heap) (long : length 
       still_empty (suc n) = ap (λ (l : List (Option Seat)). None ∷ l) (still_empty n)
 
 -- a seat that is handed out, with what is known by equations
-pub handing_as : (heap key : Heap) (id : ℕ) (view : View) → key ≡ heap → view ≡ collector_view (known_by view) → (known_by view).handed < heap.seats → (known_by view).closed ≡ []
+pub handing_splits : (heap key : Heap) (id : ℕ) (view : View) → key ≡ heap → view ≡ collector_view (known_by view) → (known_by view).handed < heap.seats → (known_by view).closed ≡ []
     → Splits (Holds key) id view (handing_view view) (handed_view heap view)
-handing_as heap key id view key_is view_is few open_ =
+handing_splits heap key id view key_is view_is few open_ =
     subst (λ (k : Heap). Splits (Holds k) id view (handing_view view) (handed_view heap view)) (sym key_is)
-    (subst (λ (v : View). Splits (Holds heap) id v (handing_view v) (handed_view heap v)) (sym view_is) (handing_allowed heap (known_by view) few open_ id))
+    (subst (λ (v : View). Splits (Holds heap) id v (handing_view v) (handed_view heap v)) (sym view_is) (handing_is_allowed heap (known_by view) few open_ id))
 
 -- what its holder keeps
-pub keeps_handed : (heap key : Heap) (shared mine : TableId) (me : Me (Unit {0}) View) (number : ℕ) (seat : Seat) → EachOpens heap → IsHeap heap → IsTokenOf shared key mine heap
+pub keeps_seat_when_handed : (heap key : Heap) (shared mine : TableId) (me : Me (Unit {0}) View) (number : ℕ) (seat : Seat) → EachOpens heap → IsHeap heap → IsTokenOf shared key mine heap
     → number < heap.seats → me ≡ (seat_view number (opening_seat heap number), []) → seat ≡ opening_seat heap number → KeepsSeat shared key mine me heap number seat
-keeps_handed heap key shared mine me number seat opens limits of within knows is = record {
+keeps_seat_when_handed heap key shared mine me number seat opens limits of within knows is = record {
   of = of;
   limits = limits;
   within = within;
@@ -126,17 +126,17 @@ keeps_handed heap key shared mine me number seat opens limits of within knows is
 }
 
 -- what holds of the holder as contracts see it holds of its parts
-pub few_of : (whole value : CollectorHeld) (number : ℕ) → whole ≡ value → number ≡ value.known.handed → number < value.heap.seats → whole.known.handed < whole.heap.seats
-few_of whole value number is next within = subst (λ (v : CollectorHeld). v.known.handed < v.heap.seats) (sym is) (rw (← next) within)
+pub handed_within_seats : (whole value : CollectorHeld) (number : ℕ) → whole ≡ value → number ≡ value.known.handed → number < value.heap.seats → whole.known.handed < whole.heap.seats
+handed_within_seats whole value number is next within = subst (λ (v : CollectorHeld). v.known.handed < v.heap.seats) (sym is) (rw (← next) within)
 
-pub opens_of : (whole value : CollectorHeld) → whole ≡ value → EachOpens value.heap → EachOpens whole.heap
-opens_of whole value is opens = subst (λ (v : CollectorHeld). EachOpens v.heap) (sym is) opens
+pub holder_opens_each : (whole value : CollectorHeld) → whole ≡ value → EachOpens value.heap → EachOpens whole.heap
+holder_opens_each whole value is opens = subst (λ (v : CollectorHeld). EachOpens v.heap) (sym is) opens
 
-pub next_of : (whole value : CollectorHeld) (number : ℕ) → whole ≡ value → number ≡ value.known.handed → number ≡ whole.known.handed
-next_of whole value number is next = next ∙ ap (λ (v : CollectorHeld). v.known.handed) (sym is)
+pub next_is_handed_count : (whole value : CollectorHeld) (number : ℕ) → whole ≡ value → number ≡ value.known.handed → number ≡ whole.known.handed
+next_is_handed_count whole value number is next = next ∙ ap (λ (v : CollectorHeld). v.known.handed) (sym is)
 
-pub within_of : (whole value : CollectorHeld) (number : ℕ) → whole ≡ value → number < value.heap.seats → number < whole.heap.seats
-within_of whole value number is within = subst (λ (v : CollectorHeld). number < v.heap.seats) (sym is) within
+pub handed_number_within_seats : (whole value : CollectorHeld) (number : ℕ) → whole ≡ value → number < value.heap.seats → number < whole.heap.seats
+handed_number_within_seats whole value number is within = subst (λ (v : CollectorHeld). number < v.heap.seats) (sym is) within
 
 -- these are the holders of the first seats, in their order
 pub record AreOpened (table : TableId) (heap : Heap) (count : ℕ) (holders : List SeatHeld) : Type 0 where
@@ -144,8 +144,8 @@ pub record AreOpened (table : TableId) (heap : Heap) (count : ℕ) (holders : Li
   pub each : All (IsOpened table heap) holders
 
 -- with one more there is one more
-pub one_more_opened : (table : TableId) (heap : Heap) (count : ℕ) (holders : List SeatHeld) (next : SeatHeld) → AreOpened table heap count holders → IsOpened table heap next → next.number ≡ count → AreOpened table heap (count + 1) (holders ++ next ∷ [])
-one_more_opened table heap count holders next opened is number = record {
+pub are_opened_with_next : (table : TableId) (heap : Heap) (count : ℕ) (holders : List SeatHeld) (next : SeatHeld) → AreOpened table heap count holders → IsOpened table heap next → next.number ≡ count → AreOpened table heap (count + 1) (holders ++ next ∷ [])
+are_opened_with_next table heap count holders next opened is number = record {
   numbers = map-append (λ (held : SeatHeld). held.number) holders (next ∷ []) ∙ ap (λ (l : List ℕ). l ++ next.number ∷ []) opened.numbers ∙ ap (λ (n : ℕ). range_with_len 0 count ++ n ∷ []) number
       ∙ sym (numbers_more count);
   each = All-append (IsOpened table heap) holders (next ∷ []) opened.each (All-cons (IsOpened table heap) next [] is (All-nil (IsOpened table heap)));

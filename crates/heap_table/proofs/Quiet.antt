@@ -129,9 +129,9 @@ same_due seat None step n m due quiet same = refl
 same_due seat (Some move) step n m due quiet same = let is : move.step ≡ step = cc in same (ap is_quiet is ∙ quiet)
 
 -- after a quiet step the seat is the same whatever word was found
-pub quiet_seat : (heap : Heap) (number : ℕ) (seat : Seat) (step : Step) (n m : ℕ) → due_step heap number seat ≡ Some step → is_quiet step ≡ true
+pub quiet_seat_ignores_word : (heap : Heap) (number : ℕ) (seat : Seat) (step : Step) (n m : ℕ) → due_step heap number seat ≡ Some step → is_quiet step ≡ true
     → next_seat heap number seat n ≡ next_seat heap number seat m
-quiet_seat heap number seat step n m due quiet = same_due seat (next_move heap number seat) step n m due quiet (same_at heap number seat n m seat.place)
+quiet_seat_ignores_word heap number seat step n m due quiet = same_due seat (next_move heap number seat) step n m due quiet (same_at heap number seat n m seat.place)
 
 -- where the turn's step is quiet, the collector after it is the same
 abbrev TurnsSame : ℕ → ℕ → TurnMove → Type 0
@@ -164,9 +164,9 @@ turned_same heap collector n m (stages.Ending kept) = λ e. refl
 turned_same heap collector n m stages.Advancing = λ e. refl
 
 -- after a quiet turn the collector is the same whatever word was found
-pub quiet_collector : (heap : Heap) (collector : Collector) (n m : ℕ) → is_quiet (next_turn heap collector).step ≡ true
+pub quiet_collector_ignores_word : (heap : Heap) (collector : Collector) (n m : ℕ) → is_quiet (next_turn heap collector).step ≡ true
     → next_collector heap collector n ≡ next_collector heap collector m
-quiet_collector heap collector n m quiet = turned_same heap collector n m collector.stage quiet
+quiet_collector_ignores_word heap collector n m quiet = turned_same heap collector n m collector.stage quiet
 
 -- and its answer is
 answered_same : (heap : Heap) (collector : Collector) (n m : ℕ) (stage : Stage) → is_quiet (turn_at heap collector stage).step ≡ true
@@ -174,6 +174,6 @@ answered_same : (heap : Heap) (collector : Collector) (n m : ℕ) (stage : Stage
 answered_same heap collector n m stages.Looking e = cc
 answered_same heap collector n m _ e = refl
 
-pub quiet_answer : (heap : Heap) (collector : Collector) (n m : ℕ) → is_quiet (next_turn heap collector).step ≡ true
+pub quiet_answer_ignores_word : (heap : Heap) (collector : Collector) (n m : ℕ) → is_quiet (next_turn heap collector).step ≡ true
     → (next_turn heap collector).answer n ≡ (next_turn heap collector).answer m
-quiet_answer heap collector n m quiet = answered_same heap collector n m collector.stage quiet
+quiet_answer_ignores_word heap collector n m quiet = answered_same heap collector n m collector.stage quiet

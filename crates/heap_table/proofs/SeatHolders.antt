@@ -26,13 +26,13 @@ use Rattle.core_machine.specs.seat.Seat.{Seat, need}
 use Rattle.core_machine.specs.table.Decode.{FoundPointsWithin}
 use Rattle.core_machine.specs.table.Layout.{index_of, HasWord}
 use Rattle.core_machine.specs.table.Operation.{address_of, operation_of, operation_result, word_after}
-use Rattle.core_machine.proofs.moves.{move_stands, begin_stands}
+use Rattle.core_machine.proofs.moves.{due_move_stands, begin_stands}
 use Rattle.core_machine.proofs.moves.Collect.{inner_stands}
 use Rattle.core_machine.proofs.moves.Standing.{MoveStands}
 use Rattle.core_rule.specs.cycle.Flight.{WhileAccess}
 use Rattle.core_rule.specs.told.Reached.{HasReached}
 use Rattle.core_rule.specs.told.Told.{IsAsTold}
-use Rattle.core_rule.proofs.told.StoredWords.{store_tells}
+use Rattle.core_rule.proofs.told.StoredWords.{store_tells_found}
 use Rattle.heap_table.specs.Begun.{MayHaveBegun, Same, Begun, BegunInner, next_seat, NextHasWord}
 use Rattle.heap_table.specs.Holds.{Holds}
 use Rattle.heap_table.specs.Quiet.{is_quiet}
@@ -41,9 +41,9 @@ use Rattle.heap_table.specs.Told.{ToldAtStep, Tells, TellsStored}
 use Rattle.heap_table.specs.TokenOf.{IsTokenOf}
 use Rattle.heap_table.specs.Views.{seat_view}
 use Rattle.heap_table.specs.declared.view.View.{View}
-use Rattle.heap_table.proofs.Quiet.{quiet_seat, store_is_quiet}
-use Rattle.heap_table.proofs.SeatSteps.{seat_allows}
-use Rattle.heap_table.proofs.Stored.{tells_stored}
+use Rattle.heap_table.proofs.Quiet.{quiet_seat_ignores_word, store_is_quiet}
+use Rattle.heap_table.proofs.SeatSteps.{rule_allows_seat_step}
+use Rattle.heap_table.proofs.Stored.{tells_stored_of_store}
 
 -- a call that was begun is in flight
 opened_busy : (seat : Seat) (register : Register) → (access_start seat register).place ≡ Idle → ⊥
@@ -100,32 +100,32 @@ module _ (shared : TableId) (key : Heap) (mine : TableId) (me : Me (Unit {0}) Vi
 
   module _ (step : Step) (due : due_step heap number seat ≡ Some step) where
     -- the step has its word
-    pub has_word : HasWord heap (address_of step)
-    has_word = of_due (due_step heap number seat) due (keeps.has_word seat keeps.begun)
+    pub step_has_its_word : HasWord heap (address_of step)
+    step_has_its_word = of_due (due_step heap number seat) due (keeps.has_word seat keeps.begun)
       where
         of_due : (it : Option Step) → it ≡ Some step → IfSome it (λ s. HasWord heap (address_of s)) → HasWord heap (address_of step)
         of_due None is has = cc
         of_due (Some other) is has = let same : other ≡ step = cc in subst (λ (s : Step). HasWord heap (address_of s)) same has
 
     -- the rule allows it
-    pub step_allowed : (slots id : ℕ) (key' : Heap) → slots ≡ shared.slots → key' ≡ key → Allows (Holds key') slots id me (index_of heap (address_of step)) (word_after step) SeatTells
-    step_allowed slots id key' slots_are key_is =
+    pub step_is_allowed : (slots id : ℕ) (key' : Heap) → slots ≡ shared.slots → key' ≡ key → Allows (Holds key') slots id me (index_of heap (address_of step)) (word_after step) SeatTells
+    step_is_allowed slots id key' slots_are key_is =
         let none_ : slots ≡ 0 = slots_are ∙ ap (λ (z : TableId). z.slots) (sym keeps.of.table) ∙ keeps.of.slots in
         subst (λ (k : Heap). Allows (Holds k) slots id me (index_of heap (address_of step)) (word_after step) SeatTells) (sym (key_is ∙ keeps.of.key_is))
         (subst (λ (k : ℕ). Allows (Holds heap) k id me (index_of heap (address_of step)) (word_after step) SeatTells) (sym none_)
         (subst (λ (m : Me (Unit {0}) View). Allows (Holds heap) 0 id m (index_of heap (address_of step)) (word_after step) (Tells (λ n. seat_view number (next_seat heap number seat n)) (ToldAtStep heap number seat) m)) (sym keeps.knows)
-        (seat_allows heap number keeps.old seat step keeps.begun due id)))
+        (rule_allows_seat_step heap number keeps.old seat step keeps.begun due id)))
 
     -- of a store, it tells what goes with the word stored
-    pub step_stored : TellsStored (operation_of step) SeatTells
-    step_stored = tells_stored (operation_of step) SeatTells (λ word is found after tells.
-        let same = quiet_seat heap number seat step found word due (store_is_quiet step word is) in (
+    pub step_tells_stored : TellsStored (operation_of step) SeatTells
+    step_tells_stored = tells_stored_of_store (operation_of step) SeatTells (λ word is found after tells.
+        let same = quiet_seat_ignores_word heap number seat step found word due (store_is_quiet step word is) in (
           tells.0 ∙ ap (λ (s : Seat). (seat_view number s, me.1)) same,
           record {
-            leads = stored_leads heap number seat (next_move heap number seat) step word found due is (move_stands heap number seat keeps.limits few keeps.fits) tells.1.leads;
+            leads = stored_leads heap number seat (next_move heap number seat) step word found due is (due_move_stands heap number seat keeps.limits few keeps.fits) tells.1.leads;
             fits = subst (Fits heap) same tells.1.fits;
             has_word = subst (NextHasWord heap number) same tells.1.has_word;
-            tells = store_tells heap number seat word word step is due;
+            tells = store_tells_found heap number seat word word step is due;
             own = subst (IsAsTold heap number) same tells.1.own;
             comes = subst (λ (s : Seat). WhileAccess (HasReached heap number s) s.place) same tells.1.comes;
           },
@@ -135,13 +135,13 @@ module _ (shared : TableId) (key : Heap) (mine : TableId) (me : Me (Unit {0}) Vi
         few = omega (arith, keeps.within, keeps.limits.seats_fit)
 
   -- without a call in flight the seat has what its own list tells
-  pub idle_told : seat.place ≡ Idle → IsAsTold heap number seat
-  idle_told idle = subst (IsAsTold heap number) (sym (idle_same heap number keeps.old seat keeps.begun idle)) keeps.own
+  pub idle_is_as_told : seat.place ≡ Idle → IsAsTold heap number seat
+  idle_is_as_told idle = subst (IsAsTold heap number) (sym (idle_same heap number keeps.old seat keeps.begun idle)) keeps.own
 
   -- what it keeps after the step
-  pub keeps_stepped : (mine' : TableId) (me' : Me (Unit {0}) View) (next : Seat) (found : ℕ) → mine' ≡ mine → SeatTells found me' → next ≡ next_seat heap number seat found
+  pub keeps_seat_after_step : (mine' : TableId) (me' : Me (Unit {0}) View) (next : Seat) (found : ℕ) → mine' ≡ mine → SeatTells found me' → next ≡ next_seat heap number seat found
       → KeepsSeat shared key mine' me' heap number next
-  keeps_stepped mine' me' next found same tells is = record {
+  keeps_seat_after_step mine' me' next found same tells is = record {
     of = subst (λ (z : TableId). IsTokenOf shared key z heap) (sym same) keeps.of;
     limits = keeps.limits;
     within = keeps.within;
@@ -168,37 +168,37 @@ module _ (shared : TableId) (key : Heap) (mine : TableId) (me : Me (Unit {0}) Vi
   }
 
   -- so after a begin
-  pub keeps_begun : (command : Command) (next : Seat) → MayBegin seat command → next ≡ after_begin heap seat command → KeepsSeat shared key mine me heap number next
-  keeps_begun command next may is =
+  pub keeps_seat_after_begin : (command : Command) (next : Seat) → MayBegin seat command → next ≡ after_begin heap seat command → KeepsSeat shared key mine me heap number next
+  keeps_seat_after_begin command next may is =
       let same = idle_same heap number keeps.old seat keeps.begun may.idle in
       keeps_for next (Begun command (subst (λ (s : Seat). MayBegin s command) same may) (is ∙ ap (λ (s : Seat). after_begin heap s command) same))
       (subst (Fits heap) (sym is) (begin_stands heap number seat command keeps.limits keeps.fits may).fits)
 
-  pub keeps_begun_inner : (inner : Inner) (next : Seat) → MayBeginInner heap number seat inner → next ≡ after_inner_begin seat inner → KeepsSeat shared key mine me heap number next
-  keeps_begun_inner inner next may is =
+  pub keeps_seat_after_inner : (inner : Inner) (next : Seat) → MayBeginInner heap number seat inner → next ≡ after_inner_begin seat inner → KeepsSeat shared key mine me heap number next
+  keeps_seat_after_inner inner next may is =
       let same = idle_same heap number keeps.old seat keeps.begun may.idle in
       keeps_for next (BegunInner inner (subst (λ (s : Seat). MayBeginInner heap number s inner) same may) (is ∙ ap (λ (s : Seat). after_inner_begin s inner) same))
       (subst (Fits heap) (sym is) (inner_stands heap number seat inner keeps.fits may).fits)
 
 -- what holds of the holder as contracts see it holds of its parts
-pub due_of : (whole value : SeatHeld) (step : Step) → whole ≡ value → due_step value.heap value.number value.seat ≡ Some step → due_step whole.heap whole.number whole.seat ≡ Some step
-due_of whole value step is due = subst (λ (h : SeatHeld). due_step h.heap h.number h.seat ≡ Some step) (sym is) due
+pub due_step_is_step : (whole value : SeatHeld) (step : Step) → whole ≡ value → due_step value.heap value.number value.seat ≡ Some step → due_step whole.heap whole.number whole.seat ≡ Some step
+due_step_is_step whole value step is due = subst (λ (h : SeatHeld). due_step h.heap h.number h.seat ≡ Some step) (sym is) due
 
-pub may_of : (whole value : SeatHeld) (command : Command) → whole ≡ value → MayBegin value.seat command → MayBegin whole.seat command
-may_of whole value command is may = subst (λ (h : SeatHeld). MayBegin h.seat command) (sym is) may
+pub holder_may_begin : (whole value : SeatHeld) (command : Command) → whole ≡ value → MayBegin value.seat command → MayBegin whole.seat command
+holder_may_begin whole value command is may = subst (λ (h : SeatHeld). MayBegin h.seat command) (sym is) may
 
-pub may_inner_of : (whole value : SeatHeld) (inner : Inner) → whole ≡ value → MayBeginInner value.heap value.number value.seat inner → MayBeginInner whole.heap whole.number whole.seat inner
-may_inner_of whole value inner is may = subst (λ (h : SeatHeld). MayBeginInner h.heap h.number h.seat inner) (sym is) may
+pub holder_may_begin_inner : (whole value : SeatHeld) (inner : Inner) → whole ≡ value → MayBeginInner value.heap value.number value.seat inner → MayBeginInner whole.heap whole.number whole.seat inner
+holder_may_begin_inner whole value inner is may = subst (λ (h : SeatHeld). MayBeginInner h.heap h.number h.seat inner) (sym is) may
 
-pub told_of : (whole value : SeatHeld) → whole ≡ value → (whole.seat.place ≡ Idle → IsAsTold whole.heap whole.number whole.seat) → value.seat.place ≡ Idle → IsAsTold value.heap value.number value.seat
-told_of whole value is told = subst (λ (h : SeatHeld). h.seat.place ≡ Idle → IsAsTold h.heap h.number h.seat) is told
+pub holder_is_as_told : (whole value : SeatHeld) → whole ≡ value → (whole.seat.place ≡ Idle → IsAsTold whole.heap whole.number whole.seat) → value.seat.place ≡ Idle → IsAsTold value.heap value.number value.seat
+holder_is_as_told whole value is told = subst (λ (h : SeatHeld). h.seat.place ≡ Idle → IsAsTold h.heap h.number h.seat) is told
 
 -- after a quiet step no found word matters
-pub quietly_stepped : (old new : SeatHeld) (step : Step) (found : ℕ) → due_step old.heap old.number old.seat ≡ Some step → is_quiet step ≡ true → IsStepped old new found → IsStepped old new 0
-quietly_stepped old new step found due quiet stepped = record {
+pub quiet_step_is_stepped : (old new : SeatHeld) (step : Step) (found : ℕ) → due_step old.heap old.number old.seat ≡ Some step → is_quiet step ≡ true → IsStepped old new found → IsStepped old new 0
+quiet_step_is_stepped old new step found due quiet stepped = record {
   table_stays = stepped.table_stays;
   heap_stays = stepped.heap_stays;
   number_stays = stepped.number_stays;
-  seat_is = stepped.seat_is ∙ quiet_seat old.heap old.number old.seat step found 0 due quiet;
+  seat_is = stepped.seat_is ∙ quiet_seat_ignores_word old.heap old.number old.seat step found 0 due quiet;
   room_stays = stepped.room_stays;
 }

@@ -19,7 +19,7 @@ use Rattle.core_machine.specs.Moves.{Move, next_move, due_step, seat_after, seat
 use Rattle.core_machine.specs.machine.Machine.{State, seat_at, found_by, Begins, BeginsInner, Steps, state_after, state_after_due, entries}
 use Rattle.core_machine.specs.seat.Fits.{Fits}
 use Rattle.core_machine.specs.seat.Seat.{Seat, absent_seat}
-use Rattle.core_machine.proofs.machine_lemmas.Runs.{due_within_table}
+use Rattle.core_machine.proofs.machine_lemmas.Runs.{due_word_in_table}
 use Rattle.core_rule.specs.Book.{Book}
 use Rattle.core_rule.specs.runs.Laws.{StandsFor}
 use Rattle.core_rule.specs.cycle.Flight.{WhileAccess}
@@ -41,7 +41,7 @@ use Rattle.heap_table.specs.Told.{ToldAtStep, Tells}
 use Rattle.heap_table.specs.Views.{seat_view}
 use Rattle.heap_table.specs.declared.view.View.{View}
 use Rattle.heap_table.specs.declared.view.View.TheVariants.{Spent}
-use Rattle.heap_table.proofs.Knowers.{IsSeats, is_seats, not_spent}
+use Rattle.heap_table.proofs.Knowers.{IsSeats, holder_is_seats, holder_is_not_spent}
 
 -- the state with this seat in its place
 abbrev pub with_seat : State → ℕ → Seat → State
@@ -65,9 +65,9 @@ unfolding EachStepHasItsWord
 step_has_word heap state book number stands within = each_step_has_its_word heap state book number stands.rule within
 
 -- also where a call is begun first
-pub next_has_word : (heap : Heap) (state : State) (book : Book) (number : ℕ) (old : Seat) → Stands heap state book → number < length state.seats → number < heap.seats
+pub next_step_has_word : (heap : Heap) (state : State) (book : Book) (number : ℕ) (old : Seat) → Stands heap state book → number < length state.seats → number < heap.seats
     → seat_at state number ≡ old → NextHasWord heap number old
-next_has_word heap state book number old stands there within is seat begun =
+next_step_has_word heap state book number old stands there within is seat begun =
     let next = begun_stands heap state book number old seat stands there is begun in
     subst (StepHasWord heap number) (get_or-set_same state.seats number seat absent_seat there)
     (step_has_word heap (with_seat state number seat) next.0 number next.1 within)
@@ -80,9 +80,9 @@ found_at_step heap state book number stands within step due =
     subst (λ (o : Option Step). IfSome o (λ s. TellsFound heap number (seat_at state number) (found_by heap state s))) due (each_found_is_told heap state book number stands within)
 
 -- the seat's data are what its own list tells
-pub seat_as_told : (heap : Heap) (state : State) (book : Book) (number : ℕ) → Rule heap state book → number < heap.seats → IsAsTold heap number (seat_at state number)
+pub state_seat_is_as_told : (heap : Heap) (state : State) (book : Book) (number : ℕ) → Rule heap state book → number < heap.seats → IsAsTold heap number (seat_at state number)
 unfolding EachSeatIsAsTold
-seat_as_told heap state book number rule within = each_seat_is_as_told heap state book number rule within
+state_seat_is_as_told heap state book number rule within = each_seat_is_as_told heap state book number rule within
 
 -- and a call on an object has reached its own
 reached_so : (heap : Heap) (state : State) (book : Book) (number : ℕ) (seat : Seat) (place : Place) → Stands heap state book → seat_at state number ≡ seat
@@ -96,9 +96,9 @@ seat_has_reached heap state book number stands within =
     reached_so heap state book number (seat_at state number) (seat_at state number).place stands refl (each_reaches_own heap state book number stands.rule within)
 
 -- a word is read at its place
-pub at_is : (heap : Heap) (words : List ℕ) (a : Address) → at heap words a ≡ get_or words (index_of heap a) 0
+pub at_is_read_at_index : (heap : Heap) (words : List ℕ) (a : Address) → at heap words a ≡ get_or words (index_of heap a) 0
 unfolding at
-at_is heap words a = refl
+at_is_read_at_index heap words a = refl
 
 -- what the due step does to the state: one word and the seat change
 moved : (heap : Heap) (state : State) (number : ℕ) (seat : Seat) (step : Step) (move : Option Move) → option_map (λ m. m.step) move ≡ Some step
@@ -143,7 +143,7 @@ state_stepped heap table number old holds its now index word seat words seats co
 }
   where
     still_viewed : get_elem? table.views (suc number) ≡ some Spent → ⊥
-    still_viewed e = not_spent number old (some-injective _ _ (sym e ∙ its.viewed))
+    still_viewed e = holder_is_not_spent number old (some-injective _ _ (sym e ∙ its.viewed))
 
     seat_here : (s : ℕ) → s ≡ number → IsSeatOf heap holds.known.seats s (get_elem? (set table.views (suc number) (seat_view number seat)) (suc s)) (seat_at now s)
     seat_here s e =
@@ -153,7 +153,7 @@ state_stepped heap table number old holds its now index word seat words seats co
 
 -- while this seat has a view, not every one was folded in
 not_all : (heap : Heap) (table : Table (Unit {0}) View) (number : ℕ) (old : Seat) (holds : Holds heap table) (its : IsSeats heap table (suc number) number old holds) → AllFolded heap holds.known.seats → ⊥
-not_all heap table number old holds its all = not_spent number old (some-injective _ _ (sym (holds.is.spent number (all number its.within).0 (all number its.within).1) ∙ its.viewed))
+not_all heap table number old holds its all = holder_is_not_spent number old (some-injective _ _ (sym (holds.is.spent number (all number its.within).0 (all number its.within).1) ∙ its.viewed))
 
 module _ (heap : Heap) (number : ℕ) (old seat : Seat) (step : Step) (ahead : MayHaveBegun heap number old seat) (due : due_step heap number seat ≡ Some step) where
   module _ (table : Table (Unit {0}) View) (holds : Holds heap table) (its : IsSeats heap table (suc number) number old holds) where
@@ -217,24 +217,24 @@ module _ (heap : Heap) (number : ℕ) (old seat : Seat) (step : Step) (ahead : M
     -- and tells what it tells of the word found
     pub told_stepped : ToldAtStep heap number seat found
     told_stepped =
-        let led = (due_within_table heap (with_seat holds.state number seat) number step begun.1.rule.machine (omega (arith, there, length-set holds.state.seats number seat)) due_here).1 in
+        let led = (due_word_in_table heap (with_seat holds.state number seat) number step begun.1.rule.machine (omega (arith, there, length-set holds.state.seats number seat)) due_here).1 in
         let is : found_by heap (with_seat holds.state number seat) step ≡ found =
-        at_is heap holds.state.words (address_of step) ∙ ap (λ (l : List ℕ). get_or l (index_of heap (address_of step)) 0) holds.is.words_are in
+        at_is_read_at_index heap holds.state.words (address_of step) ∙ ap (λ (l : List ℕ). get_or l (index_of heap (address_of step)) 0) holds.is.words_are in
         record {
           leads = subst (λ (n : ℕ). IfSome (next_move heap number seat) (λ m. FoundPointsWithin heap (address_of m.step) n)) is
               (subst (λ (s : Seat). IfSome (next_move heap number s) (λ m. FoundPointsWithin heap (address_of m.step) (found_by heap (with_seat holds.state number seat) step))) here led);
           fits = subst (Fits heap) seat_now (stands.rule.machine.fit number there_now);
-          has_word = next_has_word heap now kept.book number (next_seat heap number seat found) stands there_now its.within seat_now;
+          has_word = next_step_has_word heap now kept.book number (next_seat heap number seat found) stands there_now its.within seat_now;
           tells = subst (TellsFound heap number seat) is (subst (λ (s : Seat). TellsFound heap number s (found_by heap (with_seat holds.state number seat) step)) here
               (found_at_step heap (with_seat holds.state number seat) begun.0 number begun.1 its.within step due_here));
-          own = subst (IsAsTold heap number) seat_now (seat_as_told heap now kept.book number stands.rule its.within);
+          own = subst (IsAsTold heap number) seat_now (state_seat_is_as_told heap now kept.book number stands.rule its.within);
           comes = subst (λ (s : Seat). WhileAccess (HasReached heap number s) s.place) seat_now (seat_has_reached heap now kept.book number stands its.within);
         }
 
-  pub seat_allows : (id : ℕ) → Allows (Holds heap) 0 id (seat_view number old, []) (index_of heap (address_of step)) (word_after step)
+  pub rule_allows_seat_step : (id : ℕ) → Allows (Holds heap) 0 id (seat_view number old, []) (index_of heap (address_of step)) (word_after step)
       (Tells (λ n. seat_view number (next_seat heap number seat n)) (ToldAtStep heap number seat) (seat_view number old, []))
-  seat_allows id table holds none_home at_ small =
-      let first = is_seats heap table id number old holds at_ in
+  rule_allows_seat_step id table holds none_home at_ small =
+      let first = holder_is_seats heap table id number old holds at_ in
       let its = subst (λ (i : ℕ). IsSeats heap table i number old holds) first.id_is first in
       let n = get_or table.words (index_of heap (address_of step)) 0 in (
         seat_view number (next_seat heap number seat n),

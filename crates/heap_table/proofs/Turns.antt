@@ -27,7 +27,7 @@ use Rattle.core_rule.specs.runs.Laws.{IsToldBy, StandsFor}
 use Rattle.core_rule.specs.Stands.{Stands}
 use Rattle.core_rule.specs.runs.TableLaws.{EachTurnHasItsWord}
 use Rattle.core_rule.proofs.held.DueWords.{each_turn_has_its_word}
-use Rattle.core_rule.proofs.runs.ComingTurns.{each_turn_comes_to, turn_collects}
+use Rattle.core_rule.proofs.runs.ComingTurns.{each_turn_comes_to, turn_adds_collector_entries}
 use Rattle.core_rule.proofs.runs.KeptRuns.{event_keeps}
 use Rattle.heap_table.specs.Folded.{IsFolded, AllFolded, SeatsBefore}
 use Rattle.heap_table.specs.Holds.{IsSeatOf, Holds}
@@ -35,13 +35,13 @@ use Rattle.heap_table.specs.Known.{CollectorKnown}
 use Rattle.heap_table.specs.Told.{next_collector, next_known, TurnComesTo, TurnHasWord, ToldAtTurn, Tells}
 use Rattle.heap_table.specs.Views.{collector_view}
 use Rattle.heap_table.specs.declared.view.View.{View}
-use Rattle.heap_table.proofs.Knowers.{IsCollectors, is_collectors}
-use Rattle.heap_table.proofs.SeatSteps.{at_is}
+use Rattle.heap_table.proofs.Knowers.{IsCollectors, holder_is_collectors}
+use Rattle.heap_table.proofs.SeatSteps.{at_is_read_at_index}
 
 -- by the rule the next turn has its word
-pub turn_has_word : (heap : Heap) (state : State) (book : Book) → Stands heap state book → TurnHasWord heap state.collector
+pub next_turn_has_word : (heap : Heap) (state : State) (book : Book) → Stands heap state book → TurnHasWord heap state.collector
 unfolding EachTurnHasItsWord
-turn_has_word heap state book stands = each_turn_has_its_word heap state book stands.rule
+next_turn_has_word heap state book stands = each_turn_has_its_word heap state book stands.rule
 
 put_is : (heap : Heap) (words : List ℕ) (a : Address) (word : ℕ) → put heap words a word ≡ set words (index_of heap a) word
 unfolding put
@@ -89,7 +89,7 @@ module _ (heap : Heap) (known : CollectorKnown) (step : Step) (due : (next_turn 
     }
 
     finds : found_by heap holds.state step ≡ found
-    finds = at_is heap holds.state.words (address_of step) ∙ ap (λ (l : List ℕ). get_or l (index_of heap (address_of step)) 0) holds.is.words_are
+    finds = at_is_read_at_index heap holds.state.words (address_of step) ∙ ap (λ (l : List ℕ). get_or l (index_of heap (address_of step)) 0) holds.is.words_are
 
     state_is : state_after heap holds.state Turns ≡ now
     state_is =
@@ -138,7 +138,7 @@ module _ (heap : Heap) (known : CollectorKnown) (step : Step) (due : (next_turn 
       stands = stands;
       late = λ all. seats_stay_before known.folded holds.book.history (entries heap holds.state Turns) kept.book.history
           (subst (λ (k : CollectorKnown). SeatsBefore k.folded holds.book.history) its.known_is (holds.late (subst (λ (k : CollectorKnown). AllFolded heap k.seats) (sym its.known_is) all)))
-          (turn_collects heap holds.state) kept.grown;
+          (turn_adds_collector_entries heap holds.state) kept.grown;
     }
 
     -- the turn's answer by the state is that by the own data
@@ -171,14 +171,14 @@ module _ (heap : Heap) (known : CollectorKnown) (step : Step) (due : (next_turn 
           (holds.stands.rule.machine.leads (address_of step)
           (subst (λ (s : Step). InTable heap (address_of s)) due (turn_stands heap known.collector holds.stands.rule.machine.limits (subst (CollectorFits heap) collector_is holds.stands.rule.machine.collector_fit)).step.in_table)));
       fits = stands.rule.machine.collector_fit;
-      has_word = turn_has_word heap now kept.book stands;
+      has_word = next_turn_has_word heap now kept.book stands;
       comes_to = comes_to;
     }
 
-  pub turn_allows : (id : ℕ) → Allows (Holds heap) 0 id (collector_view known, []) (index_of heap (address_of step)) (word_after step)
+  pub rule_allows_turn : (id : ℕ) → Allows (Holds heap) 0 id (collector_view known, []) (index_of heap (address_of step)) (word_after step)
       (Tells (λ n. collector_view (next_known heap known n)) (ToldAtTurn heap known.collector) (collector_view known, []))
-  turn_allows id table holds none_home at_ small =
-      let first = is_collectors heap table id known holds at_ in
+  rule_allows_turn id table holds none_home at_ small =
+      let first = holder_is_collectors heap table id known holds at_ in
       let its = subst (λ (i : ℕ). IsCollectors heap table i known holds) first.id_is first in
       let n = get_or table.words (index_of heap (address_of step)) 0 in (
         collector_view (next_known heap known n),
@@ -210,5 +210,5 @@ module _ (heap : Heap) (collector : Collector) (fits : CollectorFits heap collec
   may_at (stages.Returning group words) = tt
   may_at (stages.Clearing group kept) = tt
 
-  pub may_turn : (next_turn heap collector).may
-  may_turn = may_at collector.stage
+  pub next_turn_may : (next_turn heap collector).may
+  next_turn_may = may_at collector.stage

@@ -5,7 +5,7 @@ use Rattle.std.proofs.lemmas.Bool.Decides.{leb_tells}
 use Rattle.std.proofs.lemmas.Nat.{shr-shr, shr_le, shr_below}
 use Rattle.std.proofs.lemmas.Nat.Bits.{bit_at-zero, bit_at_above, bit_at-trailing_zeros}
 use Rattle.heap_words.specs.Control.{next_place_of}
-use Rattle.heap_words.proofs.Finding.{find_first, find_none}
+use Rattle.heap_words.proofs.Finding.{found_is_first_passing, none_passing_none_found}
 
 -- a set bit of a number of k bits is one of the k
 bit_within : (n k i : ℕ) → n < 2 ^ k → bit_at n i ≡ 1 → i < k
@@ -26,16 +26,16 @@ module _ (bits from : ℕ) (few : bits < 2 ^ 16) (within : from < 16) where
       shr_below bits (16 - from) from (subst (λ k. bits < 2 ^ k) (sym all) few)
 
   -- where no bit is left there is no place
-  pub no_next : bits / 2 ^ from ≡ 0 → next_place_of bits from ≡ None
-  no_next none = find_none (λ place. eqb (bit_at bits place) 1) from (16 - from)
+  pub no_bit_no_next_place : bits / 2 ^ from ≡ 0 → next_place_of bits from ≡ None
+  no_bit_no_next_place none = none_passing_none_found (λ place. eqb (bit_at bits place) 1) from (16 - from)
       (λ i after _. ap (λ b. eqb b 1) (rest_bit i after ∙ ap (λ n. bit_at n (i - from)) none ∙ bit_at-zero (i - from)))
 
   -- else the lowest bit that is left is the place's
-  pub next_is : (bits / 2 ^ from ≡ 0 → ⊥) → next_place_of bits from ≡ Some (from + trailing_zeros w16 (bits / 2 ^ from))
-  next_is some =
+  pub lowest_bit_is_next_place : (bits / 2 ^ from ≡ 0 → ⊥) → next_place_of bits from ≡ Some (from + trailing_zeros w16 (bits / 2 ^ from))
+  lowest_bit_is_next_place some =
       let lowest = bit_at-trailing_zeros w16 (bits / 2 ^ from) (omega (arith, some)) (omega (arith, shr_le bits from)) in
       let low = bit_within (bits / 2 ^ from) (16 - from) (trailing_zeros w16 (bits / 2 ^ from)) rest_few lowest.1 in
       let same : from + trailing_zeros w16 (bits / 2 ^ from) - from ≡ trailing_zeros w16 (bits / 2 ^ from) = omega arith in
-      find_first (λ place. eqb (bit_at bits place) 1) from (16 - from) (from + trailing_zeros w16 (bits / 2 ^ from)) (omega arith) (omega (arith, low))
+      found_is_first_passing (λ place. eqb (bit_at bits place) 1) from (16 - from) (from + trailing_zeros w16 (bits / 2 ^ from)) (omega arith) (omega (arith, low))
       (ap (λ b. eqb b 1) (rest_bit _ (omega arith) ∙ ap (bit_at (bits / 2 ^ from)) same ∙ lowest.1))
       (λ i after below. ap (λ b. eqb b 1) (rest_bit i after ∙ lowest.2 (i - from) (omega arith)))

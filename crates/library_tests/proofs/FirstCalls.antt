@@ -8,8 +8,8 @@ use Rattle.core_machine.specs.seat.Seat.{Seat}
 use Rattle.heap_table.specs.SeatHeld.{SeatHeld}
 use Rattle.mutator_seat.specs.Resting.{IsBetweenCalls}
 
-pub between_at_first : (heap : Heap) (held : SeatHeld) → held.seat ≡ opening_seat heap held.number → IsBetweenCalls held
-between_at_first heap held opens = record {
+pub first_is_between_calls : (heap : Heap) (held : SeatHeld) → held.seat ≡ opening_seat heap held.number → IsBetweenCalls held
+first_is_between_calls heap held opens = record {
   idle = ap (λ (seat : Seat). seat.place) opens;
   own = subst (All (IsOwn held.number)) (sym (ap (λ (seat : Seat). seat.mine) opens)) (All-nil (IsOwn held.number));
   stamps = omega (arith, ap (λ (seat : Seat). seat.sets) opens);

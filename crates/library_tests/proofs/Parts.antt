@@ -6,10 +6,10 @@ use Rattle.core_machine.specs.machine.Machine.{MayBegin, after_begin}
 use Rattle.heap_table.specs.Made.{IsSound}
 use Rattle.heap_table.specs.SeatHeld.{SeatHeld}
 use Rattle.frag_claim.specs.Begins.{BeginsGathering}
-use Rattle.frag_claim.proofs.Begun.{begins_new}
+use Rattle.frag_claim.proofs.Begun.{new_begins_gathering}
 
-pub gathers_new : (old new : SeatHeld) (d fields need_ : ℕ) (kept : List ℕ) (at : ℕ) → IsSound old → MayBegin old.seat (New d fields) → new ≡ record old { seat = after_begin old.heap old.seat (New d fields) }
+pub part_begins_gathering : (old new : SeatHeld) (d fields need_ : ℕ) (kept : List ℕ) (at : ℕ) → IsSound old → MayBegin old.seat (New d fields) → new ≡ record old { seat = after_begin old.heap old.seat (New d fields) }
     → kept ≡ old.seat.reserve → at ≡ old.seat.cursor → need_of (New d fields) ≡ need_ → BeginsGathering new kept at need_
-gathers_new old new d fields need_ kept at sound may is same_reserve same_cursor same_need =
+part_begins_gathering old new d fields need_ kept at sound may is same_reserve same_cursor same_need =
     subst (λ (l : List ℕ). BeginsGathering new l at need_) (sym same_reserve)
-    (subst (λ (n : ℕ). BeginsGathering new old.seat.reserve n need_) (sym same_cursor) (subst (BeginsGathering new old.seat.reserve old.seat.cursor) same_need (begins_new old new d fields sound may is)))
+    (subst (λ (n : ℕ). BeginsGathering new old.seat.reserve n need_) (sym same_cursor) (subst (BeginsGathering new old.seat.reserve old.seat.cursor) same_need (new_begins_gathering old new d fields sound may is)))

@@ -18,7 +18,7 @@ use Rattle.core_machine.specs.seat.Commands.{IsServed}
 use Rattle.core_machine.specs.seat.Looks.{MayMake}
 use Rattle.core_machine.specs.seat.Seat.{Seat, HasNumberLeft}
 use Rattle.core_rule.specs.runs.Laws.{EveryRunKeeps}
-use Rattle.core_rule.proofs.parties.OneSeat.{after_call}
+use Rattle.core_rule.proofs.parties.OneSeat.{others_same_after_call}
 use Rattle.locked_heap.specs.declared.progress.Progress.{Progress}
 use Rattle.locked_heap.specs.Given.{Given, IsOfScript, IsSeatScript, script_of}
 use Rattle.locked_heap.specs.Locked.{IsRunFrom, AllHaveCome, IsNext}
@@ -26,11 +26,11 @@ use Rattle.locked_heap.specs.Progress.{progress_at, IsAtCollect, HasCome}
 use Rattle.heap_model.specs.runs.Endings.{IsPaid}
 use Rattle.heap_record.specs.Recorded.{Recorded, MakesCall}
 use Rattle.heap_model.specs.runs.Told.{waits_told}
-use Rattle.locked_heap.proofs.Coming.{IsFresh, fresh_unless, come_next, come_left, all_come}
-use Rattle.locked_heap.proofs.FindsOn.{FindsOn, finds_on}
-use Rattle.locked_heap.proofs.GivenRuns.{run_stands, seats_are, run_call}
-use Rattle.heap_record.proofs.TellsOne.{one_called}
-use Rattle.locked_heap.proofs.TellsNone.{none_called}
+use Rattle.locked_heap.proofs.Coming.{IsFresh, progress_is_fresh, has_come_to_next, has_come_to_leave, all_have_come_with_one}
+use Rattle.locked_heap.proofs.FindsOn.{FindsOn, finds_grow_by_call}
+use Rattle.locked_heap.proofs.GivenRuns.{book_stands_for_run, seat_count_is_heaps, is_run_after_call}
+use Rattle.heap_record.proofs.TellsOne.{tells_one_of_call}
+use Rattle.locked_heap.proofs.TellsNone.{tells_none_of_others_call}
 
 -- every command but a collect is served
 served_once : (command : Command) → command ≢ commands.Collect → IsServed command
@@ -47,33 +47,33 @@ number_few made sets place _ few_made few_sets few = tt
 module _ (runs : EveryRunKeeps) (given : Given) (recorded : Recorded) (seats : List Progress) (number : ℕ) (run : IsRunFrom given recorded) (all : AllHaveCome given recorded.history recorded.machine.state seats)
     (below : number < given.heap.seats) where
   here : number < length recorded.machine.state.seats
-  here = omega (arith, below, seats_are given recorded run runs)
+  here = omega (arith, below, seat_count_is_heaps given recorded run runs)
 
   -- each script is one
-  pub script_right : IsSeatScript (script_of given number)
-  script_right = run.given_right.scripts number [] (omega (arith, below, run.given_right.seated))
+  pub given_script_is_right : IsSeatScript (script_of given number)
+  given_script_is_right = run.given_right.scripts number [] (omega (arith, below, run.given_right.seated))
 
   -- the next command of a seat may be called
-  pub can_call : (command : Command) → IsNext given seats number command → command ≢ commands.Collect → Can recorded.machine.heap recorded.machine.state (Begins number command)
-  can_call command next once =
+  pub can_begin_command : (command : Command) → IsNext given seats number command → command ≢ commands.Collect → Can recorded.machine.heap recorded.machine.state (Begins number command)
+  can_begin_command command next once =
       let come = all.each number below in
       let seat : Seat = seat_at recorded.machine.state number in
       let place : ℕ = (progress_at seats number).place in
       let within : place < length (script_of given number) = slice_get_within (script_of given number) place command next.next in
-      let of_script : IsOfScript command = subst IsOfScript (get_or_from_slice_get (script_of given number) place command command next.next) (script_right.each place command within) in (
+      let of_script : IsOfScript command = subst IsOfScript (get_or_from_slice_get (script_of given number) place command command next.next) (given_script_is_right.each place command within) in (
         here,
         record {
           idle = run.led.all_idle number here;
           present = come.leaves ∙ next.there;
           served = served_once command once;
           in_range = of_script.0;
-          numbered = number_few seat.made seat.sets place command (come.few_objects next.there) (come.few_sets next.there) (omega (arith, within, script_right.few));
+          numbered = number_few seat.made seat.sets place command (come.few_objects next.there) (come.few_sets next.there) (omega (arith, within, given_script_is_right.few));
         },
       )
 
   -- so may an inner call of its collect
-  pub can_look : (progress_at seats number).gone ≡ false → (inner : Inner) → MayMake recorded.machine.heap number (seat_at recorded.machine.state number).looks inner → Can recorded.machine.heap recorded.machine.state (BeginsInner number inner)
-  can_look there inner makes = (here, record { idle = run.led.all_idle number here; present = (all.each number below).leaves ∙ there; makes = makes })
+  pub can_begin_inner : (progress_at seats number).gone ≡ false → (inner : Inner) → MayMake recorded.machine.heap number (seat_at recorded.machine.state number).looks inner → Can recorded.machine.heap recorded.machine.state (BeginsInner number inner)
+  can_begin_inner there inner makes = (here, record { idle = run.led.all_idle number here; present = (all.each number below).leaves ∙ there; makes = makes })
 
 some_same : (one two : Command) → Some one ≡ Some two → one ≡ two
 some_same one two is = cc is
@@ -82,29 +82,29 @@ some_same one two is = cc is
 fresh_on : (given : Given) (told : List Entry) (number : ℕ) (seat now : Seat) (progress next : Progress) → HasCome given told number seat progress → FindsOn seat now → (IsAtCollect given number progress → ⊥)
     → next.target ≡ progress.target → IsFresh now next
 fresh_on given told number seat now progress next come finds not is =
-    let fresh = fresh_unless given told number seat progress come not in
+    let fresh = progress_is_fresh given told number seat progress come not in
     record { target = is ∙ fresh.target; first = finds.fresh fresh.first }
 
 module _ (runs : EveryRunKeeps) (given : Given) (old new : Recorded) (seats : List Progress) (number : ℕ) (command : Command) (reply : Reply) (run : IsRunFrom given old)
     (all : AllHaveCome given old.history old.machine.state seats) (below : number < given.heap.seats) (makes : MakesCall old new number command reply) where
   -- once it was called the seat has come further
-  pub called_on : (next : Progress) → IsNext given seats number command → command ≢ commands.Collect → next ≡ record (progress_at seats number) { place = (progress_at seats number).place + 1 }
+  pub all_have_come_after_call : (next : Progress) → IsNext given seats number command → command ≢ commands.Collect → next ≡ record (progress_at seats number) { place = (progress_at seats number).place + 1 }
       → AllHaveCome given new.history new.machine.state (slice_set seats number next)
-  called_on next is_next once is =
+  all_have_come_after_call next is_next once is =
       let come = all.each number below in
       let heap = old.machine.heap in
       let seat : Seat = seat_at old.machine.state number in
       let now : Seat = seat_at new.machine.state number in
       let within = slice_get_within (script_of given number) (progress_at seats number).place command is_next.next in
       let of_script : IsOfScript command = subst IsOfScript (get_or_from_slice_get (script_of given number) (progress_at seats number).place command command is_next.next)
-      ((script_right runs given old seats number run all below).each (progress_at seats number).place command within) in
-      let finds = finds_on heap old.machine.state new.machine.state number command reply makes.call in
+      ((given_script_is_right runs given old seats number run all below).each (progress_at seats number).place command within) in
+      let finds = finds_grow_by_call heap old.machine.state new.machine.state number command reply makes.call in
       let paid : IsPaid given.patience (waits_told number old.history + 0) next.paid = rw is (subst (λ (n : ℕ). IsPaid given.patience n (progress_at seats number).paid) (omega arith) come.paid) in
-      all_come given old.history new.history old.machine.state new.machine.state seats number all below next (makes.call.before ++ Said number command reply ∷ [])
-      (after_call heap old.machine.state new.machine.state number command reply makes.call) makes.noted
-      (λ other apart. none_called other number makes.call.before command reply apart makes.call.beside)
-      (come_next given old.history new.history number seat now (progress_at seats number) come (makes.call.before ++ Said number command reply ∷ []) makes.noted command 0 next is_next.next is_next.there
-      (one_called number makes.call.before command reply once makes.call.beside) (makes.counts.present_stays of_script.1) makes.counts.made_more makes.counts.sets_more (ap (λ (p : Progress). p.place) is)
+      all_have_come_with_one given old.history new.history old.machine.state new.machine.state seats number all below next (makes.call.before ++ Said number command reply ∷ [])
+      (others_same_after_call heap old.machine.state new.machine.state number command reply makes.call) makes.noted
+      (λ other apart. tells_none_of_others_call other number makes.call.before command reply apart makes.call.beside)
+      (has_come_to_next given old.history new.history number seat now (progress_at seats number) come (makes.call.before ++ Said number command reply ∷ []) makes.noted command 0 next is_next.next is_next.there
+      (tells_one_of_call number makes.call.before command reply once makes.call.beside) (makes.counts.present_stays of_script.1) makes.counts.made_more makes.counts.sets_more (ap (λ (p : Progress). p.place) is)
       (ap (λ (p : Progress). p.gone) is) paid (omega (arith, ap (λ (p : Progress). p.paid) is, come.grown, finds.finds))
       (fresh_on given old.history number seat now (progress_at seats number) next come finds (λ at_collect. once (some_same command commands.Collect (sym is_next.next ∙ at_collect.next))) (ap (λ (p : Progress). p.target) is)))
 
@@ -116,25 +116,25 @@ leave_said number told before reply =
     list_any-append (is_leave_of number) told (before ++ Said number commands.Leave reply ∷ []) ∙ or_right _ _ behind
 
 -- a seat has left exactly where the history tells its leave
-pub left_told : EveryRunKeeps → (given : Given) (recorded : Recorded) (number : ℕ) → IsRunFrom given recorded → number < given.heap.seats → (seat_at recorded.machine.state number).left ≡ has_left number recorded.history
-left_told runs given recorded number run below =
-    let s = run_stands given recorded run runs in
+pub left_is_told : EveryRunKeeps → (given : Given) (recorded : Recorded) (number : ℕ) → IsRunFrom given recorded → number < given.heap.seats → (seat_at recorded.machine.state number).left ≡ has_left number recorded.history
+left_is_told runs given recorded number run below =
+    let s = book_stands_for_run given recorded run runs in
     sym (s.stands.rule.seats_stand number (subst (λ (h : Heap). number < h.seats) (sym run.of_heap) below)).cycle.answers_told.leaves ∙ ap (has_left number) s.grown
 
 -- once it has left it has come to its end
-pub left_on : (runs : EveryRunKeeps) (given : Given) (old new : Recorded) (seats : List Progress) (number : ℕ) (reply : Reply) (next : Progress) → IsRunFrom given old
+pub all_have_come_after_leave : (runs : EveryRunKeeps) (given : Given) (old new : Recorded) (seats : List Progress) (number : ℕ) (reply : Reply) (next : Progress) → IsRunFrom given old
     → AllHaveCome given old.history old.machine.state seats → number < given.heap.seats → MakesCall old new number commands.Leave reply → (progress_at seats number).gone ≡ false
     → (progress_at seats number).place ≡ length (script_of given number) → next ≡ record (progress_at seats number) { gone = true } → AllHaveCome given new.history new.machine.state (slice_set seats number next)
-left_on runs given old new seats number reply next run all below makes there through is =
+all_have_come_after_leave runs given old new seats number reply next run all below makes there through is =
     let heap = old.machine.heap in
     let added : List Entry = makes.call.before ++ Said number commands.Leave reply ∷ [] in
-    let finds = finds_on heap old.machine.state new.machine.state number commands.Leave reply makes.call in
-    let told = left_told runs given new number (run_call given old new run number commands.Leave reply makes) below in
+    let finds = finds_grow_by_call heap old.machine.state new.machine.state number commands.Leave reply makes.call in
+    let told = left_is_told runs given new number (is_run_after_call given old new run number commands.Leave reply makes) below in
     let left : (seat_at new.machine.state number).left ≡ true = told ∙ ap (has_left number) makes.noted ∙ leave_said number old.history makes.call.before reply in
-    all_come given old.history new.history old.machine.state new.machine.state seats number all below next added (after_call heap old.machine.state new.machine.state number commands.Leave reply makes.call) makes.noted
-    (λ other apart. none_called other number makes.call.before commands.Leave reply apart makes.call.beside)
-    (come_left given old.history new.history number (seat_at old.machine.state number) (seat_at new.machine.state number) (progress_at seats number) (all.each number below) added makes.noted next through there
-    (one_called number makes.call.before commands.Leave reply (λ e. cc e) makes.call.beside) left (ap (λ (p : Progress). p.place) is) (ap (λ (p : Progress). p.gone) is) (ap (λ (p : Progress). p.paid) is)
+    all_have_come_with_one given old.history new.history old.machine.state new.machine.state seats number all below next added (others_same_after_call heap old.machine.state new.machine.state number commands.Leave reply makes.call) makes.noted
+    (λ other apart. tells_none_of_others_call other number makes.call.before commands.Leave reply apart makes.call.beside)
+    (has_come_to_leave given old.history new.history number (seat_at old.machine.state number) (seat_at new.machine.state number) (progress_at seats number) (all.each number below) added makes.noted next through there
+    (tells_one_of_call number makes.call.before commands.Leave reply (λ e. cc e) makes.call.beside) left (ap (λ (p : Progress). p.place) is) (ap (λ (p : Progress). p.gone) is) (ap (λ (p : Progress). p.paid) is)
     finds.finds
     (fresh_on given old.history number (seat_at old.machine.state number) (seat_at new.machine.state number) (progress_at seats number) next (all.each number below) finds
     (λ at_collect. let within = slice_get_within (script_of given number) (progress_at seats number).place commands.Collect at_collect.next in absurd (omega (arith, within, through))) (ap (λ (p : Progress). p.target) is)))

@@ -23,7 +23,7 @@ use Rattle.core_machine.specs.declared.seat.looks.Looks.{Looks}
 use Rattle.core_machine.specs.seat.Looks.{found_behind}
 use Rattle.core_machine.specs.seat.Seat.{Seat, with_seen, after_call, absent_seat}
 use Rattle.core_rule.proofs.looks.Growth.{IsElsewhere}
-use Rattle.core_rule.proofs.looks.Ways.{StaysFound, stays_claim, stays_budget, stays_walk, stays_length, begin_stays}
+use Rattle.core_rule.proofs.looks.Ways.{StaysFound, stays_found_after_claim, stays_found_after_budget, stays_found_after_walk, stays_found_after_length, stays_found_after_begin}
 
 -- the seat stands in no inner call, has found another one behind as often at least, and has no first look where it had none
 pub record FindsOn (seat now : Seat) : Type 0 where
@@ -59,9 +59,9 @@ one_more_on true n = omega arith
 one_more_on false n = omega arith
 
 -- so it is where another seat was compared
-pub compared_on : (b : Bool) (found : Behind) (looks : Looks) → looks.waits ≤ (if b then found_behind found looks else record looks { behind = None }).waits
-compared_on true found looks = one_more_on (nat_lt (looks.waits + 1) (2 ^ 64)) looks.waits
-compared_on false found looks = omega arith
+pub finds_grow_by_compare : (b : Bool) (found : Behind) (looks : Looks) → looks.waits ≤ (if b then found_behind found looks else record looks { behind = None }).waits
+finds_grow_by_compare true found looks = one_more_on (nat_lt (looks.waits + 1) (2 ^ 64)) looks.waits
+finds_grow_by_compare false found looks = omega arith
 
 module _ (heap : Heap) (number : ℕ) (seat : Seat) (here : IsElsewhere seat.place) where
   bears : (last : Bool) → MoveFindsOn seat (Some (if last then last_birth_move number seat else birth_move seat))
@@ -69,7 +69,7 @@ module _ (heap : Heap) (number : ℕ) (seat : Seat) (here : IsElsewhere seat.pla
   bears false = λ found. same_on seat _ here refl refl
 
   metas : (found : ℕ) (reply : Option Reply) → FindsOn seat (after_meta seat found reply)
-  metas found None = stays_on seat _ (stays_length seat found (array_length_of found))
+  metas found None = stays_on seat _ (stays_found_after_length seat found (array_length_of found))
   metas found (Some reply) = over_on seat _ tt refl refl
 
   gets : (found : ℕ) (head : Option ℕ) → FindsOn seat (after_get seat found head)
@@ -98,9 +98,9 @@ module _ (heap : Heap) (number : ℕ) (seat : Seat) (here : IsElsewhere seat.pla
 
   moves_on : (place : Place) → IsElsewhere place → MoveFindsOn seat (move_at heap number seat place)
   moves_on places.Idle there = tt
-  moves_on (places.Making Granting) there = λ found. stays_on seat _ (stays_budget heap seat found)
+  moves_on (places.Making Granting) there = λ found. stays_on seat _ (stays_found_after_budget heap seat found)
   moves_on (places.Making Withdrawing) there = λ found. over_on seat _ tt refl refl
-  moves_on (places.Making Gathering) there = λ found. stays_on seat _ (stays_claim heap seat found)
+  moves_on (places.Making Gathering) there = λ found. stays_on seat _ (stays_found_after_claim heap seat found)
   moves_on (places.Making GivingBack) there = λ found. same_on seat _ tt refl refl
   moves_on (places.Making Refusing) there = λ found. refuses seat.command found
   moves_on (places.Making Placing) there = λ found. same_on seat _ tt refl refl
@@ -109,7 +109,7 @@ module _ (heap : Heap) (number : ℕ) (seat : Seat) (here : IsElsewhere seat.pla
   moves_on (places.Making Bearing) there = bears (is_last_birth seat)
   moves_on places.Local there = λ found. over_on seat _ tt refl refl
   moves_on (places.Access LoadingMeta) there = λ found. metas found (meta_reply_of seat.command found)
-  moves_on (places.Access Walking) there = λ found. stays_on seat _ (stays_walk seat found)
+  moves_on (places.Access Walking) there = λ found. stays_on seat _ (stays_found_after_walk seat found)
   moves_on (places.Access LoadingSpot) there = λ found. same_on seat _ tt refl refl
   moves_on (places.Access Indexing) there = λ found. same_on seat _ tt refl refl
   moves_on (places.Access Getting) there = λ found. gets found (head_of found)
@@ -147,12 +147,12 @@ steps_on heap number (suc steps) state within here =
     on_then seat _ _ one (steps_on heap number steps (state_after heap state (Steps number)) (omega (arith, within, due_seats heap state number (move_at heap number seat seat.place))) one.elsewhere)
 
 -- by a call
-pub finds_on : (heap : Heap) (old new : State) (number : ℕ) (command : Command) (reply : Reply) → PlaysCall heap old new number command reply → FindsOn (seat_at old number) (seat_at new number)
-finds_on heap old new number command reply call =
+pub finds_grow_by_call : (heap : Heap) (old new : State) (number : ℕ) (command : Command) (reply : Reply) → PlaysCall heap old new number command reply → FindsOn (seat_at old number) (seat_at new number)
+finds_grow_by_call heap old new number command reply call =
     let seat : Seat = seat_at old number in
     let within : number < length old.seats = call.can.0.0 in
     let begun : State = state_after heap old (Begins number command) in
     let is : seat_at begun number ≡ after_begin heap seat command = get_or-set_same old.seats number _ absent_seat within in
-    let first : FindsOn seat (seat_at begun number) = subst (λ (s : Seat). FindsOn seat s) (sym is) (stays_on seat _ (begin_stays heap seat command call.can.0.1.idle)) in
+    let first : FindsOn seat (seat_at begun number) = subst (λ (s : Seat). FindsOn seat s) (sym is) (stays_on seat _ (stays_found_after_begin heap seat command call.can.0.1.idle)) in
     let rest = steps_on heap number call.steps begun (omega (arith, within, length-set old.seats number (after_begin heap seat command))) first.elsewhere in
     subst (λ (t : State). FindsOn seat (seat_at t number)) (sym call.ends) (on_then seat _ _ first rest)

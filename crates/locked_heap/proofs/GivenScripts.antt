@@ -13,8 +13,8 @@ few_each scripts all k d below =
     let one : IsSeatScript (slice_index_or scripts k d).items = subst IsSeatScript (get_or-map items scripts k d) (all k d.items (omega (arith, below, length-map scripts items))) in
     omega (arith, one.few)
 
-pub are_scripts : (given : Given) (scripts : List (Vec Command Global)) → IsGiven given → map (λ (script : Vec Command Global). script.items) scripts ≡ given.scripts → AreScripts given scripts
-are_scripts given scripts is same = record {
+pub given_are_scripts : (given : Given) (scripts : List (Vec Command Global)) → IsGiven given → map (λ (script : Vec Command Global). script.items) scripts ≡ given.scripts → AreScripts given scripts
+given_are_scripts given scripts is same = record {
   same = same;
   seated = sym (length-map scripts (λ (script : Vec Command Global). script.items)) ∙ ap length same ∙ is.seated;
   seats = omega (arith, is.limits.seats_fit);

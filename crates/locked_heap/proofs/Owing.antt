@@ -55,22 +55,22 @@ gives_claim true number unborn = refl
 gives_claim false number unborn = refl
 
 -- what a call claimed is owed more
-pub owes_call : (old new : Recorded) (told : List Entry) (taken was owed number : ℕ) (command : Command) (reply : Reply) → MakesCall old new number command reply → told ≡ drop (length old.listed) new.listed
+pub owed_grows_by_claimed : (old new : Recorded) (told : List Entry) (taken was owed number : ℕ) (command : Command) (reply : Reply) → MakesCall old new number command reply → told ≡ drop (length old.listed) new.listed
     → taken ≡ claimed_by told → owed ≡ min (was + taken) (2 ^ 64 - 1) → owed ≡ min (was + total (λ e. e.taken) (drop (length old.history) new.history)) (2 ^ 64 - 1)
-owes_call old new told taken was owed number command reply makes is counted owed_is =
+owed_grows_by_claimed old new told taken was owed number command reply makes is counted owed_is =
     let added : List Entry = makes.call.before ++ entries.Said number command reply ∷ [] in
     let told_is : told ≡ added = is ∙ ap (drop (length old.listed)) makes.listed ∙ drop-append_seam old.listed added in
     let since : drop (length old.history) new.history ≡ added = ap (drop (length old.history)) makes.noted ∙ drop-append_seam old.history added in
     omega (arith, owed_is, counted, ap claimed told_is, ap claimed since)
 
 -- where nothing was told nothing more is owed
-pub owes_still : (was old new : LockedValue) → was ≡ old → new.recorded.history ≡ was.recorded.history → new.owed ≡ was.owed → OwesNoMore old new
-owes_still was old new is same owed =
+pub owes_no_more_untold : (was old new : LockedValue) → was ≡ old → new.recorded.history ≡ was.recorded.history → new.owed ≡ was.owed → OwesNoMore old new
+owes_no_more_untold was old new is same owed =
     subst (λ (v : LockedValue). OwesNoMore v new) is (record { added = []; grown = same ∙ sym (append-nil was.recorded.history); none_claimed = refl; owed_stays = owed })
 
 -- nor after more that claims nothing
-pub owes_then : (old now new : LockedValue) → OwesNoMore old now → OwesNoMore now new → OwesNoMore old new
-owes_then old now new one two = record {
+pub owes_no_more_in_turn : (old now new : LockedValue) → OwesNoMore old now → OwesNoMore now new → OwesNoMore old new
+owes_no_more_in_turn old now new one two = record {
   added = one.added ++ two.added;
   grown = two.grown ∙ ap (λ (l : List Entry). l ++ two.added) one.grown ∙ append_assoc old.recorded.history one.added two.added;
   none_claimed = both_claim one.added two.added one.none_claimed two.none_claimed;
@@ -78,22 +78,22 @@ owes_then old now new one two = record {
 }
 
 -- nor after an inner call, a turn or a leave
-pub owes_inner : (was old new : LockedValue) (number : ℕ) (inner : Inner) → was ≡ old → MakesInner was.recorded new.recorded number inner → new.owed ≡ was.owed → OwesNoMore old new
-owes_inner was old new number inner is makes owed =
+pub owes_no_more_after_inner : (was old new : LockedValue) (number : ℕ) (inner : Inner) → was ≡ old → MakesInner was.recorded new.recorded number inner → new.owed ≡ was.owed → OwesNoMore old new
+owes_no_more_after_inner was old new number inner is makes owed =
     let heap = was.recorded.machine.heap in
     let state = was.recorded.machine.state in
     let answered = (seat_at state number).answered in
     subst (λ (v : LockedValue). OwesNoMore v new) is
     (record { added = inner_entries heap state.words number answered inner; grown = makes.noted; none_claimed = inner_claims heap state.words number answered inner; owed_stays = owed })
 
-pub owes_turn : (was old new : LockedValue) (ready : Recorded) (turn : Turn) → was ≡ old → StandsStill was.recorded ready → MakesTurn ready new.recorded turn → new.owed ≡ was.owed → OwesNoMore old new
-owes_turn was old new ready turn is still makes owed =
+pub owes_no_more_after_turn : (was old new : LockedValue) (ready : Recorded) (turn : Turn) → was ≡ old → StandsStill was.recorded ready → MakesTurn ready new.recorded turn → new.owed ≡ was.owed → OwesNoMore old new
+owes_no_more_after_turn was old new ready turn is still makes owed =
     let added : List Entry = machines.entries ready.machine.heap ready.machine.state Turns in
     subst (λ (v : LockedValue). OwesNoMore v new) is
     (record { added = added; grown = makes.noted ∙ ap (λ (l : List Entry). l ++ added) still.history_stays; none_claimed = collectors_claim added makes.own; owed_stays = owed })
 
-pub owes_leave : (was old new : LockedValue) (number : ℕ) (reply : Reply) → was ≡ old → MakesCall was.recorded new.recorded number Leave reply → new.owed ≡ was.owed → OwesNoMore old new
-owes_leave was old new number reply is makes owed =
+pub owes_no_more_after_leave : (was old new : LockedValue) (number : ℕ) (reply : Reply) → was ≡ old → MakesCall was.recorded new.recorded number Leave reply → new.owed ≡ was.owed → OwesNoMore old new
+owes_no_more_after_leave was old new number reply is makes owed =
     let unborn = length (seat_at was.recorded.machine.state number).reserve in
     let before = makes.call.comes (λ poll. cc poll) in
     let said = entries.Said number Leave reply in
@@ -105,12 +105,12 @@ owes_leave was old new number reply is makes owed =
     })
 
 -- whatever was answered
-pub on_err : {T E : Type 0} (result : Result T E) (P : Type 0) → P → OnErr result P
-on_err (Ok value) P holds = tt
-on_err (Err fault) P holds = holds
+pub on_err_always : {T E : Type 0} (result : Result T E) (P : Type 0) → P → OnErr result P
+on_err_always (Ok value) P holds = tt
+on_err_always (Err fault) P holds = holds
 
 -- so what is owed is more by nothing
-pub owes_more : (old new : LockedValue) → OwesNoMore old new → old.owed < 2 ^ 64 → OwesMore old new
-owes_more old new none small =
+pub owes_more_by_nothing : (old new : LockedValue) → OwesNoMore old new → old.owed < 2 ^ 64 → OwesMore old new
+owes_more_by_nothing old new none small =
     let told = ap claimed (ap (drop (length old.recorded.history)) none.grown ∙ drop-append_seam old.recorded.history none.added) ∙ none.none_claimed in
     omega (arith, told, none.owed_stays, small)

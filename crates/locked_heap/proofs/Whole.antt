@@ -17,9 +17,9 @@ use Rattle.core_machine.specs.seat.Seat.{Seat, absent_seat}
 use Rattle.core_rule.specs.looks.Finds.{finds_in, WaitsAreFinds}
 use Rattle.core_rule.specs.runs.Laws.{EveryRunKeeps, WordsAreUsed}
 use Rattle.core_rule.specs.sweep_exact.SweepLaws.{EachLastCycleEmpties}
-use Rattle.core_rule.proofs.runs.CountedFinds.{finds_by_law}
-use Rattle.core_rule.proofs.parties.Standing.{none_short, words_used as words_told}
-use Rattle.core_rule.proofs.runs.CountedFinds.{finds_by_law}
+use Rattle.core_rule.proofs.runs.CountedFinds.{waits_are_capped_finds}
+use Rattle.core_rule.proofs.parties.Standing.{lost_within_gained, budget_word_is_words_used as words_told}
+use Rattle.core_rule.proofs.runs.CountedFinds.{waits_are_capped_finds}
 use Rattle.locked_heap.specs.declared.ran.LockedRan.{LockedRan}
 use Rattle.locked_heap.specs.Given.{Given, script_of}
 use Rattle.locked_heap.specs.Locked.{IsRunFrom, LockedValue, AllHaveCome, AllGone, IsParted}
@@ -28,17 +28,17 @@ use Rattle.heap_model.specs.runs.Endings.{EndsEmpty, IsPaid}
 use Rattle.locked_heap.specs.Ran.{IsRun}
 use Rattle.heap_record.specs.Recorded.{Recorded}
 use Rattle.heap_model.specs.runs.Told.{commands_told, waits_told}
-use Rattle.locked_heap.proofs.Calling.{left_told}
-use Rattle.locked_heap.proofs.Coming.{paid_still, all_turned}
-use Rattle.heap_record.proofs.LastCycle.{left_before, leaves_stay}
-use Rattle.locked_heap.proofs.GivenRuns.{run_stands, run_of}
-use Rattle.locked_heap.proofs.TellsNone.{none_collectors}
+use Rattle.locked_heap.proofs.Calling.{left_is_told}
+use Rattle.locked_heap.proofs.Coming.{stays_paid, all_have_come_after_turn}
+use Rattle.heap_record.proofs.LastCycle.{left_before_last_cycle, last_leave_stays}
+use Rattle.locked_heap.proofs.GivenRuns.{book_stands_for_run, run_is_from_opening}
+use Rattle.locked_heap.proofs.TellsNone.{tells_none_of_collectors}
 use Rattle.locked_heap.proofs.TurnsOn.{EndsWhole}
 
 -- the history is legal
 legal_told : EveryRunKeeps → (given : Given) (recorded : Recorded) → IsRunFrom given recorded → IsLegal given.heap false recorded.history
 legal_told runs given recorded run =
-    let s = run_stands given recorded run runs in
+    let s = book_stands_for_run given recorded run runs in
     subst (λ (h : Heap). IsLegal h false recorded.history) run.of_heap (subst (IsLegal recorded.machine.heap false) s.grown s.stands.rule.heap_stands.legal)
 
 module _ (runs : EveryRunKeeps) (given : Given) (locked : LockedValue) (run : IsRunFrom given locked.recorded)
@@ -46,7 +46,7 @@ module _ (runs : EveryRunKeeps) (given : Given) (locked : LockedValue) (run : Is
   -- where a seat has left the history tells so
   gone_told : (number : ℕ) → number < given.heap.seats → (progress_at locked.seats number).gone ≡ true → has_left number locked.recorded.history ≡ true
   gone_told number below gone =
-      sym (left_told runs given locked.recorded number run below) ∙ (all.each number below).leaves ∙ gone
+      sym (left_is_told runs given locked.recorded number run below) ∙ (all.each number below).leaves ∙ gone
 
   -- and its whole script
   all_told : (number : ℕ) → number < given.heap.seats → (progress_at locked.seats number).gone ≡ true → commands_told number locked.recorded.history ≡ script_of given number ++ Leave ∷ []
@@ -63,14 +63,14 @@ ends_empty runs given old new run all gone parted ends legal =
     let told = old.recorded.history in
     let before : List Entry = told ++ ends.earlier in
     let last : new.history ≡ before ++ Ends ends.cycle ends.kept ∷ [] = ends.told ∙ sym (append_assoc told ends.earlier (Ends ends.cycle ends.kept ∷ [])) in
-    let leaves = leaves_stay told ends.earlier (parted.behind_leave gone) ends.own in
+    let leaves = last_leave_stays told ends.earlier (parted.behind_leave gone) ends.own in
     record {
       behind = record {
         before = before;
         cycle = ends.cycle;
         kept = ends.kept;
         last = last;
-        left = λ number below. left_before given.heap false told ends.earlier ends.cycle ends.kept number (subst (IsLegal given.heap false) last legal) ends.began
+        left = λ number below. left_before_last_cycle given.heap false told ends.earlier ends.cycle ends.kept number (subst (IsLegal given.heap false) last legal) ends.began
             (gone_told runs given old run all number below (gone number below));
       };
       first = omega (arith, ends.first, ap phase leaves);
@@ -87,8 +87,8 @@ none_used runs words empties given recorded run legal ends =
     let told = recorded.history in
     let heap = recorded.machine.heap in
     let state = recorded.machine.state in
-    let s = run_stands given recorded run runs in
-    let short = subst (λ (h : Heap). fragments_lost told ≤ fragments_gained h told) run.of_heap (none_short heap state told s) in
+    let s = book_stands_for_run given recorded run runs in
+    let short = subst (λ (h : Heap). fragments_lost told ≤ fragments_gained h told) run.of_heap (lost_within_gained heap state told s) in
     let granted = words_told heap state told s words run.led.all_idle in
     let none = empties given.heap false ends.behind.before ends.behind.cycle ends.behind.kept (subst (IsLegal given.heap false) ends.behind.last legal) ends.behind.left in
     let none_left : fragments_used given.heap told ≡ 0 = ap (fragments_used given.heap) ends.behind.last ∙ none.0 in
@@ -101,25 +101,25 @@ map_within n f g same = fill_by_all g (map f (range_with_len 0 n)) n 0 (length-m
 
 -- as far as 64 bits count
 paid_counted : (patience replies finds found : ℕ) → finds ≡ min found (2 ^ 64 - 1) → IsPaid patience replies finds → IsPaid patience replies found
-paid_counted patience replies finds found is paid = paid_still patience replies finds found (omega (arith, is)) paid
+paid_counted patience replies finds found is paid = stays_paid patience replies finds found (omega (arith, is)) paid
 
 -- so it is the run that was asked for
-pub whole_run : EveryRunKeeps → WordsAreUsed → WaitsAreFinds → EachLastCycleEmpties → (given : Given) (old : LockedValue) (new : Recorded) (ran : LockedRan)
+pub run_is_as_asked : EveryRunKeeps → WordsAreUsed → WaitsAreFinds → EachLastCycleEmpties → (given : Given) (old : LockedValue) (new : Recorded) (ran : LockedRan)
     → IsRunFrom given old.recorded → AllHaveCome given old.recorded.history old.recorded.machine.state old.seats → AllGone given old.seats → IsParted given old.recorded.history old.seats
     → EndsWhole old.recorded new → ran.history.items ≡ new.listed → ran.end_used ≡ 0
     → ran.waits.items ≡ map (λ (number : ℕ). (seat_at old.recorded.machine.state number).looks.waits) (range_with_len 0 given.heap.seats) → IsRun given ran
-whole_run runs words finds empties given old new ran one all gone parted ends listed_is none counts =
+run_is_as_asked runs words finds empties given old new ran one all gone parted ends listed_is none counts =
     let told = new.history in
     let two = ends.on.runs given one in
     let history_is : ran.history.items ≡ told = listed_is ∙ two.plain in
-    let way = run_of given new two in
+    let way = run_is_from_opening given new two in
     let legal = legal_told runs given new two in
     let last = ends_empty runs given old new one all gone parted ends legal in
     let used = none_used runs words empties given new two legal last in
-    let turned = all_turned given old.recorded.history ends.on.turned old.recorded.machine.state new.machine.state old.seats all ends.on.seats_stay (λ other. none_collectors other ends.on.turned ends.on.own) in
+    let turned = all_have_come_after_turn given old.recorded.history ends.on.turned old.recorded.machine.state new.machine.state old.seats all ends.on.seats_stay (λ other. tells_none_of_collectors other ends.on.turned ends.on.own) in
     let come : AllHaveCome given told new.machine.state old.seats = subst (λ (l : List Entry). AllHaveCome given l new.machine.state old.seats) (sym ends.on.grown) turned in
     let found = λ (number : ℕ) (below : number < given.heap.seats). ap (λ (s : State). (seat_at s number).looks.waits) way.ends
-    ∙ finds_by_law finds given.heap given.opening way.events number one.given_right.limits one.given_right.opens way.run below in
+    ∙ waits_are_capped_finds finds given.heap given.opening way.events number one.given_right.limits one.given_right.opens way.run below in
     record {
       events = way.events;
       run = way.run;
@@ -132,5 +132,5 @@ whole_run runs words finds empties given old new ran one all gone parted ends li
       all_returned = rw history_is used.words;
       counts = counts ∙ map_within given.heap.seats _ _ (λ number below. ap (λ (l : List Seat). (slice_index_or l number absent_seat).looks.waits) (sym ends.on.seats_stay) ∙ found number below);
       patient = λ number below. rw history_is (paid_counted given.patience (waits_told number told) (seat_at new.machine.state number).looks.waits (finds_in given.heap given.opening way.events number) (found number below)
-          (paid_still given.patience (waits_told number told) (progress_at old.seats number).paid (seat_at new.machine.state number).looks.waits (come.each number below).grown (come.each number below).paid));
+          (stays_paid given.patience (waits_told number told) (progress_at old.seats number).paid (seat_at new.machine.state number).looks.waits (come.each number below).grown (come.each number below).paid));
     }

@@ -78,8 +78,8 @@ parted : (count : ℕ) (entries : List Entry) → map lines.Entry (take count en
 parted count entries = sym (map-append lines.Entry (take count entries) (drop count entries)) ∙ ap (λ es. map lines.Entry es) (take-append-drop count entries)
 
 -- the space line of a mark is right where the mark shows the counts
-pub line-from_ShowsCounts : (form : Form) (heap : Heap) (before : List Entry) (mark : SpaceMark) → ShowsCounts heap before mark → KeepsLine form heap before (space_line mark)
-line-from_ShowsCounts form heap before mark shows = record { used = shows.used; total = shows.total; spine = shows.spine; budget = shows.budget }
+pub space_line_is_right : (form : Form) (heap : Heap) (before : List Entry) (mark : SpaceMark) → ShowsCounts heap before mark → KeepsLine form heap before (space_line mark)
+space_line_is_right form heap before mark shows = record { used = shows.used; total = shows.total; spine = shows.spine; budget = shows.budget }
 
 pub ShowsCounts-from_line : (form : Form) (heap : Heap) (before : List Entry) (mark : SpaceMark) → KeepsLine form heap before (space_line mark) → ShowsCounts heap before mark
 ShowsCounts-from_line form heap before mark kept = record { used = kept.used; total = kept.total; spine = kept.spine; budget = kept.budget }
@@ -101,7 +101,7 @@ lines-from_marked form heap (Some mark) entries legal shows =
     let all : KeepLines form heap [] (front ++ back) = subst (λ ls. KeepLines form heap [] ls) (sym (parted mark.before entries)) (lines-from_AreLegal form heap entries legal) in
     let same : entries_of front ≡ take mark.before entries = entries_of-entries (take mark.before entries) in
     KeepLines-append form heap [] front (space_line mark ∷ back) (KeepLines-front form heap [] front back all) (
-      subst (λ es. KeepsLine form heap es (space_line mark)) (sym same) (line-from_ShowsCounts form heap (take mark.before entries) mark shows),
+      subst (λ es. KeepsLine form heap es (space_line mark)) (sym same) (space_line_is_right form heap (take mark.before entries) mark shows),
       subst (λ es. KeepLines form heap es back) (sym (append-nil (entries_of front))) (KeepLines-back form heap [] front back all),
     )
 
@@ -140,5 +140,5 @@ IsLegalHistory-from_lines history kept shows = record {
 }
 
 -- a history with a line that isn't right is not legal
-pub none_legal : (history : History) (line : ℕ) → IsFirstIllegal history line → IsLegalHistory history → ⊥
-none_legal history line first legal = BreaksAt-broken history.form history.heap (body history) line first (lines-from_IsLegalHistory history legal)
+pub wrong_line_is_not_legal : (history : History) (line : ℕ) → IsFirstIllegal history line → IsLegalHistory history → ⊥
+wrong_line_is_not_legal history line first legal = BreaksAt-broken history.form history.heap (body history) line first (lines-from_IsLegalHistory history legal)

@@ -58,16 +58,16 @@ BreaksAt-broken form heap lines number breaks kept =
     breaks.broken (KeepLines-back form heap [] breaks.before (breaks.line ∷ breaks.rest) (subst (λ ls. KeepLines form heap [] ls) breaks.parted kept)).0
 
 -- the lines of entries, parted at one of them
-pub lines_parted : (entries : List Entry) (i : ℕ) (other : Entry) → i < length entries
+pub entry_lines_parted_at : (entries : List Entry) (i : ℕ) (other : Entry) → i < length entries
     → map lines.Entry entries ≡ (map lines.Entry (take i entries) ++ lines.Entry (get_or entries i other) ∷ []) ++ map lines.Entry (drop (i + 1) entries)
-lines_parted entries i other lt =
+entry_lines_parted_at entries i other lt =
     sym (ap (λ es. map lines.Entry es) (take-append-drop (i + 1) entries)) ∙ map-append lines.Entry (take (i + 1) entries) (drop (i + 1) entries)
     ∙ ap (λ ls. ls ++ map lines.Entry (drop (i + 1) entries)) (map_more lines.Entry entries i other lt)
 
 -- the lines of a history with a mark
-pub marked_parted : (mark : Option SpaceMark) (there : SpaceMark) (entries front back : List Entry) → mark ≡ Some there → front ≡ take there.before entries → back ≡ drop there.before entries
+pub marked_lines_parted_at : (mark : Option SpaceMark) (there : SpaceMark) (entries front back : List Entry) → mark ≡ Some there → front ≡ take there.before entries → back ≡ drop there.before entries
     → lines_with_mark mark entries ≡ map lines.Entry front ++ (space_line there ∷ map lines.Entry back)
-marked_parted mark there entries front back is first others = rw (is, first, others) refl
+marked_lines_parted_at mark there entries front back is first others = rw (is, first, others) refl
 
 -- what holds of each holds of the last ones
 pub AllByRecursion-drop : {A : Type 0} (P : A → Type 0) (n : ℕ) (xs : List A) → AllByRecursion P xs → AllByRecursion P (drop n xs)

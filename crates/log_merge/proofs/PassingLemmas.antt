@@ -12,7 +12,7 @@ use Rattle.log_merge.specs.Lines.{entry_of, entries_of, IsFirstIllegal, KeepsLin
 use Rattle.log_merge.specs.declared.fault.CheckFault.{CheckFault}
 use Rattle.log_merge.specs.declared.fault.CheckFault.TheVariants as faults
 use Rattle.log_merge.specs.Checking.{GoesOver, Judged, Passed, StopsIn}
-use Rattle.log_merge.proofs.LegalLemmas.{line-from_ShowsCounts}
+use Rattle.log_merge.proofs.LegalLemmas.{space_line_is_right}
 use Rattle.log_merge.proofs.LineLemmas.{entries_of-more, KeepLines-append, BreaksAt-more}
 
 -- one right line more
@@ -51,7 +51,7 @@ Passed-space form old passed mark before shows =
     let new = record old { line = old.line + 1 } in
     let judged : Judged form new (entries_of passed) = record { graph = before.judged.graph; account = before.judged.account } in
     Passed-more form old new passed (space_line mark) before refl refl (subst (λ es. Judged form new es) (sym (append-nil (entries_of passed))) judged)
-    (line-from_ShowsCounts form old.heap (entries_of passed) mark shows)
+    (space_line_is_right form old.heap (entries_of passed) mark shows)
 
 -- where it stops, from the first line on, is the first line of the history that isn't legal
 pub IsFirstIllegal-from_stop : (history : History) (checker : Checker) (lines more : List HistoryLine) (fault : CheckFault) (line : ℕ) → checker.heap ≡ history.heap → Passed history.form checker []

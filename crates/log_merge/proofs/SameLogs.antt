@@ -17,22 +17,22 @@ use Rattle.heap_model.specs.account.Space.{total}
 use Rattle.heap_model.specs.graph.Graph.{Graph, opening, opening_graph_seat}
 use Rattle.heap_model.specs.graph.Growth.{after_entry}
 use Rattle.heap_model.specs.graph.Legal.{Accepts, AcceptsAll, IsObjectLegal}
-use Rattle.log_merge.proofs.merge_lemmas.Counting.{sum_one, sums_same}
-use Rattle.log_merge.proofs.merge_lemmas.Finding.{present_within}
+use Rattle.log_merge.proofs.merge_lemmas.Counting.{sum_grows_at_one, sum_of_same_parts}
+use Rattle.log_merge.proofs.merge_lemmas.Finding.{present_seat_is_there}
 use Rattle.log_merge.proofs.merge_lemmas.Parts.{filter-yes, filter-no}
-use Rattle.log_merge.proofs.merge_lemmas.Rests.{seats-after}
+use Rattle.log_merge.proofs.merge_lemmas.Rests.{seat_count_after_entry}
 
 -- an accepted entry that has a seat has one of the graph's
 seat_there : (g : Graph) (e : Entry) → Accepts g e → IsSeatBelow (length g.seats) e
-seat_there g (entries.Said number command reply) accepts = present_within g number accepts.0
-seat_there g (entries.Takes number count) accepts = present_within g number accepts
-seat_there g (entries.GivesBack number count) accepts = present_within g number accepts
-seat_there g (entries.Answers number phase) accepts = present_within g number accepts
+seat_there g (entries.Said number command reply) accepts = present_seat_is_there g number accepts.0
+seat_there g (entries.Takes number count) accepts = present_seat_is_there g number accepts
+seat_there g (entries.GivesBack number count) accepts = present_seat_is_there g number accepts
+seat_there g (entries.Answers number phase) accepts = present_seat_is_there g number accepts
 seat_there g _ accepts = tt
 
 seats_there : (g : Graph) (es : List Entry) → AcceptsAll g es → AllByRecursion (IsSeatBelow (length g.seats)) es
 seats_there g [] all = tt
-seats_there g (e ∷ es) all = (seat_there g e all.0, subst (λ n. AllByRecursion (IsSeatBelow n) es) (seats-after g e) (seats_there (after_entry g e) es all.1))
+seats_there g (e ∷ es) all = (seat_there g e all.0, subst (λ n. AllByRecursion (IsSeatBelow n) es) (seat_count_after_entry g e) (seats_there (after_entry g e) es all.1))
 
 -- so each entry of a legal history has one of the heap's
 pub seats_below : (heap : Heap) (es : List Entry) → IsObjectLegal heap es → AllByRecursion (IsSeatBelow heap.seats) es
@@ -84,7 +84,7 @@ module _ (part : Effect → ℕ) where
           → total part (e ∷ es) ≡ total part (filter is_collectors (e ∷ es)) + sum_by (of_seat (e ∷ es)) (range_with_len 0 seats)
       by (inl collectors) within rest =
           let mine = ap (total part) (filter-yes is_collectors e es collectors.0) ∙ sum_by-cons (λ x. part (effect_of x)) e (filter is_collectors es) in
-          let same = sums_same (of_seat es) (of_seat (e ∷ es)) 0 seats (λ n above under. ap (total part) (filter-no (is_of n) e es (collectors.1 n))) in
+          let same = sum_of_same_parts (of_seat es) (of_seat (e ∷ es)) 0 seats (λ n above under. ap (total part) (filter-no (is_of n) e es (collectors.1 n))) in
           omega (arith, whole, rest, mine, same)
       by (inr own) within rest =
           let m = own.0 in
@@ -92,18 +92,18 @@ module _ (part : Effect → ℕ) where
           let none = ap (total part) (filter-no is_collectors e es own.2) in
           let here : of_seat (e ∷ es) m ≡ of_seat es m + value
           = ap (total part) (filter-yes (is_of m) e es (own.3 m ∙ eq-eqb m m refl)) ∙ sum_by-cons (λ x. part (effect_of x)) e (filter (is_of m) es) ∙ omega arith in
-          let more = sum_one (of_seat es) (of_seat (e ∷ es)) 0 seats m value (λ n under apart. ap (total part) (filter-no (is_of n) e es (own.3 n ∙ ne_eqb m n (λ same. apart (sym same))))) here (omega arith) (omega (arith, less)) in
+          let more = sum_grows_at_one (of_seat es) (of_seat (e ∷ es)) 0 seats m value (λ n under apart. ap (total part) (filter-no (is_of n) e es (own.3 n ∙ ne_eqb m n (λ same. apart (sym same))))) here (omega arith) (omega (arith, less)) in
           omega (arith, whole, rest, none, more)
 
 -- lists that are the same with one element more are the same, and so is the element
-pub snoc_same : {X : Type 0} → (xs ys : List X) (x y : X) → xs ++ x ∷ [] ≡ ys ++ y ∷ [] → (xs ≡ ys) × (x ≡ y)
-snoc_same [] [] x y same = (refl, cc same)
-snoc_same [] (b ∷ []) x y same = absurd (cc same)
-snoc_same [] (b ∷ (c ∷ ys)) x y same = absurd (cc same)
-snoc_same (a ∷ []) [] x y same = absurd (cc same)
-snoc_same (a ∷ (c ∷ xs)) [] x y same = absurd (cc same)
-snoc_same (a ∷ xs) (b ∷ ys) x y same =
-    let rest = snoc_same xs ys x y (cc same) in
+pub snoc_is_injective : {X : Type 0} → (xs ys : List X) (x y : X) → xs ++ x ∷ [] ≡ ys ++ y ∷ [] → (xs ≡ ys) × (x ≡ y)
+snoc_is_injective [] [] x y same = (refl, cc same)
+snoc_is_injective [] (b ∷ []) x y same = absurd (cc same)
+snoc_is_injective [] (b ∷ (c ∷ ys)) x y same = absurd (cc same)
+snoc_is_injective (a ∷ []) [] x y same = absurd (cc same)
+snoc_is_injective (a ∷ (c ∷ xs)) [] x y same = absurd (cc same)
+snoc_is_injective (a ∷ xs) (b ∷ ys) x y same =
+    let rest = snoc_is_injective xs ys x y (cc same) in
     let first : a ≡ b = cc same in
     (ap (λ z. z ∷ xs) first ∙ ap (λ l. b ∷ l) rest.0, rest.1)
 
@@ -112,7 +112,7 @@ module _ (heap : Heap) (one other : List Entry) (legal : IsObjectLegal heap one)
   logs es = map (λ n. filter (is_of n) es) (range_with_len 0 heap.seats)
 
   apart : (logs one ≡ logs other) × (filter is_collectors one ≡ filter is_collectors other)
-  apart = snoc_same (logs one) (logs other) (filter is_collectors one) (filter is_collectors other) same
+  apart = snoc_is_injective (logs one) (logs other) (filter is_collectors one) (filter is_collectors other) same
 
   seat_same : (n : ℕ) → filter (is_of n) one ≡ filter (is_of n) other
   seat_same n = elim (cases_lt n heap.seats) [
@@ -122,12 +122,12 @@ module _ (heap : Heap) (one other : List Entry) (legal : IsObjectLegal heap one)
   ]
 
   -- they keep each other's logs
-  pub keeps_logs : KeepsLogs one other
-  keeps_logs = record { seats = λ n. sym (seat_same n); collector = sym apart.1 }
+  pub keep_each_others_logs : KeepsLogs one other
+  keep_each_others_logs = record { seats = λ n. sym (seat_same n); collector = sym apart.1 }
 
   -- and come to the same
   pub same_totals : (part : Effect → ℕ) → total part one ≡ total part other
   same_totals part =
       by_logs part heap.seats one (seats_below heap one legal)
-      ∙ omega (arith, ap (total part) apart.1, sums_same (of_seat part other) (of_seat part one) 0 heap.seats (λ n above under. ap (total part) (seat_same n)))
+      ∙ omega (arith, ap (total part) apart.1, sum_of_same_parts (of_seat part other) (of_seat part one) 0 heap.seats (λ n above under. ap (total part) (seat_same n)))
       ∙ sym (by_logs part heap.seats other (seats_below heap other legal_too))

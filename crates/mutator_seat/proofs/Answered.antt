@@ -24,9 +24,9 @@ use Rattle.heap_table.specs.Made.{Made, MakesSteps, IsSound}
 use Rattle.heap_table.specs.SeatHeld.{SeatHeld}
 use Rattle.mutator_seat.specs.Calls.{begun, ToldIn, MakesCall}
 use Rattle.mutator_seat.specs.Resting.{Rests}
-use Rattle.mutator_seat.proofs.Causes.{refused_keeps, cause_of}
-use Rattle.mutator_seat.proofs.KeptOn.{counts_so}
-use Rattle.mutator_seat.proofs.Since.{stage_since}
+use Rattle.mutator_seat.proofs.Causes.{keeps_whole_where_refused, reply_has_its_cause}
+use Rattle.mutator_seat.proofs.KeptOn.{call_counts_so}
+use Rattle.mutator_seat.proofs.Since.{stage_stands_since}
 
 module _ (old : SeatHeld) (command : Command) (rests : Rests old) (may : MayBegin old.seat command) where
   abbrev sound : IsSound old
@@ -36,11 +36,11 @@ module _ (old : SeatHeld) (command : Command) (rests : Rests old) (may : MayBegi
   stands = begin_stands old.heap old.number old.seat command sound.limits sound.fits may
 
   -- the begin leaves data that fit together, and owes what there is room for
-  pub begun_sound : (held : SeatHeld) → held ≡ begun old command → IsSound held
-  begun_sound held is = subst IsSound (sym is) (record { limits = sound.limits; within = sound.within; fits = stands.fits })
+  pub begun_is_sound : (held : SeatHeld) → held ≡ begun old command → IsSound held
+  begun_is_sound held is = subst IsSound (sym is) (record { limits = sound.limits; within = sound.within; fits = stands.fits })
 
-  pub begun_room : (held : SeatHeld) → held ≡ begun old command → 2 * need_of command + 4 ≤ old.spare → owes held.seat + 2 ≤ held.spare
-  begun_room held is room = subst (λ (h : SeatHeld). owes h.seat + 2 ≤ h.spare) (sym is) (enough (owes (begun old command).seat) (need_of command) old.spare stands.owed room)
+  pub begun_has_room : (held : SeatHeld) → held ≡ begun old command → 2 * need_of command + 4 ≤ old.spare → owes held.seat + 2 ≤ held.spare
+  begun_has_room held is room = subst (λ (h : SeatHeld). owes h.seat + 2 ≤ h.spare) (sym is) (enough (owes (begun old command).seat) (need_of command) old.spare stands.owed room)
     where
       enough : (owed need room : ℕ) → owed ≤ 2 * need + 2 → 2 * need + 4 ≤ room → owed + 2 ≤ room
       enough owed need room a b = omega arith
@@ -50,7 +50,7 @@ module _ (old : SeatHeld) (command : Command) (rests : Rests old) (may : MayBegi
     tells = ToldIn old made
 
     ends : (told : List Entry) × OwnStage tells old.heap old.number command old.seat new.seat told
-    ends = stage_since old.heap old.number old.seat tells command sound.limits (omega (arith, sound.within, sound.limits.seats_fit)) made (begun old command).seat new.seat [] stands.fits makes.leads
+    ends = stage_stands_since old.heap old.number old.seat tells command sound.limits (omega (arith, sound.within, sound.limits.seats_fit)) made (begun old command).seat new.seat [] stands.fits makes.leads
         (λ step word found told. (found, told)) (own_begins tells old.heap old.number old.seat command sound.limits sound.fits may)
 
     answered : IsAnswered tells old.heap old.number command (kept_of old.seat) (kept_of new.seat) ends.0
@@ -72,9 +72,9 @@ module _ (old : SeatHeld) (command : Command) (rests : Rests old) (may : MayBegi
       comes = comes_before old.number (kept_of old.seat) command answered.reply answered.first answered.comes near;
       stands = answered.stands;
       room = omega (arith, makes.room_stays, ap (length {A = Entry}) stands.kept);
-      cause = cause_of old new command made answered.first sound answered.reply answered.stands;
-      refused = refused_keeps old new command made answered.first answered.reply answered.stands;
-      waits_stay = (counts_so tells old.heap old.number (kept_of old.seat) (kept_of new.seat) answered.first command answered.reply answered.stands).waits;
+      cause = reply_has_its_cause old new command made answered.first sound answered.reply answered.stands;
+      refused = keeps_whole_where_refused old new command made answered.first answered.reply answered.stands;
+      waits_stay = (call_counts_so tells old.heap old.number (kept_of old.seat) (kept_of new.seat) answered.first command answered.reply answered.stands).waits;
     }
 
     last_told : last_reply_of new.seat.mine ≡ Some answered.reply
@@ -82,14 +82,14 @@ module _ (old : SeatHeld) (command : Command) (rests : Rests old) (may : MayBegi
         ∙ last_reply-said (old.seat.mine ++ answered.first) old.number command answered.reply
 
     -- the call was made whole, and its reply is told by the last entry
-    pub call_replied : (reply : Reply) → last_reply_of new.seat.mine ≡ Some reply → MakesCall old new command reply
-    call_replied reply is = subst (MakesCall old new command) (same answered.reply reply (sym last_told ∙ is)) call_made
+    pub replied_call_is_made : (reply : Reply) → last_reply_of new.seat.mine ≡ Some reply → MakesCall old new command reply
+    replied_call_is_made reply is = subst (MakesCall old new command) (same answered.reply reply (sym last_told ∙ is)) call_made
       where
         same : (a b : Reply) → Some a ≡ Some b → a ≡ b
         same a b e = cc
 
-    pub call_replies : last_reply_of new.seat.mine ≡ None → ⊥
-    call_replies none = absurd (differ answered.reply (sym last_told ∙ none))
+    pub call_has_some_reply : last_reply_of new.seat.mine ≡ None → ⊥
+    call_has_some_reply none = absurd (differ answered.reply (sym last_told ∙ none))
       where
         differ : (a : Reply) → Some a ≡ None → ⊥
         differ a e = cc

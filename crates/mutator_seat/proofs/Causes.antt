@@ -12,9 +12,9 @@ use Rattle.core_machine.specs.declared.step.SpineStep.TheVariants.{BudgetAdd}
 use Rattle.core_machine.specs.declared.step.Step.TheVariants.{Spine}
 use Rattle.core_machine.specs.machine.Calls.{KeepsOwn, IsPlaceRefusal}
 use Rattle.core_machine.specs.seat.Seat.{Seat}
-use Rattle.core_machine.proofs.call_lemmas.GoingOn.{every_group}
-use Rattle.core_machine.proofs.call_lemmas.RepliesAlone.{local_refused}
-use Rattle.core_machine.proofs.table_lemmas.Free.{clear_in-claimed}
+use Rattle.core_machine.proofs.call_lemmas.GoingOn.{holds_of_every_group}
+use Rattle.core_machine.proofs.call_lemmas.RepliesAlone.{refusal_leaves_registers}
+use Rattle.core_machine.proofs.table_lemmas.Free.{claimed_group_has_none_clear}
 use Rattle.heap_table.specs.Made.{Made, FoundIn, IsSound}
 use Rattle.heap_table.specs.SeatHeld.{SeatHeld}
 use Rattle.frag_claim.specs.Gathered.{IsClaimed, IsExhausted}
@@ -33,26 +33,26 @@ module _ (old new : SeatHeld) (command : Command) (made : List Made) (first : Li
   abbrev Stands : Reply → Type 0
   Stands reply = StandsOn (ToldIn old made) old.heap old.number command (kept_of old.seat) (kept_of new.seat) first reply
 
-  pub refused_keeps : (reply : Reply) → Stands reply → KeepsWhereRefused old new reply
-  refused_keeps replies.NoObject is =
-      keeps_kept old.seat new.seat _ is.kept_is (local_refused old.seat.registers command (subst IsPlaceRefusal is.reply_is tt)) refl refl refl
-  refused_keeps replies.NoField is = keeps_kept old.seat new.seat _ is.keeps refl refl refl refl
-  refused_keeps (replies.Full need found) is = keeps_kept old.seat new.seat _ is.keeps refl refl refl refl
-  refused_keeps (replies.SpineFull need used) is = keeps_kept old.seat new.seat _ is.keeps refl refl refl refl
-  refused_keeps _ is = tt
+  pub keeps_whole_where_refused : (reply : Reply) → Stands reply → KeepsWhereRefused old new reply
+  keeps_whole_where_refused replies.NoObject is =
+      keeps_kept old.seat new.seat _ is.kept_is (refusal_leaves_registers old.seat.registers command (subst IsPlaceRefusal is.reply_is tt)) refl refl refl
+  keeps_whole_where_refused replies.NoField is = keeps_kept old.seat new.seat _ is.keeps refl refl refl refl
+  keeps_whole_where_refused (replies.Full need found) is = keeps_kept old.seat new.seat _ is.keeps refl refl refl refl
+  keeps_whole_where_refused (replies.SpineFull need used) is = keeps_kept old.seat new.seat _ is.keeps refl refl refl refl
+  keeps_whole_where_refused _ is = tt
 
   -- every group was claimed
   claimed_at : (claimed : List ℕ) (group : ℕ) → ClaimsGroup (ToldIn old made) claimed group → IsClaimed made claimed group
   claimed_at claimed group claims = record {
     claim = record { word = claims.word; told = claims.told.0; got = claims.got };
-    leaves = clear_in-claimed group claims.word;
+    leaves = claimed_group_has_none_clear group claims.word;
   }
 
   exhausted : IsSound old → (need found : ℕ) → IsFull (ToldIn old made) old.heap old.number command (kept_of old.seat) (kept_of new.seat) need found
       → IsExhausted made old.heap.groups old.seat.reserve found
   exhausted sound need found is = record {
     claimed = is.claimed;
-    every = λ group below. every_group old.heap.groups old.seat.cursor old.heap.groups group (IsClaimed made is.claimed) sound.fits.own.cursor_within (omega arith) below
+    every = λ group below. holds_of_every_group old.heap.groups old.seat.cursor old.heap.groups group (IsClaimed made is.claimed) sound.fits.own.cursor_within (omega arith) below
         (λ i less. claimed_at is.claimed ((old.seat.cursor + i) % old.heap.groups) (is.gathered.claims i less));
     found_is = is.found_is;
   }
@@ -63,8 +63,8 @@ module _ (old new : SeatHeld) (command : Command) (made : List Made) (first : Li
       let whole : is.word ≡ used = sym (is.used_is ∙ mod-eq_of_lt is.told.1) in
       subst (λ (n : ℕ). FoundIn made (Spine (BudgetAdd n)) used) (sym is.shown_is) (subst (λ (n : ℕ). FoundIn made (Spine (BudgetAdd (spine_need_of command))) n) whole is.told.0)
 
-  pub cause_of : IsSound old → (reply : Reply) → Stands reply → IsCauseOf made old reply
-  cause_of sound (replies.Phase p) is = is.told.0
-  cause_of sound (replies.Full need found) is = exhausted sound need found is
-  cause_of sound (replies.SpineFull need used) is = shown_whole need used is
-  cause_of sound _ is = tt
+  pub reply_has_its_cause : IsSound old → (reply : Reply) → Stands reply → IsCauseOf made old reply
+  reply_has_its_cause sound (replies.Phase p) is = is.told.0
+  reply_has_its_cause sound (replies.Full need found) is = exhausted sound need found is
+  reply_has_its_cause sound (replies.SpineFull need used) is = shown_whole need used is
+  reply_has_its_cause sound _ is = tt

@@ -51,8 +51,8 @@ number_left held commands.Poll rests has = tt
 number_left held commands.Collect rests has = tt
 number_left held commands.Leave rests has = tt
 
-pub ready_begins : (held : SeatHeld) (command : Command) → Rests held → IsServed command → IsReady (seat_state held) command → MayBegin held.seat command
-ready_begins held command rests served ready = record {
+pub ready_may_begin : (held : SeatHeld) (command : Command) → Rests held → IsServed command → IsReady (seat_state held) command → MayBegin held.seat command
+ready_may_begin held command rests served ready = record {
   idle = rests.between.idle;
   present = rests.told.left ∙ ready.present;
   served = served;
@@ -62,8 +62,8 @@ ready_begins held command rests served ready = record {
 
 module _ (old new : SeatHeld) (command : Command) (reply : Reply) (call : MakesCall old new command reply) where
   -- its entries are those of the command
-  pub call_adds : Adds (seat_state old) (seat_state new) command reply
-  call_adds = record {
+  pub call_adds_its_entries : Adds (seat_state old) (seat_state new) command reply
+  call_adds_its_entries = record {
     heap = call.makes.heap_stays;
     number = call.makes.number_stays;
     unborn = length old.seat.reserve;
@@ -111,19 +111,19 @@ module _ (old new : SeatHeld) (command : Command) (reply : Reply) (call : MakesC
       }
 
 -- as the trait says it of a record
-pub record_made : (old new : SeatHeld) (d fields : ℕ) (result : Result Id Full) → MakesCall old new (commands.New d fields) (record_reply result) → IfOk result (λ id. id ≡ next_id (seat_state old))
-record_made old new d fields (Ok id) call = call_names old new (commands.New d fields) (replies.Made id) call id refl
-record_made old new d fields (Err full) call = tt
+pub record_gets_next_id : (old new : SeatHeld) (d fields : ℕ) (result : Result Id Full) → MakesCall old new (commands.New d fields) (record_reply result) → IfOk result (λ id. id ≡ next_id (seat_state old))
+record_gets_next_id old new d fields (Ok id) call = call_names old new (commands.New d fields) (replies.Made id) call id refl
+record_gets_next_id old new d fields (Err full) call = tt
 
-pub record_lacks : (old new : SeatHeld) (d fields : ℕ) (result : Result Id Full) → MakesCall old new (commands.New d fields) (record_reply result)
+pub refused_record_lacks_fragments : (old new : SeatHeld) (d fields : ℕ) (result : Result Id Full) → MakesCall old new (commands.New d fields) (record_reply result)
     → IfErr result (λ full. LacksFragments (seat_state old) (seat_state new) (record_fragments fields) full.need full.found)
-record_lacks old new d fields (Ok id) call = tt
-record_lacks old new d fields (Err full) call = call_lacks old new (commands.New d fields) (replies.Full full.need full.found) call full.need full.found refl tt
+refused_record_lacks_fragments old new d fields (Ok id) call = tt
+refused_record_lacks_fragments old new d fields (Err full) call = call_lacks old new (commands.New d fields) (replies.Full full.need full.found) call full.need full.found refl tt
 
 -- and of an array
-pub array_made : (old new : SeatHeld) (d cells : ℕ) (result : Result Id SpaceRefusal) → MakesCall old new (commands.Array d cells) (array_reply result) → IfOk result (λ id. id ≡ next_id (seat_state old))
-array_made old new d cells (Ok id) call = call_names old new (commands.Array d cells) (replies.Made id) call id refl
-array_made old new d cells (Err refusal) call = tt
+pub array_gets_next_id : (old new : SeatHeld) (d cells : ℕ) (result : Result Id SpaceRefusal) → MakesCall old new (commands.Array d cells) (array_reply result) → IfOk result (λ id. id ≡ next_id (seat_state old))
+array_gets_next_id old new d cells (Ok id) call = call_names old new (commands.Array d cells) (replies.Made id) call id refl
+array_gets_next_id old new d cells (Err refusal) call = tt
 
 array_refused : (old new : SeatHeld) (d cells : ℕ) (refusal : SpaceRefusal) → MakesCall old new (commands.Array d cells) (array_reply (Err refusal)) → LacksSpace (seat_state old) (seat_state new) cells refusal
 array_refused old new d cells (spaces.Full need found) call = call_lacks old new (commands.Array d cells) (replies.Full need found) call need found refl tt
@@ -131,14 +131,14 @@ array_refused old new d cells (spaces.SpineFull need used) call =
     let stands = call.stands in
     (stands.shown_is, omega (arith, stands.too_many, stands.used_is ∙ mod-eq_of_lt stands.told.1))
 
-pub array_lacks : (old new : SeatHeld) (d cells : ℕ) (result : Result Id SpaceRefusal) → MakesCall old new (commands.Array d cells) (array_reply result)
+pub refused_array_lacks_space : (old new : SeatHeld) (d cells : ℕ) (result : Result Id SpaceRefusal) → MakesCall old new (commands.Array d cells) (array_reply result)
     → IfErr result (LacksSpace (seat_state old) (seat_state new) cells)
-array_lacks old new d cells (Ok id) call = tt
-array_lacks old new d cells (Err refusal) call = array_refused old new d cells refusal call
+refused_array_lacks_space old new d cells (Ok id) call = tt
+refused_array_lacks_space old new d cells (Err refusal) call = array_refused old new d cells refusal call
 
 -- a seat that has left keeps nothing
-pub leaves_nothing : (old new : SeatHeld) → MakesCall old new commands.Leave replies.Done → KeepsNothing (seat_state new)
-leaves_nothing old new call =
+pub left_keeps_nothing : (old new : SeatHeld) → MakesCall old new commands.Leave replies.Done → KeepsNothing (seat_state new)
+left_keeps_nothing old new call =
     let said : Entry = Said old.number commands.Leave replies.Done in
     let before : ComeTo old.number old.seat.mine (taken_of old.number old.seat.mine) (spent_of old.number old.seat.mine) (last_answer old.number old.seat.mine) = record { takes = refl; spends = refl; replies = refl } in
     let between : ComeTo old.number call.first 0 (length old.seat.reserve) 0 = subst (λ (l : List Entry). ComeTo old.number l 0 (length old.seat.reserve) 0) (sym call.comes) (come_to-last_gives old.number (length old.seat.reserve)) in

@@ -26,15 +26,15 @@ use Rattle.core_machine.specs.seat.Commands.{object_of, field_of, target_of}
 use Rattle.core_machine.specs.seat.FitsAccess.{NamesObject, NamesField}
 use Rattle.core_machine.specs.seat.Local.{answer_of}
 use Rattle.core_machine.specs.seat.Registers.{register_in, register_head, value_of, is_same_value}
-use Rattle.core_machine.proofs.own_stages.Objects.{held_head, none_refused, refused_none}
+use Rattle.core_machine.proofs.own_stages.Objects.{held_head, reply_is_no_object, no_object_is_held}
 use Rattle.core_rule.specs.told.Found.{IsMetaOf}
 use Rattle.core_rule.specs.graph.Registers.{IsAwaited}
-use Rattle.core_rule.proofs.graph.SameValues.{same_tells}
+use Rattle.core_rule.proofs.graph.SameValues.{same_value_test_tells}
 use Rattle.heap_table.specs.SeatHeld.{SeatHeld}
 use Rattle.mutator_seat.specs.Calls.{ToldIn, MakesCall}
 use Rattle.mutator_seat.specs.Replies.{AnswersGet, AnswersSet, IsReplyTo}
 use Rattle.mutator_seat.specs.Resting.{seat_state, Rests}
-use Rattle.mutator_seat.proofs.Replied.{reply_to}
+use Rattle.mutator_seat.proofs.Replied.{reply_is_to_command}
 use Rattle.mutator_seat.proofs.Refusals.{register_told, refused_without, none_of_own, IsOwnMeta, meta_of_own, refused_past}
 
 -- a refusal is told by its reply
@@ -72,31 +72,31 @@ set_other stamp = (λ e. cc, λ e. cc)
 
 -- as the trait says it of a get
 module _ (old new : SeatHeld) (d r i : ℕ) (result : Result (Value × ℕ) PlaceRefusal) (call : MakesCall old new (commands.Get d r i) (get_reply result)) where
-  pub get_none : (result ≡ Err refusals.NoObject) ↔ HoldsNoObject (seat_state old) r
-  get_none = none_exactly get_reply refl refl got_other result (refused_without old new (commands.Get d r i) (get_reply result) call tt)
+  pub get_refused_without_object : (result ≡ Err refusals.NoObject) ↔ HoldsNoObject (seat_state old) r
+  get_refused_without_object = none_exactly get_reply refl refl got_other result (refused_without old new (commands.Get d r i) (get_reply result) call tt)
 
-  pub get_past : IfSome (own_object (seat_state old) r) (λ object. (result ≡ Err refusals.NoField) ↔ (length object.cells ≤ i))
-  get_past = past_exactly get_reply refl refl got_other (λ object. length object.cells ≤ i) (own_object (seat_state old) r) result (refused_past old new (commands.Get d r i) (get_reply result) call tt tt)
+  pub get_refused_past_end : IfSome (own_object (seat_state old) r) (λ object. (result ≡ Err refusals.NoField) ↔ (length object.cells ≤ i))
+  get_refused_past_end = past_exactly get_reply refl refl got_other (λ object. length object.cells ≤ i) (own_object (seat_state old) r) result (refused_past old new (commands.Get d r i) (get_reply result) call tt tt)
 
 -- of a set
 module _ (old new : SeatHeld) (r i v : ℕ) (result : Result ℕ PlaceRefusal) (call : MakesCall old new (commands.Set r i v) (set_reply result)) where
-  pub set_none : (result ≡ Err refusals.NoObject) ↔ HoldsNoObject (seat_state old) r
-  set_none = none_exactly set_reply refl refl set_other result (refused_without old new (commands.Set r i v) (set_reply result) call tt)
+  pub set_refused_without_object : (result ≡ Err refusals.NoObject) ↔ HoldsNoObject (seat_state old) r
+  set_refused_without_object = none_exactly set_reply refl refl set_other result (refused_without old new (commands.Set r i v) (set_reply result) call tt)
 
-  pub set_past : IfSome (own_object (seat_state old) r) (λ object. (result ≡ Err refusals.NoField) ↔ (length object.cells ≤ i))
-  set_past = past_exactly set_reply refl refl set_other (λ object. length object.cells ≤ i) (own_object (seat_state old) r) result (refused_past old new (commands.Set r i v) (set_reply result) call tt tt)
+  pub set_refused_past_end : IfSome (own_object (seat_state old) r) (λ object. (result ≡ Err refusals.NoField) ↔ (length object.cells ≤ i))
+  set_refused_past_end = past_exactly set_reply refl refl set_other (λ object. length object.cells ≤ i) (own_object (seat_state old) r) result (refused_past old new (commands.Set r i v) (set_reply result) call tt tt)
 
 -- of a len
 module _ (old new : SeatHeld) (r : ℕ) where
-  pub len_none : (result : Result ℕ NoObject) → MakesCall old new (commands.Len r) (len_reply result) → IsErr result ↔ HoldsNoObject (seat_state old) r
-  len_none (Ok n) call = (λ e. absurd (differ_err e), λ holds. absurd (differ ((refused_without old new (commands.Len r) (replies.Length n) call tt).1 holds)))
+  pub len_refused_without_object : (result : Result ℕ NoObject) → MakesCall old new (commands.Len r) (len_reply result) → IsErr result ↔ HoldsNoObject (seat_state old) r
+  len_refused_without_object (Ok n) call = (λ e. absurd (differ_err e), λ holds. absurd (differ ((refused_without old new (commands.Len r) (replies.Length n) call tt).1 holds)))
     where
       differ : replies.Length n ≡ replies.NoObject → ⊥
       differ e = cc
 
       differ_err : IsErr {T = ℕ} {E = NoObject} (Ok n) → ⊥
       differ_err e = cc
-  len_none (Err none) call = (λ e. (refused_without old new (commands.Len r) replies.NoObject call tt).0 refl, λ holds. refl)
+  len_refused_without_object (Err none) call = (λ e. (refused_without old new (commands.Len r) replies.NoObject call tt).0 refl, λ holds. refl)
 
   len_by : (own : Option Node) (result : Result ℕ NoObject) (call : MakesCall old new (commands.Len r) (len_reply result)) → (len_reply result ≡ replies.NoObject → own ≡ None)
       → ((head meta : ℕ) → HasOpened (ToldIn old call.made) (commands.Len r) (kept_of old.seat) head meta → IsOwnMeta own meta) → IfSome own (λ object. result ≡ Ok (length object.cells))
@@ -107,21 +107,21 @@ module _ (old new : SeatHeld) (r : ℕ) where
       differ : Some object ≡ None → ⊥
       differ e = cc
 
-  pub len_own : (result : Result ℕ NoObject) → MakesCall old new (commands.Len r) (len_reply result) → IfSome (own_object (seat_state old) r) (λ object. result ≡ Ok (length object.cells))
-  len_own result call =
+  pub len_is_own_length : (result : Result ℕ NoObject) → MakesCall old new (commands.Len r) (len_reply result) → IfSome (own_object (seat_state old) r) (λ object. result ≡ Ok (length object.cells))
+  len_is_own_length result call =
       len_by (own_object (seat_state old) r) result call (none_of_own old new (commands.Len r) (len_reply result) call tt) (meta_of_own old new (commands.Len r) (len_reply result) call tt)
 
 -- of a same
 module _ (old new : SeatHeld) (a b : ℕ) where
   same_by : (u v : Value) (result : Bool) → same_reply result ≡ answer_of (is_same_value u v) → IsTrue result ↔ (u ≡ v)
-  same_by u v true is = elim (same_tells u v) as (λ _. IsTrue true ↔ (u ≡ v)) [
+  same_by u v true is = elim (same_value_test_tells u v) as (λ _. IsTrue true ↔ (u ≡ v)) [
     | inl same ↦ (λ e. same.1, λ e. refl)
     | inr other ↦ absurd (differ (is ∙ ap answer_of other.0))
   ]
     where
       differ : replies.Yes ≡ replies.No → ⊥
       differ e = cc
-  same_by u v false is = elim (same_tells u v) as (λ _. IsTrue false ↔ (u ≡ v)) [
+  same_by u v false is = elim (same_value_test_tells u v) as (λ _. IsTrue false ↔ (u ≡ v)) [
     | inl same ↦ absurd (differ (is ∙ ap answer_of same.0))
     | inr other ↦ (λ e. cc, λ e. absurd (other.1 e))
   ]
@@ -134,8 +134,8 @@ module _ (old new : SeatHeld) (a b : ℕ) where
   replied true call = call.stands.reply_is
   replied false call = call.stands.reply_is
 
-  pub same_exactly : (result : Bool) → MakesCall old new (commands.Same a b) (same_reply result) → IsTrue result ↔ (held_value (seat_state old) a ≡ held_value (seat_state old) b)
-  same_exactly result call =
+  pub same_where_values_equal : (result : Bool) → MakesCall old new (commands.Same a b) (same_reply result) → IsTrue result ↔ (held_value (seat_state old) a ≡ held_value (seat_state old) b)
+  same_where_values_equal result call =
       let u = register_told old a call.rested in
       let v = register_told old b call.rested in
       subst (λ (x : Value). IsTrue result ↔ (x ≡ held_value (seat_state old) b)) u

@@ -23,14 +23,14 @@ use Rattle.core_machine.specs.Moves.{Move, due_step, seat_after, seat_after_due}
 use Rattle.core_machine.specs.seat.Fits.{Fits}
 use Rattle.core_machine.specs.seat.Looks.{MayMake}
 use Rattle.core_machine.specs.seat.Seat.{Seat}
-use Rattle.core_machine.proofs.moves.{due_move}
+use Rattle.core_machine.proofs.moves.{due_step_is_moves}
 use Rattle.core_machine.proofs.moves.Collect.{InnerStands, inner_stands}
-use Rattle.core_machine.proofs.own_stages.Inner.{inner_leads, inner_begins, inner_ended}
+use Rattle.core_machine.proofs.own_stages.Inner.{own_inner_leads, own_inner_begins, placeless_inner_is_over}
 use Rattle.core_rule.specs.told.Told.{IsAsTold}
 use Rattle.heap_table.specs.Begun.{next_seat}
 use Rattle.heap_table.specs.Made.{Made, FoundIn, LeadsTo, MakesSteps, IsSound}
 use Rattle.heap_table.specs.SeatHeld.{SeatHeld}
-use Rattle.heap_table.proofs.MadeSteps.{found_first, found_more}
+use Rattle.heap_table.proofs.MadeSteps.{found_in_first_step, found_in_longer_steps}
 use Rattle.mutator_seat.specs.InnerCalls.{MayCollect, begun_inner, MakesInner}
 use Rattle.mutator_seat.specs.Resting.{seat_state, Rests}
 
@@ -39,11 +39,11 @@ module _ (heap : Heap) (number : ℕ) (inner : Inner) (old : Seat) (tells : Step
   inner_on : (seat : Seat) (told : List Entry) (step : Step) (found : ℕ) → Fits heap seat → due_step heap number seat ≡ Some step → tells step found → OwnInnerStage tells number inner old seat told
       → (more : List Entry) × OwnInnerStage tells number inner old (next_seat heap number seat found) (told ++ more)
   inner_on seat told step found fits due tell stage =
-      let move = due_move heap number seat step due in
+      let move = due_step_is_moves heap number seat step due in
       let here : seat_after move.0 found ≡ next_seat heap number seat found = sym (ap (λ (m : Option Move). seat_after_due seat m found) move.1) in (
         move.0.adds found,
         subst (λ (s : Seat). OwnInnerStage tells number inner old s (told ++ move.0.adds found)) here
-            (inner_leads tells heap number inner old seat told move.0 found limits few fits move.1 (subst (λ (s : Step). tells s found) (sym move.2) tell) stage),
+            (own_inner_leads tells heap number inner old seat told move.0 found limits few fits move.1 (subst (λ (s : Step). tells s found) (sym move.2) tell) stage),
       )
 
   inner_along : (made : List Made) (seat new : Seat) (told : List Entry) → Fits heap seat → LeadsTo heap number seat made new → ((step : Step) (word : ℕ) → FoundIn made step word → tells step word)
@@ -51,8 +51,8 @@ module _ (heap : Heap) (number : ℕ) (inner : Inner) (old : Seat) (tells : Step
   inner_along [] seat new told fits leads tell stage =
       ([], subst (λ (t : List Entry). OwnInnerStage tells number inner old new t) (sym (append-nil told)) (subst (λ (s : Seat). OwnInnerStage tells number inner old s told) (sym leads) stage))
   inner_along (m ∷ made) seat new told fits leads tell stage =
-      let on = inner_on seat told m.step m.found fits leads.0 (tell m.step m.found (found_first made m)) stage in
-      let rest = inner_along made (next_seat heap number seat m.found) new (told ++ on.0) leads.1.fits leads.2 (λ step word there. tell step word (found_more made m step word there)) on.1 in
+      let on = inner_on seat told m.step m.found fits leads.0 (tell m.step m.found (found_in_first_step made m)) stage in
+      let rest = inner_along made (next_seat heap number seat m.found) new (told ++ on.0) leads.1.fits leads.2 (λ step word there. tell step word (found_in_longer_steps made m step word there)) on.1 in
       (on.0 ++ rest.0, subst (λ (t : List Entry). OwnInnerStage tells number inner old new t) (append_assoc told on.0 rest.0) rest.1)
 
 -- what an inner call tells is the seat's own, and it does no set
@@ -101,11 +101,11 @@ module _ (inside value : SeatHeld) (inner : Inner) (view : inside ≡ value) (re
     begun_is : first ≡ begun_inner value inner
     begun_is = is ∙ ap (λ (h : SeatHeld). begun_inner h inner) view
 
-    pub inner_sound : IsSound first
-    inner_sound = subst IsSound (sym begun_is) (record { limits = rested.sound.limits; within = rested.sound.within; fits = stands.fits })
+    pub begun_inner_is_sound : IsSound first
+    begun_inner_is_sound = subst IsSound (sym begun_is) (record { limits = rested.sound.limits; within = rested.sound.within; fits = stands.fits })
 
-    pub inner_room : owes first.seat + 2 ≤ first.spare
-    inner_room = subst (λ (h : SeatHeld). owes h.seat + 2 ≤ h.spare) (sym begun_is) (enough (owes (begun_inner value inner).seat) value.spare stands.owed ready.room)
+    pub begun_inner_has_room : owes first.seat + 2 ≤ first.spare
+    begun_inner_has_room = subst (λ (h : SeatHeld). owes h.seat + 2 ≤ h.spare) (sym begun_is) (enough (owes (begun_inner value inner).seat) value.spare stands.owed ready.room)
       where
         enough : (owed spare : ℕ) → owed ≤ 2 → 4 ≤ spare → owed + 2 ≤ spare
         enough owed spare a b = omega arith
@@ -116,13 +116,13 @@ module _ (inside value : SeatHeld) (inner : Inner) (view : inside ≡ value) (re
 
       ends : (told : List Entry) × OwnInnerStage (FoundIn steps.0) value.number inner value.seat new.seat told
       ends = inner_along value.heap value.number inner value.seat (FoundIn steps.0) rested.sound.limits (omega (arith, rested.sound.within, rested.sound.limits.seats_fit)) steps.0 (begun_inner value inner).seat new.seat []
-          stands.fits makes_on.leads (λ step word found. found) (inner_begins (FoundIn steps.0) value.number value.seat inner)
+          stands.fits makes_on.leads (λ step word found. found) (own_inner_begins (FoundIn steps.0) value.number value.seat inner)
 
       over_then : IsInnerOver (FoundIn steps.0) value.number (kept_of value.seat) (kept_of new.seat) ends.0 inner
-      over_then = inner_ended (FoundIn steps.0) value.number inner value.seat new.seat ends.0 ends.1 over
+      over_then = placeless_inner_is_over (FoundIn steps.0) value.number inner value.seat new.seat ends.0 ends.1 over
 
-      pub inner_made : MakesInner value new inner
-      inner_made = record {
+      pub inner_call_is_made : MakesInner value new inner
+      inner_call_is_made = record {
         rested = rested;
         made = steps.0;
         makes = makes_on;
@@ -136,8 +136,8 @@ module _ (inside value : SeatHeld) (inner : Inner) (view : inside ≡ value) (re
             ∙ inner_quiet (FoundIn steps.0) value.number (kept_of value.seat) (kept_of new.seat) ends.0 inner (own_graph (seat_state value)) over_then;
       }
 
-      pub inner_rests : IsSound new → (new.seat.place ≡ Idle → IsAsTold new.heap new.number new.seat) → Rests new
-      inner_rests sound told =
+      pub seat_rests_after_inner : IsSound new → (new.seat.place ≡ Idle → IsAsTold new.heap new.number new.seat) → Rests new
+      seat_rests_after_inner sound told =
           let own = inner_own (FoundIn steps.0) value.number (kept_of value.seat) (kept_of new.seat) ends.0 inner over_then in
           record {
             between = record {

@@ -34,27 +34,27 @@ module _ (tells : Step → ℕ → Type 0) (heap : Heap) (number : ℕ) (before 
   same_counts : (command : Command) (last : Kept) → kept ≡ last → last.looks.waits ≡ before.looks.waits → last.sets ≡ before.sets → CountsSo command
   same_counts command last is waits sets = record { waits = ap (λ (k : Kept). k.looks.waits) is ∙ waits; sets = inl (ap (λ (k : Kept). k.sets) is ∙ sets) }
 
-  pub counts_so : (command : Command) (reply : Reply) → StandsOn tells heap number command before kept first reply → CountsSo command
-  counts_so commands.Leave replies.Done is = same_counts commands.Leave _ is refl refl
-  counts_so _ replies.Done is = same_counts _ _ is.kept_is refl refl
-  counts_so command replies.Yes is = same_counts command _ is.kept_is refl refl
-  counts_so command replies.No is = same_counts command _ is.kept_is refl refl
-  counts_so command (replies.Made id) is =
+  pub call_counts_so : (command : Command) (reply : Reply) → StandsOn tells heap number command before kept first reply → CountsSo command
+  call_counts_so commands.Leave replies.Done is = same_counts commands.Leave _ is refl refl
+  call_counts_so _ replies.Done is = same_counts _ _ is.kept_is refl refl
+  call_counts_so command replies.Yes is = same_counts command _ is.kept_is refl refl
+  call_counts_so command replies.No is = same_counts command _ is.kept_is refl refl
+  call_counts_so command (replies.Made id) is =
       let between = is.has.kept_is in
       record {
         waits = ap (λ (k : Kept). k.looks.waits) is.kept_is ∙ ap (λ (k : Kept). k.looks.waits) between;
         sets = inl (ap (λ (k : Kept). k.sets) is.kept_is ∙ ap (λ (k : Kept). k.sets) between);
       }
-  counts_so command (replies.Got value stamp) is = same_counts command _ is.kept_is refl refl
-  counts_so command (replies.Was stamp) is = record { waits = ap (λ (k : Kept). k.looks.waits) is.kept_is; sets = inr (is.a_set, ap (λ (k : Kept). k.sets) is.kept_is) }
-  counts_so command (replies.Length n) is = same_counts command _ is.keeps refl refl
-  counts_so command (replies.Phase p) is = same_counts command _ is.kept_is refl refl
-  counts_so command (replies.Cycle j) is = absurd is
-  counts_so command (replies.Waits other answered phase) is = absurd is
-  counts_so command replies.NoObject is = same_counts command _ is.kept_is refl refl
-  counts_so command replies.NoField is = same_counts command _ is.keeps refl refl
-  counts_so command (replies.Full need found) is = same_counts command _ is.keeps refl refl
-  counts_so command (replies.SpineFull need used) is = same_counts command _ is.keeps refl refl
+  call_counts_so command (replies.Got value stamp) is = same_counts command _ is.kept_is refl refl
+  call_counts_so command (replies.Was stamp) is = record { waits = ap (λ (k : Kept). k.looks.waits) is.kept_is; sets = inr (is.a_set, ap (λ (k : Kept). k.sets) is.kept_is) }
+  call_counts_so command (replies.Length n) is = same_counts command _ is.keeps refl refl
+  call_counts_so command (replies.Phase p) is = same_counts command _ is.kept_is refl refl
+  call_counts_so command (replies.Cycle j) is = absurd is
+  call_counts_so command (replies.Waits other answered phase) is = absurd is
+  call_counts_so command replies.NoObject is = same_counts command _ is.kept_is refl refl
+  call_counts_so command replies.NoField is = same_counts command _ is.keeps refl refl
+  call_counts_so command (replies.Full need found) is = same_counts command _ is.keeps refl refl
+  call_counts_so command (replies.SpineFull need used) is = same_counts command _ is.keeps refl refl
 
 -- a set that may be begun has a stamp left
 stamp_left : (made sets : ℕ) (command : Command) → IsSet command → HasNumberLeft made sets command → sets + 1 < stamp_limit
@@ -76,8 +76,8 @@ call_own number command reply mine first in_range beside own =
     (All-push (IsOwn number) first (Said number command reply) (All-weaker (IsBeside number) (IsOwn number) (beside_own number) first (All-from_recursion (IsBeside number) first beside)) (refl, in_range))
 
 -- a seat that rests rests again after a whole call
-pub rests_again : (old new : SeatHeld) (command : Command) (reply : Reply) → MayBegin old.seat command → MakesCall old new command reply → IsSound new → IsAsTold new.heap new.number new.seat → Rests new
-rests_again old new command reply may call sound told = record {
+pub seat_rests_after_call : (old new : SeatHeld) (command : Command) (reply : Reply) → MayBegin old.seat command → MakesCall old new command reply → IsSound new → IsAsTold new.heap new.number new.seat → Rests new
+seat_rests_after_call old new command reply may call sound told = record {
   between = record {
     idle = call.over;
     own = subst (λ (n : ℕ). All (IsOwn n) new.seat.mine) (sym call.makes.number_stays) (subst (All (IsOwn old.number)) (sym call.told) (call_own old.number command reply old.seat.mine call.first may.in_range call.beside call.rested.between.own));
@@ -91,4 +91,4 @@ rests_again old new command reply may call sound told = record {
 }
   where
     counts : CountsSo (ToldIn old call.made) old.heap old.number (kept_of old.seat) (kept_of new.seat) call.first command
-    counts = counts_so (ToldIn old call.made) old.heap old.number (kept_of old.seat) (kept_of new.seat) call.first command reply call.stands
+    counts = call_counts_so (ToldIn old call.made) old.heap old.number (kept_of old.seat) (kept_of new.seat) call.first command reply call.stands

@@ -26,15 +26,15 @@ use Rattle.core_machine.specs.seat.Commands.{object_of, field_of, target_of}
 use Rattle.core_machine.specs.seat.FitsAccess.{NamesObject, NamesField}
 use Rattle.core_machine.specs.seat.Local.{answer_of}
 use Rattle.core_machine.specs.seat.Registers.{register_in, register_head, value_of, is_same_value}
-use Rattle.core_machine.proofs.own_stages.Objects.{held_head, none_refused, refused_none}
+use Rattle.core_machine.proofs.own_stages.Objects.{held_head, reply_is_no_object, no_object_is_held}
 use Rattle.core_rule.specs.told.Found.{IsMetaOf}
 use Rattle.core_rule.specs.graph.Registers.{IsAwaited}
-use Rattle.core_rule.proofs.graph.SameValues.{same_tells}
+use Rattle.core_rule.proofs.graph.SameValues.{same_value_test_tells}
 use Rattle.heap_table.specs.SeatHeld.{SeatHeld}
 use Rattle.mutator_seat.specs.Calls.{ToldIn, MakesCall}
 use Rattle.mutator_seat.specs.Replies.{AnswersGet, AnswersSet, IsReplyTo}
 use Rattle.mutator_seat.specs.Resting.{seat_state, Rests}
-use Rattle.mutator_seat.proofs.Replied.{reply_to}
+use Rattle.mutator_seat.proofs.Replied.{reply_is_to_command}
 
 -- at rest each register holds what the seat's own list tells
 not_awaited : (place : Place) (d r : ℕ) → place ≡ places.Idle → ¬ IsAwaited place d r
@@ -75,8 +75,8 @@ module _ (old new : SeatHeld) (command : Command) (reply : Reply) (call : MakesC
   -- the call is refused for want of an object exactly where its register holds none
   pub refused_without : (reply ≡ replies.NoObject) ↔ HoldsNoObject (seat_state old) (object_of command)
   refused_without = (
-    λ is. none_held (refused_none (ToldIn old call.made) old.heap old.number command names (kept_of old.seat) (kept_of new.seat) call.first (subst Stands is call.stands)),
-    λ holds. none_refused (ToldIn old call.made) old.heap old.number command names (kept_of old.seat) (kept_of new.seat) call.first reply call.stands (held_none holds),
+    λ is. none_held (no_object_is_held (ToldIn old call.made) old.heap old.number command names (kept_of old.seat) (kept_of new.seat) call.first (subst Stands is call.stands)),
+    λ holds. reply_is_no_object (ToldIn old call.made) old.heap old.number command names (kept_of old.seat) (kept_of new.seat) call.first reply call.stands (held_none holds),
   )
 
   -- without one it has no object of its own
@@ -146,7 +146,7 @@ module _ (old new : SeatHeld) (command : Command) (reply : Reply) (call : MakesC
   by_own (Some object) none meta = (
     past_end object meta,
     λ past. within_end object meta (λ is. differ (none is)) past reply refl call.stands
-        (field_answers command reply field (reply_to tells old.heap old.number command (kept_of old.seat) (kept_of new.seat) call.first reply call.stands)),
+        (field_answers command reply field (reply_is_to_command tells old.heap old.number command (kept_of old.seat) (kept_of new.seat) call.first reply call.stands)),
   )
     where
       differ : Some object ≡ None → ⊥

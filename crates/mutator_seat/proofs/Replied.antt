@@ -66,25 +66,25 @@ field_reply (commands.Get d r i) names = tt
 field_reply (commands.Set r i v) names = tt
 field_reply _ names = absurd names
 
-pub reply_to : (tells : Step → ℕ → Type 0) (heap : Heap) (number : ℕ) (command : Command) (before kept : Kept) (first : List Entry) (reply : Reply)
+pub reply_is_to_command : (tells : Step → ℕ → Type 0) (heap : Heap) (number : ℕ) (command : Command) (before kept : Kept) (first : List Entry) (reply : Reply)
     → StandsOn tells heap number command before kept first reply → IsReplyTo command reply
-reply_to tells heap number command before kept first replies.Done is = done_reply command before kept is
-reply_to tells heap number command before kept first replies.Yes is = local_reply command before kept replies.Yes is
-reply_to tells heap number command before kept first replies.No is = local_reply command before kept replies.No is
-reply_to tells heap number command before kept first (replies.Made id) is = made_reply command (replies.Made id) is.an_object tt tt
-reply_to tells heap number command before kept first (replies.Got value stamp) is = get_reply command (replies.Got value stamp) is.a_get tt
-reply_to tells heap number command before kept first (replies.Was stamp) is = set_reply command (replies.Was stamp) is.a_set tt
-reply_to tells heap number command before kept first (replies.Length n) is = subst (λ (c : Command). IsReplyTo c (replies.Length n)) (sym is.a_len) tt
-reply_to tells heap number command before kept first (replies.Phase p) is = subst (λ (c : Command). IsReplyTo c (replies.Phase p)) (sym is.a_poll) tt
-reply_to tells heap number command before kept first (replies.Cycle j) is = absurd is
-reply_to tells heap number command before kept first (replies.Waits other answered phase) is = absurd is
-reply_to tells heap number command before kept first replies.NoObject is = local_reply command before kept replies.NoObject is
-reply_to tells heap number command before kept first replies.NoField is = field_reply command is.names
-reply_to tells heap number command before kept first (replies.Full need found) is = made_reply command (replies.Full need found) is.an_object tt tt
-reply_to tells heap number command before kept first (replies.SpineFull need used) is = array_reply command (replies.SpineFull need used) is.an_array tt
+reply_is_to_command tells heap number command before kept first replies.Done is = done_reply command before kept is
+reply_is_to_command tells heap number command before kept first replies.Yes is = local_reply command before kept replies.Yes is
+reply_is_to_command tells heap number command before kept first replies.No is = local_reply command before kept replies.No is
+reply_is_to_command tells heap number command before kept first (replies.Made id) is = made_reply command (replies.Made id) is.an_object tt tt
+reply_is_to_command tells heap number command before kept first (replies.Got value stamp) is = get_reply command (replies.Got value stamp) is.a_get tt
+reply_is_to_command tells heap number command before kept first (replies.Was stamp) is = set_reply command (replies.Was stamp) is.a_set tt
+reply_is_to_command tells heap number command before kept first (replies.Length n) is = subst (λ (c : Command). IsReplyTo c (replies.Length n)) (sym is.a_len) tt
+reply_is_to_command tells heap number command before kept first (replies.Phase p) is = subst (λ (c : Command). IsReplyTo c (replies.Phase p)) (sym is.a_poll) tt
+reply_is_to_command tells heap number command before kept first (replies.Cycle j) is = absurd is
+reply_is_to_command tells heap number command before kept first (replies.Waits other answered phase) is = absurd is
+reply_is_to_command tells heap number command before kept first replies.NoObject is = local_reply command before kept replies.NoObject is
+reply_is_to_command tells heap number command before kept first replies.NoField is = field_reply command is.names
+reply_is_to_command tells heap number command before kept first (replies.Full need found) is = made_reply command (replies.Full need found) is.an_object tt tt
+reply_is_to_command tells heap number command before kept first (replies.SpineFull need used) is = array_reply command (replies.SpineFull need used) is.an_array tt
 
-pub replies_to : (old new : SeatHeld) (command : Command) (reply : Reply) → MakesCall old new command reply → IsReplyTo command reply
-replies_to old new command reply call = reply_to (ToldIn old call.made) old.heap old.number command (kept_of old.seat) (kept_of new.seat) call.first reply call.stands
+pub each_reply_is_to_command : (old new : SeatHeld) (command : Command) (reply : Reply) → MakesCall old new command reply → IsReplyTo command reply
+each_reply_is_to_command old new command reply call = reply_is_to_command (ToldIn old call.made) old.heap old.number command (kept_of old.seat) (kept_of new.seat) call.first reply call.stands
 
 -- a command that is only done
 abbrev IsOnlyDone : Command → Type 0
@@ -105,5 +105,5 @@ reply_done : (reply : Reply) → IsDone reply → reply ≡ replies.Done
 reply_done replies.Done is = refl
 reply_done _ is = absurd is
 
-pub is_done : (old new : SeatHeld) (command : Command) (reply : Reply) → IsOnlyDone command → MakesCall old new command reply → MakesCall old new command replies.Done
-is_done old new command reply only call = subst (MakesCall old new command) (reply_done reply (done_of command reply only (replies_to old new command reply call))) call
+pub done_call_is_made : (old new : SeatHeld) (command : Command) (reply : Reply) → IsOnlyDone command → MakesCall old new command reply → MakesCall old new command replies.Done
+done_call_is_made old new command reply only call = subst (MakesCall old new command) (reply_done reply (done_of command reply only (each_reply_is_to_command old new command reply call))) call

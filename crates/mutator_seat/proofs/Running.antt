@@ -13,7 +13,7 @@ use Rattle.core_machine.specs.seat.Seat.{Seat}
 use Rattle.heap_table.specs.Made.{Made, MakesSteps, IsSound}
 use Rattle.heap_table.specs.SeatHeld.{SeatHeld, IsStepped}
 use Rattle.heap_table.specs.Told.{ToldAtStep}
-use Rattle.heap_table.proofs.MadeSteps.{makes_none, makes_append, makes_one, no_more, step_nears}
+use Rattle.heap_table.proofs.MadeSteps.{makes_no_steps, makes_steps_of_append, makes_one_step, no_step_is_due, step_nears_end}
 
 -- while the call is made: its steps so far, and room for what it owes
 pub record WhileRunning (first now : SeatHeld) : Type 0 where
@@ -22,11 +22,11 @@ pub record WhileRunning (first now : SeatHeld) : Type 0 where
   pub sound : IsSound now
   pub room : owes now.seat + 2 ≤ now.spare
 
-pub running_begins : (held : SeatHeld) → IsSound held → owes held.seat + 2 ≤ held.spare → WhileRunning held held
-running_begins held sound room = record { made = []; makes = makes_none held; sound = sound; room = room }
+pub while_running_at_begin : (held : SeatHeld) → IsSound held → owes held.seat + 2 ≤ held.spare → WhileRunning held held
+while_running_at_begin held sound room = record { made = []; makes = makes_no_steps held; sound = sound; room = room }
 
-pub room_to_step : (first now : SeatHeld) → WhileRunning first now → 2 ≤ now.spare
-room_to_step first now while = omega (arith, while.room)
+pub running_has_room : (first now : SeatHeld) → WhileRunning first now → 2 ≤ now.spare
+running_has_room first now while = omega (arith, while.room)
 
 -- the heap and the number stay, and the data fit together after the step
 sound_stepped : (now new : SeatHeld) (found : ℕ) → IsSound now → IsStepped now new found → ToldAtStep now.heap now.number now.seat found → IsSound new
@@ -36,14 +36,14 @@ sound_stepped now new found sound stepped told = record {
   fits = subst (λ (h : Heap). Fits h new.seat) (sym stepped.heap_stays) (subst (Fits now.heap) (sym stepped.seat_is) told.fits);
 }
 
-pub running_on : (first now new : SeatHeld) (step : Step) (found : ℕ) → WhileRunning first now → due_step now.heap now.number now.seat ≡ Some step → IsStepped now new found
+pub while_running_after_step : (first now new : SeatHeld) (step : Step) (found : ℕ) → WhileRunning first now → due_step now.heap now.number now.seat ≡ Some step → IsStepped now new found
     → ToldAtStep now.heap now.number now.seat found → WhileRunning first new × (steps_left new.heap new.seat < steps_left now.heap now.seat)
-running_on first now new step found while due stepped told =
+while_running_after_step first now new step found while due stepped told =
     let sound = while.sound in
-    let near = step_nears now.heap now.number now.seat sound.limits (omega (arith, sound.within, sound.limits.seats_fit)) sound.fits step found new.seat due stepped.seat_is in (
+    let near = step_nears_end now.heap now.number now.seat sound.limits (omega (arith, sound.within, sound.limits.seats_fit)) sound.fits step found new.seat due stepped.seat_is in (
       record {
         made = while.made ++ record { step = step; found = found } ∷ [];
-        makes = makes_append first now new while.made (record { step = step; found = found } ∷ []) while.makes (makes_one now new step found due told stepped);
+        makes = makes_steps_of_append first now new while.made (record { step = step; found = found } ∷ []) while.makes (makes_one_step now new step found due told stepped);
         sound = sound_stepped now new found sound stepped told;
         room = omega (arith, while.room, near.1, stepped.room_stays);
       },
@@ -60,5 +60,5 @@ idle_at heap number seat (places.Polling place) e = cc
 idle_at heap number seat (places.Collecting place) e = cc
 idle_at heap number seat (places.Leaving place) e = cc
 
-pub idle_then : (held : SeatHeld) (due : Option Step) → due ≡ due_step held.heap held.number held.seat → ((step : Step) → due ≡ Some step → ⊥) → held.seat.place ≡ places.Idle
-idle_then held due is none = idle_at held.heap held.number held.seat held.seat.place (sym is ∙ no_more due none)
+pub idle_when_none_due : (held : SeatHeld) (due : Option Step) → due ≡ due_step held.heap held.number held.seat → ((step : Step) → due ≡ Some step → ⊥) → held.seat.place ≡ places.Idle
+idle_when_none_due held due is none = idle_at held.heap held.number held.seat held.seat.place (sym is ∙ no_step_is_due due none)

@@ -1,7 +1,7 @@
 -- What the rule tells at each step of a call it tells by what the seat had when the call began.
 use Rattle.std.proofs.Common.{◌≡◌, ℕ, ◌<◌, List, [], ◌∷◌, ◌++◌, Option, Some, None, sym, ap, subst, ◌∙◌, inl, inr, append-nil, append_assoc}
 use Rattle.std.specs.Prelude.{IfSome, option_map}
-use Rattle.core_machine.proofs.table_lemmas.Bits.{bool_tells}
+use Rattle.core_machine.proofs.table_lemmas.Bits.{true_or_false}
 use Rattle.heap_model.specs.Heap.{IsHeap}
 use Rattle.heap_model.specs.calls.SeatState.{own_object}
 use Rattle.heap_model.specs.declared.command.Command.{Command}
@@ -29,7 +29,7 @@ use Rattle.core_machine.specs.seat.Seat.{Seat}
 use Rattle.core_rule.specs.told.Found.{TellsWord, TellsMeta, IsMetaOf, IsAnsweredOrNext}
 use Rattle.heap_table.specs.Begun.{next_seat}
 use Rattle.heap_table.specs.Made.{Made, FoundIn, LeadsTo}
-use Rattle.heap_table.proofs.MadeSteps.{stage_on, found_first, found_more}
+use Rattle.heap_table.proofs.MadeSteps.{stage_stands_after_step, found_in_first_step, found_in_longer_steps}
 
 module _ (heap : Heap) (number : ℕ) (old : Seat) where
   -- a meta is told by registers and entries alone
@@ -59,7 +59,7 @@ module _ (heap : Heap) (number : ℕ) (old : Seat) where
   GoesOn seat found move = TellsWord heap number seat move.step found → TellsWord heap number old move.step found
 
   born_since : (seat : Seat) (found : ℕ) → GoesOn seat found (bearing_move number seat)
-  born_since seat found = elim (bool_tells (is_last_birth seat)) as (λ _. GoesOn seat found (bearing_move number seat)) [
+  born_since seat found = elim (true_or_false (is_last_birth seat)) as (λ _. GoesOn seat found (bearing_move number seat)) [
     | inl last ↦ rw last (λ t. t)
     | inr more ↦ rw more (λ t. t)
   ]
@@ -115,15 +115,15 @@ module _ (heap : Heap) (number : ℕ) (old : Seat) where
   due_since seat found (Some move) step due goes tells = let same : move.step ≡ step = cc in subst (λ (s : Step). TellsWord heap number old s found) same (goes tells)
 
   -- so a call that stands so stands after all these steps as it is to, where so much is told of each of them
-  pub stage_since : (tells : Step → ℕ → Type 0) (command : Command) → IsHeap heap → number < 16 → (made : List Made) (seat new : Seat) (told : List Entry) → Fits heap seat → LeadsTo heap number seat made new
+  pub stage_stands_since : (tells : Step → ℕ → Type 0) (command : Command) → IsHeap heap → number < 16 → (made : List Made) (seat new : Seat) (told : List Entry) → Fits heap seat → LeadsTo heap number seat made new
       → ((step : Step) (word : ℕ) → FoundIn made step word → TellsWord heap number old step word → tells step word) → OwnStage tells heap number command old seat told
       → (more : List Entry) × OwnStage tells heap number command old new (told ++ more)
-  stage_since tells command limits few [] seat new told fits leads tell stage =
+  stage_stands_since tells command limits few [] seat new told fits leads tell stage =
       ([], subst (λ (t : List Entry). OwnStage tells heap number command old new t) (sym (append-nil told)) (subst (λ (s : Seat). OwnStage tells heap number command old s told) (sym leads) stage))
-  stage_since tells command limits few (m ∷ made) seat new told fits leads tell stage =
+  stage_stands_since tells command limits few (m ∷ made) seat new told fits leads tell stage =
       let word : TellsWord heap number old m.step m.found =
       due_since seat m.found (next_move heap number seat) m.step leads.0 (since_at tells seat told m.found stage.mine seat.place stage.stage) leads.1.tells.word in
-      let on = stage_on heap number seat limits few fits tells command old told m.step m.found leads.0 (tell m.step m.found (found_first made m) word) stage in
-      let rest = stage_since tells command limits few made (next_seat heap number seat m.found) new (told ++ on.0) leads.1.fits leads.2
-      (λ step word there. tell step word (found_more made m step word there)) on.1 in
+      let on = stage_stands_after_step heap number seat limits few fits tells command old told m.step m.found leads.0 (tell m.step m.found (found_in_first_step made m) word) stage in
+      let rest = stage_stands_since tells command limits few made (next_seat heap number seat m.found) new (told ++ on.0) leads.1.fits leads.2
+      (λ step word there. tell step word (found_in_longer_steps made m step word there)) on.1 in
       (on.0 ++ rest.0, subst (λ (t : List Entry). OwnStage tells heap number command old new t) (append_assoc told on.0 rest.0) rest.1)

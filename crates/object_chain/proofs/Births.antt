@@ -11,11 +11,11 @@ use Rattle.core_machine.specs.declared.step.Step.{Step}
 use Rattle.core_machine.specs.seat.Making.{store_place}
 use Rattle.core_machine.specs.seat.Seat.{Seat}
 use Rattle.core_machine.specs.calls.Owes.{owes, owes_at, steps_left}
-use Rattle.core_machine.proofs.table_lemmas.Bits.{bool_tells}
+use Rattle.core_machine.proofs.table_lemmas.Bits.{true_or_false}
 use Rattle.heap_table.specs.Made.{Made, MakesSteps, IsSound}
 use Rattle.heap_table.specs.SeatHeld.{SeatHeld, IsStepped}
 use Rattle.heap_table.specs.Told.{ToldAtStep}
-use Rattle.heap_table.proofs.MadeSteps.{makes_none, step_falls, step_leaves_room, step_pays, step_makes}
+use Rattle.heap_table.proofs.MadeSteps.{makes_no_steps, step_leaves_fewer, step_leaves_room, step_owes_within_most, step_makes_one_more}
 use Rattle.object_chain.specs.Bearing.{BeginsBearing}
 use Rattle.object_chain.specs.Due.{due_of_bearing}
 
@@ -34,11 +34,11 @@ pub record WhileBearing (first now : SeatHeld) : Type 0 where
   pub paid : owes now.seat + length now.seat.mine ≤ 1 + length first.seat.mine
   pub room : owes now.seat + 2 ≤ now.spare
 
-pub bearing_begins : (held : SeatHeld) (fragments : List ℕ) (fields d : ℕ) → BeginsBearing held fragments fields d → 3 ≤ held.spare → WhileBearing held held
-bearing_begins held fragments fields d begins room =
+pub while_bearing_at_begin : (held : SeatHeld) (fragments : List ℕ) (fields d : ℕ) → BeginsBearing held fragments fields d → 3 ≤ held.spare → WhileBearing held held
+while_bearing_at_begin held fragments fields d begins room =
     let owed : owes held.seat ≡ 1 = ap (owes_at held.seat) begins.place_is in
     record {
-      steps = ([], makes_none held);
+      steps = ([], makes_no_steps held);
       stands = subst StandsBearing (sym begins.place_is) tt;
       reserve_stays = refl;
       paid = omega (arith, owed);
@@ -56,7 +56,7 @@ stands_on : (heap : Heap) (number : ℕ) (seat : Seat) (found : ℕ) (place : Pl
 stands_on heap number seat found (places.Making Storing) due step is e =
     elim (eqb_tells (seat.stored + 1) (4 * length seat.body)) as (λ _. StandsBearing (places.Making (store_place (seat.stored + 1) seat.body))) [ inl all ↦ rw all.0 tt | inr left ↦ rw left.0 tt ]
 stands_on heap number seat found (places.Making Bearing) due step is e =
-    elim (bool_tells (is_last_birth seat)) as (λ _. StandsBearing (seat_after (bearing_move number seat) found).place) [
+    elim (true_or_false (is_last_birth seat)) as (λ _. StandsBearing (seat_after (bearing_move number seat) found).place) [
       | inl last ↦ rw last tt
       | inr more ↦ rw more (subst StandsBearing (sym is) tt)
     ]
@@ -66,26 +66,26 @@ keeps_on : (heap : Heap) (number : ℕ) (seat : Seat) (found : ℕ) (place : Pla
     → (seat_after_due seat (move_at heap number seat place) found).reserve ≡ seat.reserve
 keeps_on heap number seat found (places.Making Storing) due step e = refl
 keeps_on heap number seat found (places.Making Bearing) due step e =
-    elim (bool_tells (is_last_birth seat)) as (λ _. (seat_after (bearing_move number seat) found).reserve ≡ seat.reserve) [ inl last ↦ rw last refl | inr more ↦ rw more refl ]
+    elim (true_or_false (is_last_birth seat)) as (λ _. (seat_after (bearing_move number seat) found).reserve ≡ seat.reserve) [ inl last ↦ rw last refl | inr more ↦ rw more refl ]
 keeps_on heap number seat found _ due step e = cc
 
-pub bearing_on : (first now new : SeatHeld) (step : Step) (found : ℕ) → IsSound now → WhileBearing first now → due_of_bearing now.seat.place (due_step now.heap now.number now.seat) ≡ Some step
+pub while_bearing_after_step : (first now new : SeatHeld) (step : Step) (found : ℕ) → IsSound now → WhileBearing first now → due_of_bearing now.seat.place (due_step now.heap now.number now.seat) ≡ Some step
     → IsStepped now new found → ToldAtStep now.heap now.number now.seat found → WhileBearing first new × (steps_left new.heap new.seat < steps_left now.heap now.seat)
-bearing_on first now new step found sound while is stepped told =
+while_bearing_after_step first now new step found sound while is stepped told =
     let due = of_bearing now.seat.place (due_step now.heap now.number now.seat) step is in (
       record {
-        steps = step_makes first now new step found sound due stepped told while.steps;
+        steps = step_makes_one_more first now new step found sound due stepped told while.steps;
         stands = subst (λ (s : Seat). StandsBearing s.place) (sym stepped.seat_is) (stands_on now.heap now.number now.seat found now.seat.place (due_step now.heap now.number now.seat) step refl is);
         reserve_stays = ap (λ (s : Seat). s.reserve) stepped.seat_is ∙ keeps_on now.heap now.number now.seat found now.seat.place (due_step now.heap now.number now.seat) step is ∙ while.reserve_stays;
-        paid = step_pays first now new step found sound due stepped told (1 + length first.seat.mine) while.paid;
+        paid = step_owes_within_most first now new step found sound due stepped told (1 + length first.seat.mine) while.paid;
         room = step_leaves_room first now new step found sound due stepped told while.room;
       },
-      step_falls first now new step found sound due stepped told,
+      step_leaves_fewer first now new step found sound due stepped told,
     )
 
 -- once none is due the call is over
-pub bearing_over : (first held : SeatHeld) → WhileBearing first held → due_of_bearing held.seat.place (due_step held.heap held.number held.seat) ≡ None → held.seat.place ≡ places.Idle
-bearing_over first held while none = over held.seat.place refl while.stands
+pub bearing_over_is_idle : (first held : SeatHeld) → WhileBearing first held → due_of_bearing held.seat.place (due_step held.heap held.number held.seat) ≡ None → held.seat.place ≡ places.Idle
+bearing_over_is_idle first held while none = over held.seat.place refl while.stands
   where
     some_due : {step : Step} → due_step held.heap held.number held.seat ≡ None → due_step held.heap held.number held.seat ≡ Some step → ⊥
     some_due a b = cc
@@ -100,5 +100,5 @@ bearing_over first held while none = over held.seat.place refl while.stands
     over _ is stands = absurd stands
 
 -- and has added one entry at most
-pub bearing_few : (first held : SeatHeld) → WhileBearing first held → length held.seat.mine ≤ 1 + length first.seat.mine
-bearing_few first held while = omega (arith, while.paid)
+pub bearing_adds_one_entry : (first held : SeatHeld) → WhileBearing first held → length held.seat.mine ≤ 1 + length first.seat.mine
+bearing_adds_one_entry first held while = omega (arith, while.paid)

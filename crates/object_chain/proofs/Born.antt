@@ -22,7 +22,7 @@ use Rattle.core_machine.specs.seat.Seat.{Seat, no_spot}
 use Rattle.heap_table.specs.Made.{Made, FoundIn, MakesSteps, IsSound}
 use Rattle.heap_table.specs.SeatHeld.{SeatHeld}
 use Rattle.object_chain.specs.Bearing.{BeginsBearing, IsBorn, HoldsNewborn}
-use Rattle.object_chain.proofs.MadeObjects.{brought, has_brought, WasAnswered, was_answered, body_is, was_born, holds_newborn, told_newborn}
+use Rattle.object_chain.proofs.MadeObjects.{brought, brought_has_object, WasAnswered, begun_call_was_answered, made_body_is_fragments, made_body_is_born, seat_holds_newborn, newborn_reply_is_told}
 
 -- a call that has what a record needs is answered by its id
 made_of : (tells : Step → ℕ → Type 0) (heap : Heap) (number d fields : ℕ) (before kept : Kept) (first : List Entry) (reply : Reply) → need_of (New d fields) ≤ length before.reserve
@@ -59,10 +59,10 @@ module _ (made : List Made) (old new : SeatHeld) (fragments : List ℕ) (fields 
 
   begins_so : StageAt tells old.heap old.number (kept_of before) old.seat [] old.seat.place
   begins_so = subst (StageAt tells old.heap old.number (kept_of before) old.seat []) (sym begins.place_is)
-      (has_brought tells old sound fits_there.0.whole (λ an_array. absurd (no_array an_array)), λ an_array. absurd (no_array an_array), λ k below. absurd (omega (arith, below, begins.none_stored)))
+      (brought_has_object tells old sound fits_there.0.whole (λ an_array. absurd (no_array an_array)), λ an_array. absurd (no_array an_array), λ k below. absurd (omega (arith, below, begins.none_stored)))
 
   was : WasAnswered tells old new (New d fields)
-  was = was_answered made tells old new (New d fields) sound makes over (λ step word here. here) begins.command_is begins_so
+  was = begun_call_was_answered made tells old new (New d fields) sound makes over (λ step word here. here) begins.command_is begins_so
 
   needed : length old.seat.body ≡ need_of (New d fields)
   needed = fits_there.0.whole ∙ ap need_of begins.command_is
@@ -71,15 +71,15 @@ module _ (made : List Made) (old new : SeatHeld) (fragments : List ℕ) (fields 
   is_made = made_of tells old.heap old.number d fields (kept_of before) (kept_of new.seat) was.answered.first was.answered.reply
       (omega (arith, length-append old.seat.body old.seat.reserve, needed)) was.answered.stands
 
-  pub born_stored : HasStored tells (New d fields) (name_after old.number old.seat.made) no_spot fragments (4 * length fragments)
-  born_stored = subst (λ (l : List ℕ). HasStored tells (New d fields) (name_after old.number old.seat.made) no_spot l (4 * length l))
-      (body_is tells old new (New d fields) fragments was needed begins.body_is is_made) is_made.2.stored
+  pub born_words_are_stored : HasStored tells (New d fields) (name_after old.number old.seat.made) no_spot fragments (4 * length fragments)
+  born_words_are_stored = subst (λ (l : List ℕ). HasStored tells (New d fields) (name_after old.number old.seat.made) no_spot l (4 * length l))
+      (made_body_is_fragments tells old new (New d fields) fragments was needed begins.body_is is_made) is_made.2.stored
 
-  pub born_whole : IsBorn made fragments
-  born_whole = was_born tells old new (New d fields) fragments was needed begins.body_is is_made made is_made.2.born is_made.2.last_born
+  pub born_record_is_born : IsBorn made fragments
+  born_record_is_born = made_body_is_born tells old new (New d fields) fragments was needed begins.body_is is_made made is_made.2.born is_made.2.last_born
 
-  pub born_held : (id : Id) → MadeBy old.number old.seat.made ≡ id → new.seat.reserve ≡ old.seat.reserve → HoldsNewborn old new d fragments id
-  born_held id is stays = holds_newborn tells old new (New d fields) fragments was needed begins.body_is is_made id is over stays
+  pub born_record_is_held : (id : Id) → MadeBy old.number old.seat.made ≡ id → new.seat.reserve ≡ old.seat.reserve → HoldsNewborn old new d fragments id
+  born_record_is_held id is stays = seat_holds_newborn tells old new (New d fields) fragments was needed begins.body_is is_made id is over stays
 
-  pub born_told : (id : Id) → MadeBy old.number old.seat.made ≡ id → length new.seat.mine ≤ 1 + length old.seat.mine → new.seat.mine ≡ old.seat.mine ++ Said old.number (New d fields) (replies.Made id) ∷ []
-  born_told id is few = told_newborn tells old new (New d fields) fragments was needed begins.body_is is_made id is few
+  pub born_reply_is_told : (id : Id) → MadeBy old.number old.seat.made ≡ id → length new.seat.mine ≤ 1 + length old.seat.mine → new.seat.mine ≡ old.seat.mine ++ Said old.number (New d fields) (replies.Made id) ∷ []
+  born_reply_is_told id is few = newborn_reply_is_told tells old new (New d fields) fragments was needed begins.body_is is_made id is few

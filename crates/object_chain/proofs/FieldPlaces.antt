@@ -26,8 +26,8 @@ on_head : (heap : Heap) (book : Book) (number : ℕ) (seat : Seat) (object row :
 on_head heap book number seat object row on = ap register_head on.holds
 
 -- where the meta of an object is loaded, that is the object that the register holds
-pub loads_head : (heap : Heap) (number : ℕ) (seat : Seat) (found : ℕ) → seat.place ≡ places.Access LoadingMeta → ToldAtStep heap number seat found → HoldsHead seat seat.reached
-loads_head heap number seat found loading told =
+pub loaded_meta_is_heads : (heap : Heap) (number : ℕ) (seat : Seat) (found : ℕ) → seat.place ≡ places.Access LoadingMeta → ToldAtStep heap number seat found → HoldsHead seat seat.reached
+loaded_meta_is_heads heap number seat found loading told =
     let reached : ReachesInBook heap number seat found LoadingMeta = subst (WhileAccess (ReachesInBook heap number seat found)) loading told.tells.reached in
     let first = reached.there.reaches in
     on_head heap reached.there.book number seat first.object 0 first.on ∙ ap Some (sym first.on.in_order)
@@ -54,5 +54,5 @@ module _ (held : SeatHeld) (head : ℕ) (holds : HoldsHead held.seat head) where
   at_place _ at reached = absurd at
 
   -- at a field the place that the seat has reached is the field's
-  pub place_of_field : IsAtField held.seat.place → WhileAccess (HasReached held.heap held.number held.seat) held.seat.place → IsPlaceOfField held head (field_of held.seat.command) held.seat.reached held.seat.part
-  place_of_field at reached = at_place held.seat.place at reached
+  pub reached_place_is_fields : IsAtField held.seat.place → WhileAccess (HasReached held.heap held.number held.seat) held.seat.place → IsPlaceOfField held head (field_of held.seat.command) held.seat.reached held.seat.part
+  reached_place_is_fields at reached = at_place held.seat.place at reached

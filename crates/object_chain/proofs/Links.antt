@@ -25,17 +25,17 @@ use Rattle.core_machine.specs.seat.Registers.{register_in, register_head}
 use Rattle.core_machine.specs.seat.FitsAccess.{NamesField}
 use Rattle.core_machine.specs.seat.Seat.{Seat, with_entries}
 use Rattle.core_machine.specs.calls.Owes.{owes, owes_at, steps_left}
-use Rattle.core_machine.proofs.seat_lemmas.FieldPlaces.{field_cases}
+use Rattle.core_machine.proofs.seat_lemmas.FieldPlaces.{field_place_cases}
 use Rattle.core_rule.specs.cycle.Flight.{WhileAccess}
 use Rattle.core_rule.specs.told.Reached.{HasReached}
 use Rattle.heap_table.specs.Made.{Made, FoundIn, MakesSteps, IsSound}
 use Rattle.heap_table.specs.SeatHeld.{SeatHeld, IsStepped}
 use Rattle.heap_table.specs.Told.{ToldAtStep}
-use Rattle.heap_table.proofs.MadeSteps.{makes_none, makes_append, makes_one, comes_to, step_nears}
+use Rattle.heap_table.proofs.MadeSteps.{makes_no_steps, makes_steps_of_append, makes_one_step, while_access_has_reached, step_nears_end}
 use Rattle.object_chain.specs.Due.{due_of_walk}
 use Rattle.object_chain.specs.FieldPlace.{IsPlaceOfField}
 use Rattle.object_chain.specs.Walking.{BeginsWalking, HasFound, IsAtField}
-use Rattle.object_chain.proofs.FieldPlaces.{HoldsHead, loads_head, place_of_field}
+use Rattle.object_chain.proofs.FieldPlaces.{HoldsHead, loaded_meta_is_heads, reached_place_is_fields}
 
 -- what is told of each word by fewer is told by more
 leads_by : (few more : Step → ℕ → Type 0) (links head reached : ℕ) → ((step : Step) (word : ℕ) → few step word → more step word) → LeadsTo few links head reached → LeadsTo more links head reached
@@ -65,7 +65,7 @@ module _ (tells : Step → ℕ → Type 0) (head rows : ℕ) where
 
   -- where no link is left it is at the field
   at_field : (seat : Seat) → LeadsTo tells rows head seat.reached → WayOf (at_access seat (field_place_of seat seat.command))
-  at_field seat leads = field_cases (λ a. WayAt tells head rows seat.links seat.reached (places.Access a)) seat seat.command leads (λ on. leads) (λ off. leads)
+  at_field seat leads = field_place_cases (λ a. WayAt tells head rows seat.links seat.reached (places.Access a)) seat seat.command leads (λ on. leads) (λ off. leads)
 
   on_way : (seat : Seat) → (passed : ℕ) → passed + seat.links ≡ rows → LeadsTo tells passed head seat.reached → WayAt tells head rows seat.links seat.reached (places.Access (way_place_of seat))
   on_way seat passed all leads =
@@ -122,8 +122,8 @@ way_owes : (tells : Step → ℕ → Type 0) (head rows links reached : ℕ) (se
 way_owes tells head rows links reached seat (places.Access place) way = refl
 way_owes tells head rows links reached seat _ way = absurd way
 
-pub walk_begins : (held : SeatHeld) (head : ℕ) (meta : Meta) (field : ℕ) → BeginsWalking held head meta field → 3 ≤ held.spare → WhileWalking head meta field held held
-walk_begins held head meta field begins room =
+pub while_walking_at_begin : (held : SeatHeld) (head : ℕ) (meta : Meta) (field : ℕ) → BeginsWalking held head meta field → 3 ≤ held.spare → WhileWalking head meta field held held
+while_walking_at_begin held head meta field begins room =
     let before = begins.before in
     let start = with_field_place before in
     let tells = HasFound [] head meta in
@@ -139,10 +139,10 @@ walk_begins held head meta field begins room =
     let same = stays_by start (after_walk start begins.word) held.seat is (walking_stays start begins.word) in
     record {
       made = [];
-      makes = makes_none held;
+      makes = makes_no_steps held;
       way = here;
       part_is = same.0 ∙ ap part_of begins.field_is;
-      holds = holds_on start held.seat head same (subst (HoldsHead before) begins.head_is (loads_head held.heap held.number before begins.word begins.loading begins.told));
+      holds = holds_on start held.seat head same (subst (HoldsHead before) begins.head_is (loaded_meta_is_heads held.heap held.number before begins.word begins.loading begins.told));
       field_is = ap field_of same.2 ∙ begins.field_is;
       comes = subst (λ (s : Seat). WhileAccess (HasReached held.heap held.number s) s.place) (sym begins.goes_on) begins.told.comes;
       room = omega (arith, room, way_owes tells head (row_of field) held.seat.links held.seat.reached held.seat held.seat.place here);
@@ -155,12 +155,12 @@ of_walk _ due step e = cc
 same_step : {a b : Step} → Some a ≡ Some b → a ≡ b
 same_step e = cc
 
-pub walks_on : (head : ℕ) (meta : Meta) (field : ℕ) (first now new : SeatHeld) (step : Step) (found : ℕ) → IsSound now → WhileWalking head meta field first now
+pub while_walking_after_step : (head : ℕ) (meta : Meta) (field : ℕ) (first now new : SeatHeld) (step : Step) (found : ℕ) → IsSound now → WhileWalking head meta field first now
     → due_of_walk now.seat.place (due_step now.heap now.number now.seat) ≡ Some step → IsStepped now new found → ToldAtStep now.heap now.number now.seat found
     → WhileWalking head meta field first new × (steps_left new.heap new.seat < steps_left now.heap now.seat)
-walks_on head meta field first now new step found sound while is stepped told =
+while_walking_after_step head meta field first now new step found sound while is stepped told =
     let at = of_walk now.seat.place (due_step now.heap now.number now.seat) step is in
-    let near = step_nears now.heap now.number now.seat sound.limits (omega (arith, sound.within, sound.limits.seats_fit)) sound.fits step found new.seat at.1 stepped.seat_is in
+    let near = step_nears_end now.heap now.number now.seat sound.limits (omega (arith, sound.within, sound.limits.seats_fit)) sound.fits step found new.seat at.1 stepped.seat_is in
     let made = while.made ++ record { step = step; found = found } ∷ [] in
     let tells = HasFound made head meta in
     let loads : steps.Access (WalkLoad now.seat.reached) ≡ step =
@@ -175,12 +175,12 @@ walks_on head meta field first now new step found sound while is stepped told =
     let same = stays_by now.seat (after_walk now.seat found) new.seat next (walking_stays now.seat found) in (
       record {
         made = made;
-        makes = makes_append first now new while.made (record { step = step; found = found } ∷ []) while.makes (makes_one now new step found at.1 told stepped);
+        makes = makes_steps_of_append first now new while.made (record { step = step; found = found } ∷ []) while.makes (makes_one_step now new step found at.1 told stepped);
         way = subst (λ (s : Seat). WayOf tells head (row_of field) s) (sym next) (walked tells head (row_of field) now.seat found wider.0 wider.1 wider.2 tell);
         part_is = same.0 ∙ while.part_is;
         holds = holds_on now.seat new.seat head same while.holds;
         field_is = ap field_of same.2 ∙ while.field_is;
-        comes = comes_to now new found stepped told;
+        comes = while_access_has_reached now new found stepped told;
         room = omega (arith, while.room, near.1, stepped.room_stays);
       },
       subst (λ (h : Heap). steps_left h new.seat < steps_left now.heap now.seat) (sym stepped.heap_stays) near.0,
@@ -207,12 +207,12 @@ module _ (head : ℕ) (meta : Meta) (field : ℕ) (first held : SeatHeld) (while
   ends_at (places.Access Swapping) is way = (way, tt)
   ends_at _ is way = absurd way
 
-  pub walk_ends : LeadsTo (HasFound while.made head meta) (row_of field) head held.seat.reached × IsAtField held.seat.place
-  walk_ends = ends_at held.seat.place refl while.way
+  pub walk_leads_to_field : LeadsTo (HasFound while.made head meta) (row_of field) head held.seat.reached × IsAtField held.seat.place
+  walk_leads_to_field = ends_at held.seat.place refl while.way
 
   -- which is the one of its object
-  pub walk_place : IsPlaceOfField held head field held.seat.reached held.seat.part
-  walk_place = subst (λ (i : ℕ). IsPlaceOfField held head i held.seat.reached held.seat.part) while.field_is (place_of_field held head while.holds walk_ends.1 while.comes)
+  pub walked_place_is_fields : IsPlaceOfField held head field held.seat.reached held.seat.part
+  walked_place_is_fields = subst (λ (i : ℕ). IsPlaceOfField held head i held.seat.reached held.seat.part) while.field_is (reached_place_is_fields held head while.holds walk_leads_to_field.1 while.comes)
 
-  pub walk_room : 3 ≤ held.spare
-  walk_room = omega (arith, while.room, way_owes tells head (row_of field) held.seat.links held.seat.reached held.seat held.seat.place while.way)
+  pub walk_leaves_room : 3 ≤ held.spare
+  walk_leaves_room = omega (arith, while.room, way_owes tells head (row_of field) held.seat.links held.seat.reached held.seat held.seat.place while.way)

@@ -26,7 +26,7 @@ use Rattle.core_machine.specs.seat.Seat.{Seat}
 use Rattle.core_machine.specs.table.Fragments.{mask_of}
 use Rattle.heap_table.specs.Made.{Made, FoundIn, MakesSteps, IsSound}
 use Rattle.heap_table.specs.SeatHeld.{SeatHeld}
-use Rattle.heap_table.proofs.MadeSteps.{stage_along}
+use Rattle.heap_table.proofs.MadeSteps.{stage_stands_along_steps}
 use Rattle.object_chain.specs.Bearing.{IsBorn, HoldsNewborn}
 
 -- the front of a list that goes on
@@ -41,9 +41,9 @@ abbrev pub brought : Seat → Seat
 brought seat = record seat { reserve = seat.body ++ seat.reserve }
 
 -- so it has its object without a claim
-pub has_brought : (tells : Step → ℕ → Type 0) (held : SeatHeld) → IsSound held → length held.seat.body ≡ need_of held.seat.command → (IsArrayCall held.seat.command → IsGranted tells held.heap held.seat.command)
+pub brought_has_object : (tells : Step → ℕ → Type 0) (held : SeatHeld) → IsSound held → length held.seat.body ≡ need_of held.seat.command → (IsArrayCall held.seat.command → IsGranted tells held.heap held.seat.command)
     → HasObject tells held.heap held.number held.seat.command (kept_of (brought held.seat)) (kept_of held.seat) held.seat.body []
-has_brought tells held sound long granted =
+brought_has_object tells held sound long granted =
     let seat = held.seat in
     record {
       claimed = [];
@@ -76,12 +76,12 @@ pub record WasAnswered (tells : Step → ℕ → Type 0) (old new : SeatHeld) (c
   pub answered : IsAnswered tells old.heap old.number command (kept_of (brought old.seat)) (kept_of new.seat) told
 
 -- so is a call that stands so where it begins, once it is over
-pub was_answered : (made : List Made) (tells : Step → ℕ → Type 0) (old new : SeatHeld) (command : Command) → IsSound old → MakesSteps old new made → new.seat.place ≡ places.Idle
+pub begun_call_was_answered : (made : List Made) (tells : Step → ℕ → Type 0) (old new : SeatHeld) (command : Command) → IsSound old → MakesSteps old new made → new.seat.place ≡ places.Idle
     → ((step : Step) (word : ℕ) → FoundIn made step word → tells step word) → old.seat.command ≡ command → StageAt tells old.heap old.number (kept_of (brought old.seat)) old.seat [] old.seat.place
     → WasAnswered tells old new command
-was_answered made tells old new command sound makes over here same stage =
+begun_call_was_answered made tells old new command sound makes over here same stage =
     let begins : OwnStage tells old.heap old.number command (brought old.seat) old.seat [] = record { same = same; mine = sym (append-nil old.seat.mine); stage = stage } in
-    let ends = stage_along tells old.heap old.number command (brought old.seat) sound.limits (omega (arith, sound.within, sound.limits.seats_fit)) made old.seat new.seat [] sound.fits makes.leads here begins in
+    let ends = stage_stands_along_steps tells old.heap old.number command (brought old.seat) sound.limits (omega (arith, sound.within, sound.limits.seats_fit)) made old.seat new.seat [] sound.fits makes.leads here begins in
     record {
       told = ends.0;
       mine = ends.1.mine;
@@ -93,14 +93,14 @@ module _ (tells : Step → ℕ → Type 0) (old new : SeatHeld) (command : Comma
     (long : length old.seat.body ≡ need_of command) (has : old.seat.body ≡ fragments)
     (made_ : (id : Id) × (was.answered.reply ≡ replies.Made id) × IsMade tells old.heap old.number command (kept_of (brought old.seat)) (kept_of new.seat) was.answered.first id) where
   -- the object has these fragments
-  pub body_is : made_.2.body ≡ fragments
-  body_is = made_.2.has.body_is ∙ front (need_of command) old.seat.body old.seat.reserve made_.2.has.claimed long ∙ has
+  pub made_body_is_fragments : made_.2.body ≡ fragments
+  made_body_is_fragments = made_.2.has.body_is ∙ front (need_of command) old.seat.body old.seat.reserve made_.2.has.claimed long ∙ has
 
   -- which were born
-  pub was_born : (made : List Made) → HasBorn (FoundIn made) made_.2.last made_.2.body → WasMade (FoundIn made) (Making (LastBirth made_.2.group (mask_of made_.2.last) made_.2.black)) → IsBorn made fragments
-  was_born made born last_born = record {
+  pub made_body_is_born : (made : List Made) → HasBorn (FoundIn made) made_.2.last made_.2.body → WasMade (FoundIn made) (Making (LastBirth made_.2.group (mask_of made_.2.last) made_.2.black)) → IsBorn made fragments
+  made_body_is_born made born last_born = record {
     last = made_.2.last;
-    before = subst (HasBorn (FoundIn made) made_.2.last) body_is born;
+    before = subst (HasBorn (FoundIn made) made_.2.last) made_body_is_fragments born;
     group = made_.2.group;
     black = made_.2.black;
     of_group = made_.2.last_of_group;
@@ -108,20 +108,20 @@ module _ (tells : Step → ℕ → Type 0) (old new : SeatHeld) (command : Comma
   }
 
   -- the seat holds it
-  pub holds_newborn : (id : Id) → MadeBy old.number old.seat.made ≡ id → new.seat.place ≡ places.Idle → new.seat.reserve ≡ old.seat.reserve → HoldsNewborn old new (target_of command) fragments id
-  holds_newborn id is over stays = record {
+  pub seat_holds_newborn : (id : Id) → MadeBy old.number old.seat.made ≡ id → new.seat.place ≡ places.Idle → new.seat.reserve ≡ old.seat.reserve → HoldsNewborn old new (target_of command) fragments id
+  seat_holds_newborn id is over stays = record {
     id_is = sym is;
     counted = ap (λ (k : Kept). k.made) made_.2.kept_is;
     register = ap (λ (k : Kept). k.registers) made_.2.kept_is
-        ∙ ap (λ (l : List ℕ). set old.seat.registers (target_of command) (Object (get_or l 0 0) made_.0)) body_is
+        ∙ ap (λ (l : List ℕ). set old.seat.registers (target_of command) (Object (get_or l 0 0) made_.0)) made_body_is_fragments
         ∙ ap (λ (i : Id). set old.seat.registers (target_of command) (Object (get_or fragments 0 0) i)) (made_.2.id_is ∙ is);
     reserve = stays;
     over = over;
   }
 
   -- and nothing but the reply was told
-  pub told_newborn : (id : Id) → MadeBy old.number old.seat.made ≡ id → length new.seat.mine ≤ 1 + length old.seat.mine → new.seat.mine ≡ old.seat.mine ++ Said old.number command (replies.Made id) ∷ []
-  told_newborn id is few =
+  pub newborn_reply_is_told : (id : Id) → MadeBy old.number old.seat.made ≡ id → length new.seat.mine ≤ 1 + length old.seat.mine → new.seat.mine ≡ old.seat.mine ++ Said old.number command (replies.Made id) ∷ []
+  newborn_reply_is_told id is few =
       let answered = was.answered in
       let none : length answered.first ≡ 0 =
       omega (arith, few, ap (length {A = Entry}) was.mine, length-append old.seat.mine was.told, ap (length {A = Entry}) answered.last, length-append answered.first (Said old.number command answered.reply ∷ [])) in
@@ -129,5 +129,5 @@ module _ (tells : Step → ℕ → Type 0) (old new : SeatHeld) (command : Comma
       ∙ ap (λ (r : Reply). Said old.number command r ∷ []) (made_.1 ∙ ap replies.Made (made_.2.id_is ∙ is)))
 
 -- the id by what the holder answers of the seat
-pub id_by : (number made n m : ℕ) → n ≡ number → m ≡ made → MadeBy number made ≡ MadeBy n m
-id_by number made n m number_is made_is = ap (λ (k : ℕ). MadeBy k made) (sym number_is) ∙ ap (λ (k : ℕ). MadeBy n k) (sym made_is)
+pub made_id_by_number : (number made n m : ℕ) → n ≡ number → m ≡ made → MadeBy number made ≡ MadeBy n m
+made_id_by_number number made n m number_is made_is = ap (λ (k : ℕ). MadeBy k made) (sym number_is) ∙ ap (λ (k : ℕ). MadeBy n k) (sym made_is)

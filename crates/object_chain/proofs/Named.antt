@@ -19,14 +19,14 @@ use Rattle.object_chain.specs.Naming.{BeginsNaming, IsHeldsName}
 abbrev pub name_load : ℕ → ℕ → Made
 name_load head word = record { step = Access (NameLoad head); found = word }
 
-pub name_due : (held : SeatHeld) (head : ℕ) → BeginsNaming held head → due_step held.heap held.number held.seat ≡ Some (Access (NameLoad head))
-name_due held head begins =
+pub name_load_is_due : (held : SeatHeld) (head : ℕ) → BeginsNaming held head → due_step held.heap held.number held.seat ≡ Some (Access (NameLoad head))
+name_load_is_due held head begins =
     ap (λ (p : Place). option_map (λ (m : Move). m.step) (move_at held.heap held.number held.seat p)) begins.place_is
     ∙ ap (λ (o : Option ℕ). Some (Access (NameLoad (unwrap_or o 0)))) begins.head_is
 
 -- what it finds is the name of the object that the get's register holds
-pub name_held : (held : SeatHeld) (head word : ℕ) (name : Name) → BeginsNaming held head → ToldAtStep held.heap held.number held.seat word → name ≡ name_in word → IsHeldsName held head name
-name_held held head word name begins told is =
+pub loaded_name_is_held : (held : SeatHeld) (head word : ℕ) (name : Name) → BeginsNaming held head → ToldAtStep held.heap held.number held.seat word → name ≡ name_in word → IsHeldsName held head name
+loaded_name_is_held held head word name begins told is =
     let reached : ReachesInBook held.heap held.number held.seat word Naming = subst (WhileAccess (ReachesInBook held.heap held.number held.seat word)) begins.place_is told.tells.reached in
     let there = reached.there in
     record {

@@ -13,7 +13,7 @@ use Rattle.script_text.specs.Text.{text_of}
 use Rattle.script_text.specs.Words.{heap_line, heap_words}
 use Rattle.script_text.proofs.TextLemmas.{lines_of-text_of}
 use Rattle.script_text.proofs.Tokens.{IsAbove, IsAbove-from_test, IsAbove-sentence}
-use Rattle.script_text.proofs.Whole.{heap_of-heap_line, same_heap}
+use Rattle.script_text.proofs.Whole.{heap_of-heap_line, equal_texts_same_heap}
 use Rattle.script_text.proofs.WordBytes.{heap_words-above}
 use Rattle.reply_text.specs.declared.history.History.{History}
 use Rattle.reply_text.specs.declared.history.SpaceMark.{SpaceMark}
@@ -24,7 +24,7 @@ use Rattle.reply_text.specs.read.Reading.{GivesOnlyHistory}
 use Rattle.reply_text.specs.History.{IsHistory, IsSpellable, body, form_line, history_lines, too_many}
 use Rattle.reply_text.specs.write.Lines.{IsHistoryLine, history_line}
 use Rattle.reply_text.specs.read.LineWords.{line_of}
-use Rattle.reply_text.proofs.read_lemmas.LinesReread.{body_lines, follow-body, history_lines-above, lines_fault-none}
+use Rattle.reply_text.proofs.read_lemmas.LinesReread.{body_is_history_lines, follow-body, history_lines-above, lines_fault-none}
 use Rattle.reply_text.proofs.read_lemmas.Told.{end_in, end_in-body, entries_in, entries_in-body, lines-from_texts, mark_in, mark_in-body, values_in}
 
 form_of-form_line : (form : Form) → form_of (form_line form) ≡ Some form
@@ -37,7 +37,7 @@ form_line-above Run = IsAbove-from_test 31 (codes "history 1 run") refl
 
 -- each line after the heap line is one that the history may have
 lines_of-body : (history : History) → IsSpellable history → AllByRecursion (IsHistoryLine history.form history.heap.seats) (body history)
-lines_of-body history h = body_lines history.form history.heap.seats (length history.entries) history.mark history.entries history.end_used h.entries h.mark h.end_used
+lines_of-body history h = body_is_history_lines history.form history.heap.seats (length history.entries) history.mark history.entries history.end_used h.entries h.mark h.end_used
 
 -- a history has no fault
 pub first_history_fault-none : (text : List ℕ) (history : History) → IsHistory text history → first_history_fault text ≡ None
@@ -63,15 +63,15 @@ decoded : (history : History) → IsSpellable history → values_in (map (line_o
 decoded history h = let heap = h.heap in lines-from_texts history.form history.heap.seats (body history) (omega arith) (lines_of-body history h)
 
 -- two histories of one text are one
-pub same_history : (text : List ℕ) (one other : History) → IsHistory text one → IsHistory text other → one ≡ other
-same_history text one other f g =
+pub equal_texts_same_history : (text : List ℕ) (one other : History) → IsHistory text one → IsHistory text other → one ≡ other
+equal_texts_same_history text one other f g =
     let spelled : history_lines one ≡ history_lines other = sym f.spelled ∙ g.spelled in
     let form_lines : form_line one.form ≡ form_line other.form = cc in
     let heap_lines : heap_line one.heap ≡ heap_line other.heap = cc in
     let texts : map history_line (body one) ≡ map history_line (body other) = cc in
     let forms : ◌≡◌ {A = Option Form} (Some one.form) (Some other.form) = sym (form_of-form_line one.form) ∙ ap form_of form_lines ∙ form_of-form_line other.form in
     let form : one.form ≡ other.form = cc in
-    let heap : one.heap ≡ other.heap = same_heap one.heap other.heap f.value.heap g.value.heap heap_lines in
+    let heap : one.heap ≡ other.heap = equal_texts_same_heap one.heap other.heap f.value.heap g.value.heap heap_lines in
     let read : Form → Heap → List (List ℕ) → List HistoryLine = λ x y ls. values_in (map (line_of x y.seats) ls) in
     let bodies : body one ≡ body other =
     sym (decoded one f.value)
@@ -86,7 +86,7 @@ same_history text one other f g =
 
 -- what was read by the grammar is the one history, and what has a fault is none
 pub GivesOnlyHistory-from_read : (text : List ℕ) (result : Result History ScriptFault) → IfOk result (IsHistory text) → IfErr result (FailsBy (first_history_fault text)) → GivesOnlyHistory text result
-GivesOnlyHistory-from_read text (Ok read) found fault = λ history h. same_history text history read h found
+GivesOnlyHistory-from_read text (Ok read) found fault = λ history h. equal_texts_same_history text history read h found
 GivesOnlyHistory-from_read text (Err faults.Memory) found fault = tt
 GivesOnlyHistory-from_read text (Err (faults.Line line)) found fault = λ history h. let none = first_history_fault-none text history h in cc
 

@@ -39,7 +39,7 @@ module _ (form : Form) (heap : Heap) where
       let wrong : Breaks (entries ++ entry_of next) before other = subst (λ (l : HistoryLine). Breaks (entries ++ entry_of l) before other) (sym equal) (next_breaks entries next' before other breaks') in
       ap suc (same_count (entries ++ entry_of next) front before one other rest more others kept.1 right (next_breaks entries next front one breaks) wrong)
 
-pub same_first : (history : History) (one other : ℕ) → IsFirstIllegal history one → IsFirstIllegal history other → one ≡ other
-same_first history one other first first' =
+pub equal_first_lines : (history : History) (one other : ℕ) → IsFirstIllegal history one → IsFirstIllegal history other → one ≡ other
+equal_first_lines history one other first first' =
     let counts = same_count history.form history.heap [] first.before first'.before first.line first'.line first.rest first'.rest (sym first.parted ∙ first'.parted) first.kept first'.kept first.broken first'.broken in
     first.counted ∙ ap (λ n. 3 + n) counts ∙ sym first'.counted

@@ -7,8 +7,8 @@ use Rattle.form_words.specs.Works.{most_bytes, HasInput}
 use Rattle.schism_program.specs.Outcome.{IsReadUpTo}
 
 -- a work with an input reads so much of it
-pub work_up_to : (work : Work) (left left' : Option (List ℕ)) → HasInput work → LosesUpTo left left' (most_bytes work) → IsReadUpTo work left left'
-work_up_to (Play pace brief) left left' reads lost = lost
-work_up_to (Run pace locked patience) left left' reads lost = lost
-work_up_to Check left left' reads lost = lost
-work_up_to (Make start seats lines) left left' reads lost = absurd reads
+pub work_reads_up_to_limit : (work : Work) (left left' : Option (List ℕ)) → HasInput work → LosesUpTo left left' (most_bytes work) → IsReadUpTo work left left'
+work_reads_up_to_limit (Play pace brief) left left' reads lost = lost
+work_reads_up_to_limit (Run pace locked patience) left left' reads lost = lost
+work_reads_up_to_limit Check left left' reads lost = lost
+work_reads_up_to_limit (Make start seats lines) left left' reads lost = absurd reads

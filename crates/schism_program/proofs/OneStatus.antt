@@ -3,13 +3,13 @@ use Rattle.std.proofs.Common.{◌≡◌, ℕ, List, Option, Some, refl, sym, ap,
 use Rattle.form_words.specs.declared.work.Work.{Work}
 use Rattle.form_words.specs.declared.work.Work.TheVariants.{Play, Run, Check, Make}
 use Rattle.form_words.specs.Works.{AskFor}
-use Rattle.form_words.proofs.AskedWork.{asked_once}
+use Rattle.form_words.proofs.AskedWork.{asked_work_is_one}
 use Rattle.script_text.specs.declared.cause.Cause.{Cause}
 use Rattle.script_text.specs.declared.cause.LineFault.{LineFault}
 use Rattle.script_text.specs.declared.script.Form.TheVariants as forms
 use Rattle.script_text.proofs.Whole.{first_fault-none}
 use Rattle.reply_text.specs.declared.history.History.{History}
-use Rattle.reply_text.proofs.Whole.{first_history_fault-none, same_history}
+use Rattle.reply_text.proofs.Whole.{first_history_fault-none, equal_texts_same_history}
 use Rattle.io_edge.specs.Left.{GivesAll}
 use Rattle.log_merge.specs.Legal.{IsLegalHistory}
 use Rattle.log_merge.specs.Lines.{IsFirstIllegal}
@@ -18,14 +18,14 @@ use Rattle.schism_program.specs.declared.status.Status.TheVariants.{Done, Refuse
 use Rattle.schism_program.specs.Due.{IsDue, IsDueTo, IsInput}
 use Rattle.schism_program.specs.Outcome.{IsRead}
 use Rattle.schism_program.specs.Works.{FailsAt, IsIllegalAt, MakesText, Suits}
-use Rattle.schism_program.proofs.FirstLines.{same_first}
+use Rattle.schism_program.proofs.FirstLines.{equal_first_lines}
 
 -- what a text was made of suits the work
-pub made_suits : (work : Work) (input text : List ℕ) → MakesText work input text → Suits work input
-made_suits (Play pace brief) input text plays = (plays.script, plays.spelled)
-made_suits (Run pace locked patience) input text runs = (runs.script, runs.spelled)
-made_suits Check input text finds = (finds.history, finds.spelled, finds.legal)
-made_suits (Make start seats lines) input text made = tt
+pub made_input_suits_work : (work : Work) (input text : List ℕ) → MakesText work input text → Suits work input
+made_input_suits_work (Play pace brief) input text plays = (plays.script, plays.spelled)
+made_input_suits_work (Run pace locked patience) input text runs = (runs.script, runs.spelled)
+made_input_suits_work Check input text finds = (finds.history, finds.spelled, finds.legal)
+made_input_suits_work (Make start seats lines) input text made = tt
 
 -- what suits the work has no fault
 suits_none : (work : Work) (input : List ℕ) (line : ℕ) (cause : Cause) → Suits work input → ¬ FailsAt work input line cause
@@ -39,7 +39,7 @@ suits_legal : (work : Work) (input : List ℕ) (line : ℕ) → Suits work input
 suits_legal (Play pace brief) input line suits illegal = illegal
 suits_legal (Run pace locked patience) input line suits illegal = illegal
 suits_legal (Make start seats lines) input line suits illegal = illegal
-suits_legal Check input line (history, spelled, legal) illegal = illegal.illegal (subst IsLegalHistory (same_history input history illegal.history spelled illegal.spelled) legal)
+suits_legal Check input line (history, spelled, legal) illegal = illegal.illegal (subst IsLegalHistory (equal_texts_same_history input history illegal.history spelled illegal.spelled) legal)
 
 -- what has a line that isn't legal has no fault
 illegal_none : (work : Work) (input : List ℕ) (line number : ℕ) (cause : Cause) → IsIllegalAt work input line → ¬ FailsAt work input number cause
@@ -66,8 +66,8 @@ illegal_once (Play pace brief) input line line' illegal illegal' = absurd illega
 illegal_once (Run pace locked patience) input line line' illegal illegal' = absurd illegal
 illegal_once (Make start seats lines) input line line' illegal illegal' = absurd illegal
 illegal_once Check input line line' illegal illegal' =
-    let same = same_history input illegal.history illegal'.history illegal.spelled illegal'.spelled in
-    same_first illegal'.history line line' (subst (λ (h : History). IsFirstIllegal h line) same illegal.first) illegal'.first
+    let same = equal_texts_same_history input illegal.history illegal'.history illegal.spelled illegal'.spelled in
+    equal_first_lines illegal'.history line line' (subst (λ (h : History). IsFirstIllegal h line) same illegal.first) illegal'.first
 
 -- an input calls for one status
 due_once : (work : Work) (input : List ℕ) (one other : Status) → IsDueTo work input one → IsDueTo work input other → one ≡ other
@@ -101,9 +101,9 @@ same_input Check left left' input input' all its = let gives : GivesAll (Some in
 same_input (Make start seats lines) left left' input input' all its = all.0 ∙ sym its
 
 -- so where its input was read, and it calls for this status, no other is due
-pub only_due : (words : List (List ℕ)) (left left' : Option (List ℕ)) (work : Work) (input : List ℕ) (one other : Status) → AskFor words work → IsRead work left left' input → IsDueTo work input one → IsDue words left other → one ≡ other
-only_due words left left' work input one Usage asked all due none = absurd (none (work, asked))
-only_due words left left' work input one other asked all due (work', input', asked', told, due') =
-    let same = asked_once words work' work asked' asked in
+pub only_one_status_is_due : (words : List (List ℕ)) (left left' : Option (List ℕ)) (work : Work) (input : List ℕ) (one other : Status) → AskFor words work → IsRead work left left' input → IsDueTo work input one → IsDue words left other → one ≡ other
+only_one_status_is_due words left left' work input one Usage asked all due none = absurd (none (work, asked))
+only_one_status_is_due words left left' work input one other asked all due (work', input', asked', told, due') =
+    let same = asked_work_is_one words work' work asked' asked in
     let its : IsInput work left input' = subst (λ (w : Work). IsInput w left input') same told in
     due_once work input one other due (subst (λ (i : List ℕ). IsDueTo work i other) (sym (same_input work left left' input input' all its)) (subst (λ (w : Work). IsDueTo w input' other) same due'))

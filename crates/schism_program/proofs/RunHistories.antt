@@ -8,14 +8,14 @@ use Rattle.locked_heap.specs.declared.ran.LockedRan.{LockedRan}
 use Rattle.locked_heap.specs.Given.{Given, script_of}
 use Rattle.locked_heap.specs.Ran.{IsRun}
 use Rattle.heap_model.specs.runs.Endings.{EndsEmpty}
-use Rattle.locked_heap.proofs.HeapEntries.{run_of_heap}
+use Rattle.locked_heap.proofs.HeapEntries.{run_entries_are_of_heap}
 use Rattle.script_text.specs.declared.script.Script.{Script}
 use Rattle.schism_program.specs.Running.{seat_commands, run_history, IsRunOf}
 
 -- a run of what the seats are handed is one of the script
-pub run_of_script : (given : Given) (ran : LockedRan) (script : Script) → given.heap ≡ script.heap
+pub history_is_run_of_script : (given : Given) (ran : LockedRan) (script : Script) → given.heap ≡ script.heap
     → ((number : ℕ) → number < script.heap.seats → script_of given number ≡ seat_commands number script.lines) → IsRun given ran → IsRunOf true script (run_history script.heap ran)
-run_of_script given ran script same handed run =
+history_is_run_of_script given ran script same handed run =
     let whole : IsLegal script.heap false ran.history.items = subst (λ (h : Heap). IsLegal h false ran.history.items) same run.legal in
     record {
       form = refl;
@@ -23,7 +23,7 @@ run_of_script given ran script same handed run =
       unmarked = refl;
       legal = record { entries = whole.objects; mark = tt; end_used = run.used };
       whole = (whole, subst (λ (h : Heap). EndsEmpty h ran.history.items) same run.last_cycle);
-      unturned = run_of_heap given ran run;
+      unturned = run_entries_are_of_heap given ran run;
       commands = λ number within.
           run.commands number (subst (λ (h : Heap). number < h.seats) (sym same) within) ∙ ap (λ (commands : List Command). commands ++ Leave ∷ []) (handed number within);
       none_used = run.none_used;

@@ -62,25 +62,25 @@ all_commands seats number (lines.Seat other command ∷ more) all = all_more (ot
 all_commands seats number (lines.Turns command ∷ more) all = absurd all.0
 
 -- so what each seat is handed is a script
-pub seat_script : (number : ℕ) (script : Script) → IsOfForm Run script → IsSeatScript (seat_commands number script.lines)
-seat_script number script of_form = record {
+pub seat_commands_are_script : (number : ℕ) (script : Script) → IsOfForm Run script → IsSeatScript (seat_commands number script.lines)
+seat_commands_are_script number script of_form = record {
   few = omega (arith, few_commands number script.lines, of_form.short);
   each = All-from_recursion IsOfScript (seat_commands number script.lines) (all_commands script.heap.seats number script.lines of_form.lines);
 }
 
 -- there is one for each seat
-pub seated : (scripts : List (Vec Command Global)) (script : Script) → map items scripts ≡ scripts_by_seat script → length scripts ≡ script.heap.seats
-seated scripts script same = sym (length-map scripts items) ∙ ap (length {A = List Command}) same ∙ length-map-range_with_len (λ number. seat_commands number script.lines) 0 script.heap.seats
+pub scripts_are_one_each : (scripts : List (Vec Command Global)) (script : Script) → map items scripts ≡ scripts_by_seat script → length scripts ≡ script.heap.seats
+scripts_are_one_each scripts script same = sym (length-map scripts items) ∙ ap (length {A = List Command}) same ∙ length-map-range_with_len (λ number. seat_commands number script.lines) 0 script.heap.seats
 
 -- each of them is
-pub seat_scripts : (scripts : List (Vec Command Global)) (script : Script) → IsOfForm Run script → map items scripts ≡ scripts_by_seat script → All (λ (s : Vec Command Global). IsSeatScript s.items) scripts
-seat_scripts scripts script of_form same k d below =
+pub all_are_seat_scripts : (scripts : List (Vec Command Global)) (script : Script) → IsOfForm Run script → map items scripts ≡ scripts_by_seat script → All (λ (s : Vec Command Global). IsSeatScript s.items) scripts
+all_are_seat_scripts scripts script of_form same k d below =
     let commands = λ (number : ℕ). seat_commands number script.lines in
     let found : commands k ≡ (slice_index_or scripts k d).items
-    = sym (get_or-map-range_with_len commands 0 script.heap.seats k k d.items (omega (arith, below, seated scripts script same)) (omega arith)) ∙ ap (λ l. slice_index_or l k d.items) (sym same) ∙ get_or-map items scripts k d in
-    subst IsSeatScript found (seat_script k script of_form)
+    = sym (get_or-map-range_with_len commands 0 script.heap.seats k k d.items (omega (arith, below, scripts_are_one_each scripts script same)) (omega arith)) ∙ ap (λ l. slice_index_or l k d.items) (sym same) ∙ get_or-map items scripts k d in
+    subst IsSeatScript found (seat_commands_are_script k script of_form)
 
 -- and it is what the seat of its number is handed
-pub handed_script : (scripts : List (Vec Command Global)) (script : Script) (number : ℕ) → number < script.heap.seats → map items scripts ≡ scripts_by_seat script → slice_index_or (map items scripts) number [] ≡ seat_commands number script.lines
-handed_script scripts script number within same =
+pub handed_script_is_seats : (scripts : List (Vec Command Global)) (script : Script) (number : ℕ) → number < script.heap.seats → map items scripts ≡ scripts_by_seat script → slice_index_or (map items scripts) number [] ≡ seat_commands number script.lines
+handed_script_is_seats scripts script number within same =
     ap (λ l. slice_index_or l number []) same ∙ get_or-map-range_with_len (λ n. seat_commands n script.lines) 0 script.heap.seats number number [] within (omega arith)

@@ -22,7 +22,7 @@ use Rattle.core_machine.specs.seat.Seat.{Seat}
 use Rattle.heap_table.specs.Closed.{ClosedTable, HasOneHistory}
 use Rattle.heap_table.specs.Opened.{IsOpened}
 use Rattle.heap_table.specs.SeatHeld.{SeatHeld}
-use Rattle.log_merge.proofs.SameLogs.{snoc_same, same_totals, keeps_logs}
+use Rattle.log_merge.proofs.SameLogs.{snoc_is_injective, same_totals, keep_each_others_logs}
 use Rattle.script_text.specs.declared.script.Script.{Script}
 use Rattle.heap_model.specs.account.Account.{IsLegal}
 use Rattle.heap_model.specs.account.Space.{fragments_gained, fragments_lost}
@@ -66,8 +66,8 @@ abbrev pub HasToldNone : SeatHeld → Type 0
 HasToldNone held = held.seat.mine ≡ []
 
 -- as no seat of a table that opens has
-pub told_none : (table : TableId) (heap : Heap) (holders : List SeatHeld) → All (IsOpened table heap) holders → AllByRecursion HasToldNone holders
-told_none table heap holders opened = recursion_from_All HasToldNone holders (λ k d below. ap (λ (s : Seat). s.mine) (opened k d below).seat_is)
+pub opened_holders_told_none : (table : TableId) (heap : Heap) (holders : List SeatHeld) → All (IsOpened table heap) holders → AllByRecursion HasToldNone holders
+opened_holders_told_none table heap holders opened = recursion_from_All HasToldNone holders (λ k d below. ap (λ (s : Seat). s.mine) (opened k d below).seat_is)
 
 module _ (patience : ℕ) (scripts : List (List Command)) (history : List Entry) where
   -- seats that follow one another, had told nothing, and whose lists are their parts of the history, have told their scripts and left
@@ -94,7 +94,7 @@ module _ (patience : ℕ) (scripts : List (List Command)) (script : Script) (clo
     (logs : HasLogs news [] closed) (numbers : map (λ held. held.number) olds ≡ range_with_len 0 script.heap.seats) (many : length olds ≡ script.heap.seats)
     (none : AllByRecursion HasToldNone olds) (worked : HaveWorked patience scripts olds news) where
   parts : (map (λ held. held.seat.mine) news ≡ map (λ n. filter (is_of n) merged) (range_with_len 0 script.heap.seats)) × (logs.turned ≡ filter is_collectors merged)
-  parts = snoc_same (map (λ (held : SeatHeld). held.seat.mine) news) (map (λ n. filter (is_of n) merged) (range_with_len 0 script.heap.seats)) logs.turned (filter is_collectors merged)
+  parts = snoc_is_injective (map (λ (held : SeatHeld). held.seat.mine) news) (map (λ n. filter (is_of n) merged) (range_with_len 0 script.heap.seats)) logs.turned (filter is_collectors merged)
       (sym logs.logs_are ∙ kept)
 
   abbrev one : HasOneHistory closed
@@ -113,8 +113,8 @@ module _ (patience : ℕ) (scripts : List (List Command)) (script : Script) (clo
       (parts.0 ∙ ap (λ m. map (λ n. filter (is_of n) merged) (range_with_len 0 m)) (sym many)) number (omega arith) (omega (arith, within, many))
 
   -- the merged entries are a run of the script
-  pub run_of_table : ((number : ℕ) → number < script.heap.seats → script_at scripts number ≡ seat_commands number script.lines) → IsRunOf false script (merged_history script.heap merged)
-  run_of_table handed =
+  pub merged_is_run_of_script : ((number : ℕ) → number < script.heap.seats → script_at scripts number ≡ seat_commands number script.lines) → IsRunOf false script (merged_history script.heap merged)
+  merged_is_run_of_script handed =
       let totals = same_totals script.heap merged one.history legal legal_too same in
       record {
         form = refl;
@@ -127,7 +127,7 @@ module _ (patience : ℕ) (scripts : List (List Command)) (script : Script) (clo
         };
         whole = (
           one.history,
-          keeps_logs script.heap merged one.history legal legal_too same,
+          keep_each_others_logs script.heap merged one.history legal legal_too same,
           subst (λ (h : Heap). IsLegal h false one.history) heap_is one.legal,
           subst (λ (h : Heap). EndsBehindLeaves h one.history) heap_is unused.ends,
         );
@@ -138,5 +138,5 @@ module _ (patience : ℕ) (scripts : List (List Command)) (script : Script) (clo
       }
 
   -- and the table's
-  pub table_of_run : IsOfTable (merged_history script.heap merged) closed
-  table_of_run = record { heap_is = heap_is; logs_are = kept; unused = unused }
+  pub merged_is_of_table : IsOfTable (merged_history script.heap merged) closed
+  merged_is_of_table = record { heap_is = heap_is; logs_are = kept; unused = unused }

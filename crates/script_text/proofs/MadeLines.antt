@@ -17,15 +17,15 @@ abbrev pub lines_before : ℕ → ℕ → ℕ → List Line
 lines_before start seats number = map (made_line start seats) (range_with_len 0 number)
 
 -- the line of the next number stands behind them
-pub lines_more : (start seats number state : ℕ) (before after : List Line) (line : Line) → before ≡ lines_before start seats number → state ≡ state_before start seats number →
+pub lines_before_next : (start seats number state : ℕ) (before after : List Line) (line : Line) → before ≡ lines_before start seats number → state ≡ state_before start seats number →
     line ≡ lines.Seat (number % seats) (made_command seats number state) → after ≡ before ++ line ∷ [] → after ≡ lines_before start seats (number + 1)
-lines_more start seats number state before after line e f g h =
+lines_before_next start seats number state before after line e f g h =
     rw (h, e, g, f) (sym (map-range_with_len_more (made_line start seats) 0 number number (omega arith)))
 
 -- the state before the next line
-pub state_more : (start seats number state next : ℕ) → state ≡ state_before start seats number → next ≡ state_after_draws (draws_of (made_command seats number state)) state →
+pub state_before_next : (start seats number state next : ℕ) → state ≡ state_before start seats number → next ≡ state_after_draws (draws_of (made_command seats number state)) state →
     next ≡ state_before start seats (number + 1)
-state_more start seats number state next e f = rw (f, e, add-one) refl
+state_before_next start seats number state next e f = rw (f, e, add-one) refl
 
 -- with a last one for which it holds too, a fact holds of all
 AllByRecursion-push : {X : Type 0} (P : X → Type 0) (xs : List X) (x : X) → AllByRecursion P xs → P x → AllByRecursion P (xs ++ x ∷ [])
@@ -33,9 +33,9 @@ AllByRecursion-push P [] x all here = (here, tt)
 AllByRecursion-push P (y ∷ ys) x all here = (all.0, AllByRecursion-push P ys x all.1 here)
 
 -- a line more is of the grammar, in each form
-pub range_more : (form : Form) (seats number state : ℕ) (before after : List Line) (line : Line) → 1 ≤ seats → IsScripted (made_command seats number state) →
+pub made_lines_stay_in_grammar : (form : Form) (seats number state : ℕ) (before after : List Line) (line : Line) → 1 ≤ seats → IsScripted (made_command seats number state) →
     line ≡ lines.Seat (number % seats) (made_command seats number state) → after ≡ before ++ line ∷ [] → AllByRecursion (IsLine form seats) before → AllByRecursion (IsLine form seats) after
-range_more form seats number state before after line some scripted e f range =
+made_lines_stay_in_grammar form seats number state before after line some scripted e f range =
     let below : number % seats < seats = omega arith in
     let here : IsLine form seats line = rw e (below, scripted) in
     rw f (AllByRecursion-push (IsLine form seats) before line range here)

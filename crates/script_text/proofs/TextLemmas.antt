@@ -6,7 +6,7 @@ use Rattle.std.proofs.lemmas.List.Splits.{length-slice_split, slice_split_at, jo
 use Rattle.heap_model.specs.declared.heap.Heap.{Heap}
 use Rattle.script_text.specs.Text.{lines_of, without_empty_last, words_of, sentence, text_of}
 use Rattle.script_text.specs.Words.{heap_words, heap_line}
-use Rattle.script_text.proofs.Tokens.{IsAbove, IsAbove-lower, free}
+use Rattle.script_text.proofs.Tokens.{IsAbove, IsAbove-lower, bytes_above_have_no_mark}
 
 -- what is left after a line that more parts follow
 without_empty_last-more : (line : List ℕ) (parts : List (List ℕ)) → 0 < length parts → without_empty_last (line ∷ parts) ≡ line ∷ without_empty_last parts
@@ -59,7 +59,7 @@ heap_line-words_of line (Some heap) e = sentence-words_of line (codes "heap" ∷
 pub lines_of-text_of : (lines : List (List ℕ)) → AllByRecursion (IsAbove 31) lines → lines_of (text_of lines) ≡ lines
 lines_of-text_of [] f = refl
 lines_of-text_of (line ∷ lines) f =
-    let apart : All (λ b. (b == 10) ≡ false) line = free 10 line (IsAbove-lower 10 31 line (omega arith) f.0) in
+    let apart : All (λ b. (b == 10) ≡ false) line = bytes_above_have_no_mark 10 line (IsAbove-lower 10 31 line (omega arith) f.0) in
     let some : 0 < length (slice_split (λ b. b == 10) (text_of lines)) = omega (arith, length-slice_split (λ b. b == 10) (text_of lines)) in
     rw (
       append_assoc line (10 ∷ []) (text_of lines),

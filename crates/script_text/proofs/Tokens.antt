@@ -40,17 +40,17 @@ IsAbove-lower j k [] h f = tt
 IsAbove-lower j k (x ∷ xs) h f = (omega (arith, f.0), IsAbove-lower j k xs h f.1)
 
 -- a mark below each byte isn't one of them
-pub free : (mark : ℕ) (bytes : List ℕ) → IsAbove mark bytes → All (λ b. (b == mark) ≡ false) bytes
-free mark bytes f = All-from_recursion (λ b. (b == mark) ≡ false) bytes (apart bytes f) where
+pub bytes_above_have_no_mark : (mark : ℕ) (bytes : List ℕ) → IsAbove mark bytes → All (λ b. (b == mark) ≡ false) bytes
+bytes_above_have_no_mark mark bytes f = All-from_recursion (λ b. (b == mark) ≡ false) bytes (apart bytes f) where
   apart : (bs : List ℕ) → IsAbove mark bs → AllByRecursion (λ b. (b == mark) ≡ false) bs
   apart [] f = tt
   apart (b ∷ bs) f = (grind (arith, common_steps, f.0), apart bs f.1)
 
 -- the words of a sentence
 pub words_of-sentence : (word : List ℕ) (words : List (List ℕ)) → AllByRecursion (IsAbove 32) (word ∷ words) → words_of (sentence (word ∷ words)) ≡ word ∷ words
-words_of-sentence word [] f = slice_split_none (λ b. b == 32) word (free 32 word f.0)
+words_of-sentence word [] f = slice_split_none (λ b. b == 32) word (bytes_above_have_no_mark 32 word f.0)
 words_of-sentence word (next ∷ words) f =
-    rw (slice_split_at (λ b. b == 32) word 32 (sentence (next ∷ words)) (free 32 word f.0) refl, words_of-sentence next words f.1) refl
+    rw (slice_split_at (λ b. b == 32) word 32 (sentence (next ∷ words)) (bytes_above_have_no_mark 32 word f.0) refl, words_of-sentence next words f.1) refl
 
 -- no byte of a sentence is below the space
 pub IsAbove-sentence : (words : List (List ℕ)) → AllByRecursion (IsAbove 32) words → IsAbove 31 (sentence words)

@@ -49,8 +49,8 @@ lines-from_texts form seats (line ∷ lines) few h =
 pub heap_of-heap_line : (heap : Heap) → IsHeap heap → heap_of (words_of (heap_line heap)) ≡ Some heap
 heap_of-heap_line heap h = rw (words_of-sentence (codes "heap") (heap_words heap) (heap_words-above heap h)) (heap_of-words heap h)
 
-pub same_heap : (one other : Heap) → IsHeap one → IsHeap other → heap_line one ≡ heap_line other → one ≡ other
-same_heap one other f g e =
+pub equal_texts_same_heap : (one other : Heap) → IsHeap one → IsHeap other → heap_line one ≡ heap_line other → one ≡ other
+equal_texts_same_heap one other f g e =
     let asked : Some one ≡ Some other = sym (heap_of-heap_line one f) ∙ ap (λ line. heap_of (words_of line)) e ∙ heap_of-heap_line other g in
     cc
 
@@ -72,7 +72,7 @@ same_script form text one other f g =
     let spelled : script_lines one.heap one.lines ≡ script_lines other.heap other.lines = sym f.spelled ∙ g.spelled in
     let heap_lines : heap_line one.heap ≡ heap_line other.heap = cc in
     let texts : map line_text one.lines ≡ map line_text other.lines = cc in
-    same_parts one other (same_heap one.heap other.heap f.heap g.heap heap_lines)
+    same_parts one other (equal_texts_same_heap one.heap other.heap f.heap g.heap heap_lines)
     (sym (lines-from_texts form one.heap.seats one.lines (omega arith) f.lines)
     ∙ ap (map (λ text. line_of (words_of text))) texts
     ∙ lines-from_texts form other.heap.seats other.lines (omega arith) g.lines)

@@ -10,8 +10,8 @@ pub record Adds (heap : Heap) (now : State) (number : ℕ) (seat : Seat) (move :
       ≡ entries_awaited heap now.words number seat ++ move.shows now.words (found_by heap now move.step)
 
 -- going on adds no entry
-pub goes_on_mine : (heap : Heap) (seat : Seat) → (gather_next heap seat).mine ≡ seat.mine
-goes_on_mine heap seat = goes_on_cases (λ s. s.mine ≡ seat.mine) heap seat (λ enough. refl) (λ few left. refl) (λ few all. refl)
+pub own_list_same_going_on : (heap : Heap) (seat : Seat) → (gather_next heap seat).mine ≡ seat.mine
+own_list_same_going_on heap seat = goes_on_cases (λ s. s.mine ≡ seat.mine) heap seat (λ enough. refl) (λ few left. refl) (λ few all. refl)
 
 module _ (heap : Heap) (now : State) (number : ℕ) (seat : Seat) where
   -- the words after a step
@@ -19,8 +19,8 @@ module _ (heap : Heap) (now : State) (number : ℕ) (seat : Seat) where
   after_words move = (state_after_move heap now number move).words
 
   -- where nothing is awaited before and after, the entries stand in the history at once
-  pub plain : (move : Move) → (move.told (found_by heap now move.step)).mine ≡ seat.mine → entries_awaited heap now.words number seat ≡ []
+  pub adds_where_none_awaited : (move : Move) → (move.told (found_by heap now move.step)).mine ≡ seat.mine → entries_awaited heap now.words number seat ≡ []
       → entries_awaited heap (after_words move) number (seat_after move (found_by heap now move.step)) ≡ []
       → move.shows now.words (found_by heap now move.step) ≡ move.adds (found_by heap now move.step) → Adds heap now number seat move
-  plain move kept before gone same =
+  adds_where_none_awaited move kept before gone same =
       record { kept = kept; told = rw (before, gone, same) (append-nil (move.adds (found_by heap now move.step))) }

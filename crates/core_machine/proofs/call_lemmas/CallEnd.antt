@@ -12,9 +12,9 @@ use Rattle.std.proofs.Math.Seq.{get_or-append_seam}
 use Rattle.heap_model.specs.calls.SeatCalls.{leave_entries}
 use Rattle.core_machine.specs.declared.place.Place.TheVariants as places
 use Rattle.core_machine.proofs.call_lemmas.Stages.{Answered, AloneStage}
-use Rattle.core_machine.proofs.own_stages.End.{comes_before, own_answered, counts_by, leave_told}
-use Rattle.core_machine.proofs.call_lemmas.Calling.{Playing, playing_more}
-use Rattle.core_machine.proofs.call_lemmas.CallRoom.{log_of_seat, step_room, spends_on}
+use Rattle.core_machine.proofs.own_stages.End.{comes_before, own_answered, call_counts_by_reply, told_is_leave_entries}
+use Rattle.core_machine.proofs.call_lemmas.Calling.{Playing, playing_after_step}
+use Rattle.core_machine.proofs.call_lemmas.CallRoom.{seat_log_is_own_list, step_leaves_room, spends_room_in_turn}
 
 -- a call that has no step due is over
 idle_at : (heap : Heap) (number : ℕ) (seat : Seat) (place : Place) → option_map (λ m. m.step) (move_at heap number seat place) ≡ None → place ≡ places.Idle
@@ -26,14 +26,14 @@ idle_at heap number seat (places.Polling place) none = cc
 idle_at heap number seat (places.Collecting place) none = cc
 idle_at heap number seat (places.Leaving place) none = cc
 
-pub idle_from : (heap : Heap) (number : ℕ) (seat : Seat) → due_step heap number seat ≡ None → seat.place ≡ places.Idle
-idle_from heap number seat none = idle_at heap number seat seat.place none
+pub placeless_is_idle : (heap : Heap) (number : ℕ) (seat : Seat) → due_step heap number seat ≡ None → seat.place ≡ places.Idle
+placeless_is_idle heap number seat none = idle_at heap number seat seat.place none
 
 -- the call was answered
 pub answered : (heap : Heap) (old now : State) (number : ℕ) (command : Command) (playing : Playing heap old now number command)
     → due_step heap number (seat_at now number) ≡ None → Answered heap old now number command playing.told
 answered heap old now number command playing none =
-    subst (AloneStage heap old now number command playing.told (seat_at now number)) (idle_from heap number (seat_at now number) none) playing.stage.alone
+    subst (AloneStage heap old now number command playing.told (seat_at now number)) (placeless_is_idle heap number (seat_at now number) none) playing.stage.alone
 
 -- a reply that is told last is the last
 pub last_reply-said : (entries_ : List Entry) (number : ℕ) (command : Command) (reply : Reply) → last_reply_of (entries_ ++ Said number command reply ∷ []) ≡ Some reply
@@ -56,7 +56,7 @@ one_reply number command reply other told before front is also =
 all_mine : (heap : Heap) (old now : State) (number : ℕ) (command : Command) (playing : Playing heap old now number command)
     → due_step heap number (seat_at now number) ≡ None → (seat_at now number).mine ≡ (seat_at old number).mine ++ playing.told
 all_mine heap old now number command playing none =
-    let idle = idle_from heap number (seat_at now number) none in
+    let idle = placeless_is_idle heap number (seat_at now number) none in
     let mine = playing.under.mine in
     sym (append-nil (seat_at now number).mine) ∙ ap (λ (l : List Entry). (seat_at now number).mine ++ l) (sym (ap (entries_awaited_at heap now.words number (seat_at now number)) idle)) ∙ mine
 
@@ -77,15 +77,15 @@ own_end heap old now number command playing none =
     let same : playing.listed ≡ playing.told = append_cancel_left (seat_at old number).mine playing.listed playing.told (sym own.mine ∙ all_mine heap old now number command playing none) in
     let is : IsAnswered tells_nothing heap number command (kept_of (seat_at old number)) (kept_of (seat_at now number)) playing.told =
     subst (IsAnswered tells_nothing heap number command (kept_of (seat_at old number)) (kept_of (seat_at now number))) same
-    (own_answered tells_nothing heap number command (seat_at old number) (seat_at now number) playing.listed own (idle_from heap number (seat_at now number) none)) in
+    (own_answered tells_nothing heap number command (seat_at old number) (seat_at now number) playing.listed own (placeless_is_idle heap number (seat_at now number) none)) in
     let reply : is.reply ≡ answer.reply = one_reply number command answer.reply is.reply playing.told answer.before is.first answer.last is.last in
     record {
       first = is.first;
       last = is.last ∙ ap (λ (r : Reply). is.first ++ Said number command r ∷ []) reply;
       beside = is.beside;
       comes = subst (λ (r : Reply). ComesFirst number (kept_of (seat_at old number)) command r is.first) reply is.comes;
-      counts = counts_by tells_nothing heap number command (seat_at old number) (seat_at now number) is.first is.reply is.stands;
-      leave = λ a_leave. leave_told tells_nothing heap number (kept_of (seat_at old number)) (kept_of (seat_at now number)) playing.told
+      counts = call_counts_by_reply tells_nothing heap number command (seat_at old number) (seat_at now number) is.first is.reply is.stands;
+      leave = λ a_leave. told_is_leave_entries tells_nothing heap number (kept_of (seat_at old number)) (kept_of (seat_at now number)) playing.told
           (subst (λ (c : Command). IsAnswered tells_nothing heap number c (kept_of (seat_at old number)) (kept_of (seat_at now number)) playing.told) a_leave is);
     }
 
@@ -99,7 +99,7 @@ plays_call heap old now number command playing none =
       steps = playing.under.steps;
       can = playing.under.can;
       ends = playing.under.ends;
-      idle = idle_from heap number (seat_at now number) none;
+      idle = placeless_is_idle heap number (seat_at now number) none;
       before = own.first;
       shown = playing.under.shows ∙ own.last;
       mine = all_mine heap old now number command playing none ∙ ap (λ (l : List Entry). (seat_at old number).mine ++ l) own.last;
@@ -138,9 +138,9 @@ none_due None not_ = refl
 none_due (Some step) not_ = absurd (not_ step refl)
 
 -- a loop that has no step left has none due
-pub none_left : {heap : Heap} (now : MachineValue) (number : ℕ) {due : Option Step} → now.heap ≡ heap → due ≡ due_step now.heap number (seat_at now.state number)
+pub no_step_is_due : {heap : Heap} (now : MachineValue) (number : ℕ) {due : Option Step} → now.heap ≡ heap → due ≡ due_step now.heap number (seat_at now.state number)
     → ((step : Step) → due ≡ Some step → ⊥) → due_step heap number (seat_at now.state number) ≡ None
-none_left now number same is not_ =
+no_step_is_due now number same is not_ =
     ap (λ h. due_step h number (seat_at now.state number)) (sym same) ∙ sym is ∙ none_due _ not_
 
 -- one more step of a call was made, which was due: the machine's, which leaves fewer steps and room for them
@@ -152,18 +152,18 @@ pub record StepsOn (first old new : MachineValue) (number : ℕ) : Type 0 where
   pub room : owes (seat_at new.state number) + 2 ≤ spare_of new number
   pub spent : SpendsRoom first new number
 
-pub steps_on : {first old new : MachineValue} {number : ℕ} {step : Step} → IsMachine first.heap old.state → number < length old.state.seats → old.heap ≡ first.heap
+pub steps_on_one_more : {first old new : MachineValue} {number : ℕ} {step : Step} → IsMachine first.heap old.state → number < length old.state.seats → old.heap ≡ first.heap
     → due_step old.heap number (seat_at old.state number) ≡ Some step → new.heap ≡ old.heap → new.state ≡ state_after old.heap old.state (Steps number)
     → SpendsRoom old new number → owes (seat_at old.state number) + 2 ≤ spare_of old number → SpendsRoom first old number → StepsOn first old new number
-steps_on {first} {old} {new} {number} {step} machine within same due heap state spends room spent =
-    let next = step_room old new number step (subst (λ h. IsMachine h old.state) (sym same) machine) within due state spends room in
+steps_on_one_more {first} {old} {new} {number} {step} machine within same due heap state spends room spent =
+    let next = step_leaves_room old new number step (subst (λ h. IsMachine h old.state) (sym same) machine) within due state spends room in
     record {
       some = some_due first.heap number (seat_at old.state number) step (ap (λ h. due_step h number (seat_at old.state number)) (sym same) ∙ due);
       heap_is = heap ∙ same;
       state_is = state ∙ ap (λ h. state_after h old.state (Steps number)) same;
       fewer = subst (λ h. steps_left h (seat_at new.state number) < steps_left old.heap (seat_at old.state number)) (sym heap) next.0;
       room = next.1;
-      spent = spends_on first old new number spent spends;
+      spent = spends_room_in_turn first old new number spent spends;
     }
 
 -- a call is under way that no other step came into, with room for the rest of it
@@ -174,17 +174,17 @@ pub record CallGoes (first now : MachineValue) (number : ℕ) (command : Command
   pub room : owes (seat_at now.state number) + 2 ≤ spare_of now number
 
 -- so it is after one more step of it
-pub call_steps : {first old new : MachineValue} {number : ℕ} {command : Command} {step : Step} → CallGoes first old number command → old.heap ≡ first.heap → SpendsRoom first old number
+pub call_goes_by_step : {first old new : MachineValue} {number : ℕ} {command : Command} {step : Step} → CallGoes first old number command → old.heap ≡ first.heap → SpendsRoom first old number
     → due_step old.heap number (seat_at old.state number) ≡ Some step → new.heap ≡ old.heap → new.state ≡ state_after old.heap old.state (Steps number) → SpendsRoom old new number
     → StepsOn first old new number × CallGoes first new number command
-call_steps {first} {old} {new} {number} {command} goes same spent due heap state spends =
-    let on = steps_on goes.playing.under.machine goes.playing.under.within same due heap state spends goes.room spent in (
+call_goes_by_step {first} {old} {new} {number} {command} goes same spent due heap state spends =
+    let on = steps_on_one_more goes.playing.under.machine goes.playing.under.within same due heap state spends goes.room spent in (
       on,
       record {
         small = goes.small;
         gone = goes.gone;
         playing = subst (λ (s : State). Playing first.heap first.state s number command) (sym on.state_is)
-            (playing_more first.heap first.state old.state number command goes.small goes.playing on.some);
+            (playing_after_step first.heap first.state old.state number command goes.small goes.playing on.some);
         room = on.room;
       },
     )
@@ -194,7 +194,7 @@ recent_reply : {heap : Heap} {old : State} (now : MachineValue) {number : ℕ} {
     (none : due_step heap number (seat_at now.state number) ≡ None) → gone ≤ length (seat_at old number).mine
     → last_reply_of (drop gone (log_of now number)) ≡ Some (answered heap old now.state number command playing none).reply
 recent_reply {heap} {old} now {number} {command} gone playing none few =
-    ap (λ (l : List Entry). last_reply_of (drop gone l)) (log_of_seat now number playing.under.within) ∙ replied heap old now.state number command playing none gone few
+    ap (λ (l : List Entry). last_reply_of (drop gone l)) (seat_log_is_own_list now number playing.under.within) ∙ replied heap old now.state number command playing none gone few
 
 -- a call that is over was made whole, and its last entry tells the answer
 pub record CallOver (heap : Heap) (old now : State) (number : ℕ) (command : Command) (reply : Reply) : Type 0 where
@@ -229,19 +229,19 @@ call_over {heap} {old} now {number} {command} {reply} gone playing none few last
 gone_before : {first now : MachineValue} {number : ℕ} {command : Command} → CallGoes first now number command → SpendsRoom first now number → forgotten_of now number ≤ length (seat_at first.state number).mine
 gone_before {first} {now} {number} goes spent =
     let same = ap (λ (l : List ℕ). get_or l number 0) spent.forgotten in
-    omega (arith, same, goes.gone, ap (length {A = Entry}) (log_of_seat first number goes.playing.under.can.0.0))
+    omega (arith, same, goes.gone, ap (length {A = Entry}) (seat_log_is_own_list first number goes.playing.under.can.0.0))
 
 -- so it is where a loop of its steps has none left
-pub call_ends : {first now : MachineValue} {number : ℕ} {command : Command} {reply : Reply} {due : Option Step} {told : List Entry} {last : Option Reply}
+pub call_is_over : {first now : MachineValue} {number : ℕ} {command : Command} {reply : Reply} {due : Option Step} {told : List Entry} {last : Option Reply}
     → CallGoes first now number command → SpendsRoom first now number → now.heap ≡ first.heap → due ≡ due_step now.heap number (seat_at now.state number) → ((step : Step) → due ≡ Some step → ⊥)
     → told ≡ recent_of now number → last ≡ last_reply_of told → last ≡ Some reply → CallOver first.heap first.state now.state number command reply
-call_ends {first} {now} {number} goes spent same due not_ told last is =
-    call_over now (forgotten_of now number) goes.playing (none_left now number same due not_) (gone_before goes spent) (ap last_reply_of (sym told) ∙ sym last ∙ is)
+call_is_over {first} {now} {number} goes spent same due not_ told last is =
+    call_over now (forgotten_of now number) goes.playing (no_step_is_due now number same due not_) (gone_before goes spent) (ap last_reply_of (sym told) ∙ sym last ∙ is)
 
 -- and so it tells some reply
-pub call_replies : {first now : MachineValue} {number : ℕ} {command : Command} → CallGoes first now number command → SpendsRoom first now number
+pub call_has_some_reply : {first now : MachineValue} {number : ℕ} {command : Command} → CallGoes first now number command → SpendsRoom first now number
     → due_step first.heap number (seat_at now.state number) ≡ None → last_reply_of (recent_of now number) ≡ None → ⊥
-call_replies {first} {now} {number} goes spent none last =
+call_has_some_reply {first} {now} {number} goes spent none last =
     no_reply _ (sym (recent_reply now (forgotten_of now number) goes.playing none (gone_before goes spent)) ∙ last)
   where
     no_reply : (a : Reply) → Some a ≡ None → ⊥

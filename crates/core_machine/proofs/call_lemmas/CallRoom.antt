@@ -7,13 +7,13 @@ use Rattle.std.proofs.lemmas.Bool.{ne_eqb}
 use Rattle.std.proofs.lemmas.List.{length-set}
 use Rattle.heap_model.specs.account.Space.{need_of}
 use Rattle.core_machine.proofs.moves.Standing.{MoveStands}
-use Rattle.core_machine.proofs.machine_lemmas.Parties.{seat_at-set}
-use Rattle.core_machine.proofs.machine_lemmas.Runs.{machine_after, moves_stand}
+use Rattle.core_machine.proofs.machine_lemmas.Parties.{set_seat_is_read}
+use Rattle.core_machine.proofs.machine_lemmas.Runs.{event_leaves_machine, each_move_stands}
 use Rattle.core_machine.proofs.moves.{begin_stands}
 
 -- a seat's entries are those of its party
-pub log_of_seat : (machine : MachineValue) (number : ℕ) → number < length machine.state.seats → log_of machine number ≡ (seat_at machine.state number).mine
-log_of_seat machine number within =
+pub seat_log_is_own_list : (machine : MachineValue) (number : ℕ) → number < length machine.state.seats → log_of machine number ≡ (seat_at machine.state number).mine
+seat_log_is_own_list machine number within =
     let other : eqb number (length machine.state.seats) ≡ false = ne_eqb number (length machine.state.seats) (λ e. absurd (omega arith)) in
     rw other refl
 
@@ -25,25 +25,25 @@ room_by : (heap : Heap) (now : State) (number : ℕ) (move : Option Move) (step 
 room_by heap now number None step seat within due is stands = cc
 room_by heap now number (Some m) step seat within due is stands =
     let found = found_by heap now m.step in
-    let here : seat ≡ seat_after m found = is ∙ seat_at-set now.seats number (seat_after m found) within in
+    let here : seat ≡ seat_after m found = is ∙ set_seat_is_read now.seats number (seat_after m found) within in
     let long = length-append (m.told found).mine (m.adds found) in
     let near = stands.near found in
     rw here (near.fewer, (length (m.adds found), near.paid, omega (arith, ap (length {A = Entry}) (stands.adds now).kept)))
 
-pub step_room : (old new : MachineValue) (number : ℕ) (step : Step) → IsMachine old.heap old.state → number < length old.state.seats
+pub step_leaves_room : (old new : MachineValue) (number : ℕ) (step : Step) → IsMachine old.heap old.state → number < length old.state.seats
     → due_step old.heap number (seat_at old.state number) ≡ Some step → new.state ≡ state_after old.heap old.state (Steps number) → SpendsRoom old new number
     → owes (seat_at old.state number) + 2 ≤ spare_of old number
     → (steps_left old.heap (seat_at new.state number) < steps_left old.heap (seat_at old.state number)) × (owes (seat_at new.state number) + 2 ≤ spare_of new number)
-step_room old new number step machine within due is spends room =
+step_leaves_room old new number step machine within due is spends room =
     let seat = seat_at old.state number in
     let move = next_move old.heap number seat in
     let by = room_by old.heap old.state number move step (seat_at new.state number) within due
-    (ap (λ (s : State). seat_at s number) is) (moves_stand old.heap old.state number machine within) in
+    (ap (λ (s : State). seat_at s number) is) (each_move_stands old.heap old.state number machine within) in
     let some : IsSome move = some_due move step due in
-    let after_ = machine_after old.heap old.state (Steps number) machine some in
+    let after_ = event_leaves_machine old.heap old.state (Steps number) machine some in
     let still : number < length new.state.seats = omega (arith, ap (λ (s : State). length s.seats) is, after_.seated, machine.seated) in
-    let before_log = ap (length {A = Entry}) (log_of_seat old number within) in
-    let after_log = ap (length {A = Entry}) (log_of_seat new number still) in
+    let before_log = ap (length {A = Entry}) (seat_log_is_own_list old number within) in
+    let after_log = ap (length {A = Entry}) (seat_log_is_own_list new number still) in
     (by.0, omega (arith, spends.own, by.1.1, by.1.2))
   where
     some_due : (move : Option Move) (step : Step) → option_map (λ m. m.step) move ≡ Some step → IsSome move
@@ -51,25 +51,25 @@ step_room old new number step machine within due is spends room =
     some_due (Some m) step e = refl
 
 -- room that is spent step by step
-pub spends_on : (first second third : MachineValue) (number : ℕ) → SpendsRoom first second number → SpendsRoom second third number → SpendsRoom first third number
-spends_on first second third number one two = record {
+pub spends_room_in_turn : (first second third : MachineValue) (number : ℕ) → SpendsRoom first second number → SpendsRoom second third number → SpendsRoom first third number
+spends_room_in_turn first second third number one two = record {
   forgotten = two.forgotten ∙ one.forgotten;
   own = omega (arith, one.own, two.own);
   others = λ other apart. two.others other apart ∙ one.others other apart;
 }
 
 -- a begin spends none
-pub spends_begun : (old new : MachineValue) (number : ℕ) (command : Command) → IsMachine old.heap old.state → Can old.heap old.state (Begins number command)
+pub begin_spends_room : (old new : MachineValue) (number : ℕ) (command : Command) → IsMachine old.heap old.state → Can old.heap old.state (Begins number command)
     → new ≡ record old { state = state_after old.heap old.state (Begins number command) } → SpendsRoom old new number
-spends_begun old new number command machine can is =
+begin_spends_room old new number command machine can is =
     let within = can.0 in
     let seat = seat_at old.state number in
     let begun_ = after_begin old.heap seat command in
     let now : MachineValue = record old { state = state_after old.heap old.state (Begins number command) } in
-    let here : seat_at now.state number ≡ begun_ = seat_at-set old.state.seats number begun_ within in
+    let here : seat_at now.state number ≡ begun_ = set_seat_is_read old.state.seats number begun_ within in
     let still : number < length now.state.seats = omega (arith, within, length-set old.state.seats number begun_) in
     let same : (log_of now number) ≡ (log_of old number) =
-    log_of_seat now number still ∙ ap (λ (s : Seat). s.mine) here ∙ (begin_stands old.heap number seat command machine.limits (machine.fit number within) can.1).kept ∙ sym (log_of_seat old number within) in
+    seat_log_is_own_list now number still ∙ ap (λ (s : Seat). s.mine) here ∙ (begin_stands old.heap number seat command machine.limits (machine.fit number within) can.1).kept ∙ sym (seat_log_is_own_list old number within) in
     subst (λ (m : MachineValue). SpendsRoom old m number) (sym is) (record { forgotten = refl; own = omega (arith, ap (length {A = Entry}) same); others = λ other apart. refl })
 
 -- a call owes no more than twice its need and two when it is begun
@@ -78,15 +78,15 @@ pub room_begun : (heap : Heap) (old : State) (number : ℕ) (command : Command) 
 room_begun heap old number command machine can =
     let seat = seat_at old number in
     let begun_ = after_begin heap seat command in
-    let here : seat_at (state_after heap old (Begins number command)) number ≡ begun_ = seat_at-set old.seats number begun_ can.0 in
+    let here : seat_at (state_after heap old (Begins number command)) number ≡ begun_ = set_seat_is_read old.seats number begun_ can.0 in
     subst (λ (s : Seat). owes s ≤ 2 * need_of command + 2) (sym here)
     (begin_stands heap number seat command machine.limits (machine.fit number can.0) can.1).owed
 
 -- a machine whose call has begun has room for it
-pub room_for : (old new : MachineValue) (number : ℕ) (command : Command) → IsMachine old.heap old.state → Can old.heap old.state (Begins number command)
+pub begun_call_has_room : (old new : MachineValue) (number : ℕ) (command : Command) → IsMachine old.heap old.state → Can old.heap old.state (Begins number command)
     → new ≡ record old { state = state_after old.heap old.state (Begins number command) } → 2 * need_of command + 4 ≤ spare_of old number
     → owes (seat_at new.state number) + 2 ≤ spare_of new number
-room_for old new number command machine can is room =
+begun_call_has_room old new number command machine can is room =
     let owed = room_begun old.heap old.state number command machine can in
     let begun_ : MachineValue = record old { state = state_after old.heap old.state (Begins number command) } in
     subst (λ (v : MachineValue). owes (seat_at v.state number) + 2 ≤ spare_of v number) (sym is) (enough (owes (seat_at begun_.state number)) (need_of command) (spare_of old number) owed room)

@@ -11,23 +11,23 @@ use Rattle.core_machine.proofs.Terms.{Entry, Takes, GivesBack, in_group, out_of_
 use Rattle.heap_model.specs.declared.id.Id.{Id}
 use Rattle.heap_model.specs.declared.reply.Reply.TheVariants as replies
 use Rattle.heap_model.specs.calls.SeatCalls.{takes_of, gives_of, IsGroupCount, ClaimsBefore}
-use Rattle.heap_model.proofs.account_lemmas.Snoc.{same_last}
+use Rattle.heap_model.proofs.account_lemmas.Snoc.{equal_snocs_equal_last}
 use Rattle.core_machine.specs.calls.Claims.{AreGroupsOf, HasTaken, GivesBackAll}
 use Rattle.core_machine.specs.seat.MakingMoves.{takes_some}
 use Rattle.core_machine.proofs.table_lemmas.Clear.{length-clear_among}
-use Rattle.core_machine.proofs.table_lemmas.Owned.{clear_in-group}
-use Rattle.core_machine.proofs.call_lemmas.Restoring.{part_all, part_none, part_in-out}
+use Rattle.core_machine.proofs.table_lemmas.Owned.{clear_is_of_group}
+use Rattle.core_machine.proofs.call_lemmas.Restoring.{part_of_own_group_is_all, part_of_other_group_is_empty, part_in_stays_without_other}
 
 all_groups : (counts hand : List ℕ) → AreGroupsOf counts hand → All IsGroupCount counts
 all_groups [] hand is = All-nil IsGroupCount
 all_groups (count ∷ counts) hand is = All-cons IsGroupCount count counts is.0 (all_groups counts (part_out (first_group_of hand) hand) is.2)
 
-pub sum_groups : (counts hand : List ℕ) → AreGroupsOf counts hand → sum counts ≡ length hand
-sum_groups [] hand is = sym (ap length is)
-sum_groups (count ∷ counts) hand is =
+pub group_counts_are_length : (counts hand : List ℕ) → AreGroupsOf counts hand → sum counts ≡ length hand
+group_counts_are_length [] hand is = sym (ap length is)
+group_counts_are_length (count ∷ counts) hand is =
     let group = first_group_of hand in
     let both = length-filter_both (in_group group) (out_of_group group) (λ f. refl) hand in
-    omega (arith, sum_by-cons (λ n. n) count counts, sum_groups counts (part_out group hand) is.2, is.1)
+    omega (arith, sum_by-cons (λ n. n) count counts, group_counts_are_length counts (part_out group hand) is.2, is.1)
 
 -- all fragments of a group are outside of another, and none is outside of it
 out_all : (g k : ℕ) (fragments : List ℕ) → g ≢ k → All (λ f. f / 16 ≡ g) fragments → part_out k fragments ≡ fragments
@@ -38,7 +38,7 @@ out_all g k (f ∷ more) other each =
 out_none : (g : ℕ) (fragments : List ℕ) → All (λ f. f / 16 ≡ g) fragments → part_out g fragments ≡ []
 out_none g fragments each =
     let both = length-filter_both (in_group g) (out_of_group g) (λ f. refl) fragments in
-    nil_from_length (part_out g fragments) (omega (arith, ap (length {A = ℕ}) (part_all g fragments each)))
+    nil_from_length (part_out g fragments) (omega (arith, ap (length {A = ℕ}) (part_of_own_group_is_all g fragments each)))
 
 -- the first fragment isn't of a group that a list has nothing of
 first_of_none : (g f : ℕ) (more : List ℕ) → part_in g (f ∷ more) ≡ [] → f / 16 ≢ g
@@ -52,19 +52,19 @@ groups_more : (counts hand got : List ℕ) (g : ℕ) → AreGroupsOf counts hand
     → AreGroupsOf (counts ++ length got ∷ []) (hand ++ got)
 groups_more [] hand got g is apart of_group some =
     let first : first_group_of got ≡ g = of_group 0 0 some.0 in
-    rw (is, first, part_all g got of_group, out_none g got of_group) (some, refl, refl)
+    rw (is, first, part_of_own_group_is_all g got of_group, out_none g got of_group) (some, refl, refl)
 groups_more (count ∷ counts) [] got g is apart of_group some = absurd (omega (arith, is.0.0, is.1))
 groups_more (count ∷ counts) (f ∷ more) got g is apart of_group some =
     let hand = f ∷ more in
     let group = f / 16 in
     let other : g ≢ group = λ e. first_of_none g f more apart (sym e) in
-    let ins : part_in group (hand ++ got) ≡ part_in group hand = filter-append (in_group group) hand got ∙ ap (λ (l : List ℕ). part_in group hand ++ l) (part_none g group got other of_group) ∙ append-nil (part_in group hand) in
+    let ins : part_in group (hand ++ got) ≡ part_in group hand = filter-append (in_group group) hand got ∙ ap (λ (l : List ℕ). part_in group hand ++ l) (part_of_other_group_is_empty g group got other of_group) ∙ append-nil (part_in group hand) in
     let outs : part_out group (hand ++ got) ≡ part_out group hand ++ got = filter-append (out_of_group group) hand got ∙ ap (λ (l : List ℕ). part_out group hand ++ l) (out_all g group got other of_group) in
-    (is.0, ap (length {A = ℕ}) ins ∙ is.1, rw outs (groups_more counts (part_out group hand) got g is.2 (part_in-out group g hand other ∙ apart) of_group some))
+    (is.0, ap (length {A = ℕ}) ins ∙ is.1, rw outs (groups_more counts (part_out group hand) got g is.2 (part_in_stays_without_other group g hand other ∙ apart) of_group some))
 
 -- nothing was claimed yet
-pub taken_none : (number unborn need : ℕ) → unborn ≤ 15 → HasTaken number unborn need [] []
-taken_none number unborn need small = record {
+pub has_taken_none : (number unborn need : ℕ) → unborn ≤ 15 → HasTaken number unborn need [] []
+has_taken_none number unborn need small = record {
   counts = [];
   groups = refl;
   shown = refl;
@@ -77,13 +77,13 @@ taken_none number unborn need small = record {
     no_last (count ∷ more) last e = cc
 
 same_front : (xs ys : List ℕ) (x y : ℕ) → xs ++ x ∷ [] ≡ ys ++ y ∷ [] → xs ≡ ys
-same_front xs ys x y e = append_cancel_right xs ys (x ∷ []) (e ∙ ap (λ (n : ℕ). ys ++ n ∷ []) (sym (same_last xs ys x y e)))
+same_front xs ys x y e = append_cancel_right xs ys (x ∷ []) (e ∙ ap (λ (n : ℕ). ys ++ n ∷ []) (sym (equal_snocs_equal_last xs ys x y e)))
 
 -- a group's fragments were claimed, of which the hand had none unless there were none
-pub taken_more : (number unborn need : ℕ) (hand : List ℕ) (told : List Entry) (group word : ℕ) → HasTaken number unborn need hand told → unborn + length hand < need
+pub has_taken_one_group_more : (number unborn need : ℕ) (hand : List ℕ) (told : List Entry) (group word : ℕ) → HasTaken number unborn need hand told → unborn + length hand < need
     → (part_in group hand ≡ []) ⊎ (clear_in group word ≡ [])
     → HasTaken number unborn need (hand ++ clear_in group word) (told ++ takes_some number (length (clear_in group word)))
-taken_more number unborn need hand told group word taken few apart =
+has_taken_one_group_more number unborn need hand told group word taken few apart =
     let got = clear_in group word in
     elim (eqb_tells (length got) 0) as (λ _. HasTaken number unborn need (hand ++ got) (told ++ takes_some number (length got))) [
       | inl none ↦ rw (nil_from_length got none.1) (simp append-nil taken)
@@ -93,18 +93,18 @@ taken_more number unborn need hand told group word taken few apart =
           let counts = taken.counts in
           rw some.0 (record {
             counts = counts ++ length got ∷ [];
-            groups = groups_more counts hand got group taken.groups nothing (clear_in-group group word) (omega (arith, some.1), few_got);
+            groups = groups_more counts hand got group taken.groups nothing (clear_is_of_group group word) (omega (arith, some.1), few_got);
             shown = ap (λ (l : List Entry). l ++ Takes number (length got) ∷ []) taken.shown ∙ sym (map-append (Takes number) counts (length got ∷ []));
-            needed = λ earlier last e. subst (λ (l : List ℕ). unborn + sum l < need) (same_front counts earlier (length got) last e) (omega (arith, sum_groups counts hand taken.groups));
+            needed = λ earlier last e. subst (λ (l : List ℕ). unborn + sum l < need) (same_front counts earlier (length got) last e) (omega (arith, group_counts_are_length counts hand taken.groups));
             little_left = omega (arith, length-append hand got);
           })
     ]
 
 -- enough was claimed
-pub taken_enough : (number unborn need : ℕ) (hand : List ℕ) (told : List Entry) (id : Id) → HasTaken number unborn need hand told → need ≤ unborn + length hand
+pub claims_before_made : (number unborn need : ℕ) (hand : List ℕ) (told : List Entry) (id : Id) → HasTaken number unborn need hand told → need ≤ unborn + length hand
     → ClaimsBefore number unborn need (replies.Made id) told
-taken_enough number unborn need hand told id taken enough =
-    let all = sum_groups taken.counts hand taken.groups in (
+claims_before_made number unborn need hand told id taken enough =
+    let all = group_counts_are_length taken.counts hand taken.groups in (
       taken.counts,
       record {
         of_groups = all_groups taken.counts hand taken.groups;
@@ -116,21 +116,21 @@ taken_enough number unborn need hand told id taken enough =
     )
 
 -- nothing was given back yet
-pub gives_none : (number unborn need : ℕ) (hand : List ℕ) (told : List Entry) → HasTaken number unborn need hand told → GivesBackAll number 0 hand told
-gives_none number unborn need hand told taken = record {
+pub gives_back_none : (number unborn need : ℕ) (hand : List ℕ) (told : List Entry) → HasTaken number unborn need hand told → GivesBackAll number 0 hand told
+gives_back_none number unborn need hand told taken = record {
   counts = taken.counts;
   of_groups = all_groups taken.counts hand taken.groups;
-  all = omega (arith, sum_groups taken.counts hand taken.groups);
+  all = omega (arith, group_counts_are_length taken.counts hand taken.groups);
   left = taken.counts;
   groups = taken.groups;
   shown = ap (λ (l : List Entry). l ++ gives_of number taken.counts) taken.shown;
 }
 
 -- the first group's fragments were given back
-pub gives_more : (number given : ℕ) (hand : List ℕ) (told : List Entry) → GivesBackAll number given hand told → 0 < length hand
+pub gives_back_one_group_more : (number given : ℕ) (hand : List ℕ) (told : List Entry) → GivesBackAll number given hand told → 0 < length hand
     → let part = part_in (first_group_of hand) hand in
     GivesBackAll number (given + length part) (part_out (first_group_of hand) hand) (told ++ GivesBack number (length part) ∷ [])
-gives_more number given hand told gives some = by gives.left gives.groups gives.shown
+gives_back_one_group_more number given hand told gives some = by gives.left gives.groups gives.shown
   where
     by : (left : List ℕ) → AreGroupsOf left hand → told ++ gives_of number left ≡ takes_of number gives.counts ++ gives_of number gives.counts
         → let part = part_in (first_group_of hand) hand in
@@ -149,9 +149,9 @@ gives_more number given hand told gives some = by gives.left gives.groups gives.
         }
 
 -- everything was given back
-pub gives_over : (number unborn need given : ℕ) (told : List Entry) → GivesBackAll number given [] told → unborn + given < need
+pub claims_before_refusal : (number unborn need given : ℕ) (told : List Entry) → GivesBackAll number given [] told → unborn + given < need
     → ClaimsBefore number unborn need (replies.Full need (unborn + given)) told
-gives_over number unborn need given told gives few =
+claims_before_refusal number unborn need given told gives few =
     (gives.counts, refl, record { of_groups = gives.of_groups; all_found = omega (arith, gives.all); too_few = few }, whole gives.left gives.groups gives.shown)
   where
     whole : (left : List ℕ) → AreGroupsOf left [] → told ++ gives_of number left ≡ takes_of number gives.counts ++ gives_of number gives.counts

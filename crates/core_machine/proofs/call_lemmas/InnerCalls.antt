@@ -18,9 +18,9 @@ use Rattle.core_machine.specs.machine.InnerCalls.{inner_entries, seat_after_inne
 use Rattle.core_machine.specs.seat.Collecting.{inner_place}
 use Rattle.core_machine.specs.seat.Handshake.{roots, answer_next, after_phase_load}
 use Rattle.core_machine.specs.seat.Looks.{compared, forgotten, looked, seen_phase}
-use Rattle.core_machine.proofs.seat_lemmas.PollingOver.{over_cases}
-use Rattle.core_machine.proofs.table_lemmas.Addresses.{put-at}
-use Rattle.core_machine.proofs.table_lemmas.Bits.{bool_tells}
+use Rattle.core_machine.proofs.seat_lemmas.PollingOver.{polling_over_cases}
+use Rattle.core_machine.proofs.table_lemmas.Addresses.{put_of_read_changes_nothing}
+use Rattle.core_machine.proofs.table_lemmas.Bits.{true_or_false}
 
 -- what is told of a word that an inner call finds: the phase and another seat's word are those of the begin
 abbrev pub IsOfStart : Heap → List ℕ → Step → ℕ → Type 0
@@ -44,39 +44,39 @@ module _ (heap : Heap) (start : List ℕ) (number : ℕ) where
   -- an answer goes on
   answer_alone : (words : List ℕ) (seat : Seat) → InnerAlone start words (answer_next seat).place
   answer_alone words seat =
-      elim (bool_tells (nat_lt seat.shaded (length (roots seat)))) as (λ _. InnerAlone start words (answer_next seat).place) [ inl more ↦ rw more tt | inr all ↦ rw all tt ]
+      elim (true_or_false (nat_lt seat.shaded (length (roots seat)))) as (λ _. InnerAlone start words (answer_next seat).place) [ inl more ↦ rw more tt | inr all ↦ rw all tt ]
 
   polled_alone : (words : List ℕ) (seat : Seat) (found : ℕ) → InnerAlone start words (after_phase_load seat found).place
   polled_alone words seat found =
       elim (eqb_tells found seat.answered) as (λ _. InnerAlone start words (after_phase_load seat found).place) [
-        | inl known ↦ rw known.0 (over_cases (λ s more. InnerAlone start words s.place) number seat.command seat found (λ ends. tt) (λ tells. tt))
+        | inl known ↦ rw known.0 (polling_over_cases (λ s more. InnerAlone start words s.place) number seat.command seat found (λ ends. tt) (λ tells. tt))
         | inr new ↦ rw new.0 (answer_alone words (record seat { asked = found }))
       ]
 
   -- each move leads on
-  pub inner_alone : (words : List ℕ) (inner : Inner) (before : Kept) (seat : Seat) (told : List Entry) (place : Place) → InnerStageAt (IsOfStart heap start) number inner before seat told place → InnerAlone start words place
+  pub inner_move_leads : (words : List ℕ) (inner : Inner) (before : Kept) (seat : Seat) (told : List Entry) (place : Place) → InnerStageAt (IsOfStart heap start) number inner before seat told place → InnerAlone start words place
       → IfSome (move_at heap number seat place) (InnerLeads words seat)
-  inner_alone words inner before seat told places.Idle own stay = tt
-  inner_alone words inner before seat told (places.Collecting Looking) own stay = (ap (λ (w : List ℕ). at heap w addresses.Phase) stay, tt)
-  inner_alone words inner before seat told (places.Collecting (Asking other)) own stay = (ap (λ (w : List ℕ). at heap w addresses.Phase) stay, put-at heap words addresses.Phase ∙ stay)
-  inner_alone words inner before seat told (places.Collecting (Comparing other phase)) own stay = (ap (λ (w : List ℕ). at heap w (addresses.Answer other)) stay, tt)
-  inner_alone words inner before seat told (places.Collecting (Noting reply)) own stay = (ap (λ (w : List ℕ). at heap w addresses.Phase) stay, tt)
-  inner_alone words inner before seat told (places.Polling polling.Asking) own stay =
+  inner_move_leads words inner before seat told places.Idle own stay = tt
+  inner_move_leads words inner before seat told (places.Collecting Looking) own stay = (ap (λ (w : List ℕ). at heap w addresses.Phase) stay, tt)
+  inner_move_leads words inner before seat told (places.Collecting (Asking other)) own stay = (ap (λ (w : List ℕ). at heap w addresses.Phase) stay, put_of_read_changes_nothing heap words addresses.Phase ∙ stay)
+  inner_move_leads words inner before seat told (places.Collecting (Comparing other phase)) own stay = (ap (λ (w : List ℕ). at heap w (addresses.Answer other)) stay, tt)
+  inner_move_leads words inner before seat told (places.Collecting (Noting reply)) own stay = (ap (λ (w : List ℕ). at heap w addresses.Phase) stay, tt)
+  inner_move_leads words inner before seat told (places.Polling polling.Asking) own stay =
       let found = at heap words addresses.Phase in
       (ap (λ (w : List ℕ). at heap w addresses.Phase) stay, polled_alone (put heap words addresses.Phase found) (with_seen found seat) found)
-  inner_alone words inner before seat told (places.Polling polling.Shading) own stay = (tt, answer_alone _ (record seat { shaded = seat.shaded + 1 }))
-  inner_alone words inner before seat told (places.Polling polling.Answering) own stay =
-      (tt, over_cases (λ s more. InnerAlone start (put heap words (addresses.Answer number) seat.asked) s.place) number seat.command (record seat { answered = seat.asked }) seat.asked (λ ends. tt) (λ tells. tt))
-  inner_alone words inner before seat told (places.Making place) own stay = absurd own
-  inner_alone words inner before seat told places.Local own stay = absurd own
-  inner_alone words inner before seat told (places.Access place) own stay = absurd own
-  inner_alone words inner before seat told (places.Leaving place) own stay = absurd own
+  inner_move_leads words inner before seat told (places.Polling polling.Shading) own stay = (tt, answer_alone _ (record seat { shaded = seat.shaded + 1 }))
+  inner_move_leads words inner before seat told (places.Polling polling.Answering) own stay =
+      (tt, polling_over_cases (λ s more. InnerAlone start (put heap words (addresses.Answer number) seat.asked) s.place) number seat.command (record seat { answered = seat.asked }) seat.asked (λ ends. tt) (λ tells. tt))
+  inner_move_leads words inner before seat told (places.Making place) own stay = absurd own
+  inner_move_leads words inner before seat told places.Local own stay = absurd own
+  inner_move_leads words inner before seat told (places.Access place) own stay = absurd own
+  inner_move_leads words inner before seat told (places.Leaving place) own stay = absurd own
 
-  pub first_alone : (inner : Inner) → InnerAlone start start (inner_place inner)
-  first_alone inners.Look = refl
-  first_alone inners.Answer = refl
-  first_alone (inners.Behind other) = refl
-  first_alone (inners.Note reply) = refl
+  pub inner_alone_at_first : (inner : Inner) → InnerAlone start start (inner_place inner)
+  inner_alone_at_first inners.Look = refl
+  inner_alone_at_first inners.Answer = refl
+  inner_alone_at_first (inners.Behind other) = refl
+  inner_alone_at_first (inners.Note reply) = refl
 
 -- the seat with this that it keeps, this last command and these entries
 abbrev with_kept : Seat → Kept → Command → List Entry → Seat
@@ -116,16 +116,16 @@ module _ (heap : Heap) (start : List ℕ) (number : ℕ) (old seat : Seat) (told
   answer_told p found (inr new) = rw (ne_eqb phase old.answered (λ e. new.0 (found ∙ e))) (new.1 ∙ ap (λ (q : ℕ). Answers number q ∷ []) found)
 
   -- a call that is over by its own view has left the seat as it is to be by the words of the begin
-  pub inner_comes : (inner : Inner) → IsInnerOver (IsOfStart heap start) number (kept_of old) (kept_of seat) told inner
+  pub inner_leaves_seat_as_due : (inner : Inner) → IsInnerOver (IsOfStart heap start) number (kept_of old) (kept_of seat) told inner
       → (seat ≡ seat_after_inner heap start number old inner) × (told ≡ inner_entries heap start number old.answered inner)
-  inner_comes inners.Look is = ends_so (record (kept_of old) { looks = looked phase old.looks }) [] (is.kept_is ∙ ap (λ (p : ℕ). record (kept_of old) { looks = looked p old.looks }) is.found) is.none_told
-  inner_comes inners.Answer is =
+  inner_leaves_seat_as_due inners.Look is = ends_so (record (kept_of old) { looks = looked phase old.looks }) [] (is.kept_is ∙ ap (λ (p : ℕ). record (kept_of old) { looks = looked p old.looks }) is.found) is.none_told
+  inner_leaves_seat_as_due inners.Answer is =
       ends_so (record (kept_of old) { answered = phase; looks = seen_phase phase old.looks }) (inner_entries heap start number old.answered inners.Answer)
       (is.kept_is ∙ ap (λ (p : ℕ). record (kept_of old) { answered = p; looks = seen_phase p old.looks }) is.found) (answer_told is.phase is.found is.told_is)
-  inner_comes (inners.Behind other) is =
+  inner_leaves_seat_as_due (inners.Behind other) is =
       ends_so (record (kept_of old) { looks = compared other phase (at heap start (addresses.Answer other)) (seen_phase phase old.looks) }) []
       (is.kept_is ∙ ap (λ (p : ℕ). record (kept_of old) { looks = compared other p is.word (seen_phase p old.looks) }) is.found
       ∙ ap (λ (w : ℕ). record (kept_of old) { looks = compared other phase w (seen_phase phase old.looks) }) is.found_then) is.none_told
-  inner_comes (inners.Note reply) is =
+  inner_leaves_seat_as_due (inners.Note reply) is =
       ends_so (record (kept_of old) { looks = forgotten (seen_phase phase old.looks) }) (inner_entries heap start number old.answered (inners.Note reply))
       (is.kept_is ∙ ap (λ (p : ℕ). record (kept_of old) { looks = forgotten (seen_phase p old.looks) }) is.found) is.told_is

@@ -12,17 +12,17 @@ use Rattle.heap_model.specs.account.Space.{need_of}
 use Rattle.core_machine.specs.declared.place.Place.TheVariants as places
 use Rattle.core_machine.specs.Moves.{claim_move, give_back_move, refusal_move, store_move, takes_some}
 use Rattle.core_machine.proofs.table_lemmas.Addresses.{at-put_other, at-put_same}
-use Rattle.core_machine.proofs.table_lemmas.Bits.{bool_tells}
-use Rattle.core_machine.proofs.table_lemmas.Free.{free-claimed, clear_in-claimed}
+use Rattle.core_machine.proofs.table_lemmas.Bits.{true_or_false}
+use Rattle.core_machine.proofs.table_lemmas.Free.{free_count_after_claim, claimed_group_has_none_clear}
 use Rattle.core_machine.proofs.seat_lemmas.Fitting.{returning_cases, listing_cases}
-use Rattle.core_machine.proofs.table_lemmas.Owned.{group_within}
-use Rattle.core_machine.proofs.table_lemmas.Filters.{out_shorter}
-use Rattle.core_machine.proofs.call_lemmas.Asking.{AsksWords, asks_small, refusal_restores}
-use Rattle.core_machine.proofs.call_lemmas.Restoring.{Claims, claims_more, claims_less, claims_over}
-use Rattle.core_machine.proofs.machine_lemmas.Parties.{seat_at-set}
+use Rattle.core_machine.proofs.table_lemmas.Owned.{fragments_group_within_heap}
+use Rattle.core_machine.proofs.table_lemmas.Filters.{part_out_is_shorter}
+use Rattle.core_machine.proofs.call_lemmas.Asking.{AsksWords, asked_words_are_small, same_table_after_refusal}
+use Rattle.core_machine.proofs.call_lemmas.Restoring.{Claims, claims_one_group_more, claims_one_group_less, same_table_without_claims}
+use Rattle.core_machine.proofs.machine_lemmas.Parties.{set_seat_is_read}
 use Rattle.core_machine.proofs.call_lemmas.Stages.{WhileGathering, WhileGivingBack, WhileMaking, AloneStage, AloneAfter, PlaceLeadsAlone}
-use Rattle.core_machine.proofs.call_lemmas.GoingOn.{own_kept, alone_goes_on}
-use Rattle.core_machine.proofs.call_lemmas.Granting.{alone_granted, alone_withdrawn}
+use Rattle.core_machine.proofs.call_lemmas.GoingOn.{keeps_own_data, alone_stands_going_on}
+use Rattle.core_machine.proofs.call_lemmas.Granting.{grant_leads_alone, withdrawal_leads_alone}
 
 -- the group that was claimed is passed too
 passed_more : (heap : Heap) (words : List ℕ) (cursor tried i : ℕ) → length words ≡ table_length heap → (cursor + tried) % heap.groups < heap.groups → i < tried + 1
@@ -34,7 +34,7 @@ passed_more heap words cursor tried i table within below passed =
     let after_ = put heap words (Control group) (bit_or n all_taken) in
     let k = (cursor + i) % heap.groups in
     elim (eqb_tells k group) as (λ _. clear_in k (at heap after_ (Control k)) ≡ []) [
-      | inl here ↦ subst (λ (g : ℕ). clear_in g (at heap after_ (Control g)) ≡ []) (sym here.1) (rw (at-put_same heap words (Control group) (bit_or n all_taken) table within) (clear_in-claimed group n))
+      | inl here ↦ subst (λ (g : ℕ). clear_in g (at heap after_ (Control g)) ≡ []) (sym here.1) (rw (at-put_same heap words (Control group) (bit_or n all_taken) table within) (claimed_group_has_none_clear group n))
       | inr there ↦
           let earlier : i < tried = elim (eqb_tells i tried) as (λ _. i < tried) [ inl same ↦ absurd (there.1 (ap (λ (m : ℕ). (cursor + m) % heap.groups) same.1)) | inr other ↦ omega (arith, other.1) ] in
           rw (at-put_other heap words (Control group) (Control k) (bit_or n all_taken) within (omega arith) (λ e. there.1 (cc e))) (passed i earlier)
@@ -62,8 +62,8 @@ module _ (heap : Heap) (old : State) (number : ℕ) (command : Command) (now : S
       let n = at heap now.words (Control group) in
       let there : group < heap.groups = omega (arith, fits.own.cursor_within) in
       let got = clear_in group n in
-      let freed = free-claimed heap now.words group machine.table there in
-      alone_goes_on heap old number command (state_after_move heap now number (claim_move heap number seat)) _ (takes_some number (length got))
+      let freed = free_count_after_claim heap now.words group machine.table there in
+      alone_stands_going_on heap old number command (state_after_move heap now number (claim_move heap number seat)) _ (takes_some number (length got))
       (record seat { hand = seat.hand ++ got; tried = seat.tried + 1 }) same is.none_given fits.own.cursor_within (ap (λ (k : Kept). k.reserve) kept) (record {
         free = omega (arith, freed, while.free, length-append seat.hand got);
         passed = λ i below. passed_more heap now.words seat.cursor seat.tried i machine.table there below while.passed;
@@ -71,7 +71,7 @@ module _ (heap : Heap) (old : State) (number : ℕ) (command : Command) (now : S
           base = while.claims.base;
           asked = while.claims.asked;
           granted = while.claims.granted;
-          claims = claims_more heap while.claims.base now.words seat.hand group machine.table there (asks_small heap (spine_need_of command) old.words while.claims.base while.claims.asked small) while.claims.claims;
+          claims = claims_one_group_more heap while.claims.base now.words seat.hand group machine.table there (asked_words_are_small heap (spine_need_of command) old.words while.claims.base while.claims.asked small) while.claims.claims;
         };
       })
 
@@ -80,10 +80,10 @@ module _ (heap : Heap) (old : State) (number : ℕ) (command : Command) (now : S
       let seat = the_seat in
       let fits = machine.fit number within in
       let group = first_group_of seat.hand in
-      let there : group < heap.groups = group_within heap seat.hand 0 some fits.hand.hand_within in
+      let there : group < heap.groups = fragments_group_within_heap heap seat.hand 0 some fits.hand.hand_within in
       let both = length-filter_both (in_group group) (out_of_group group) (λ f. refl) seat.hand in
-      let fewer = out_shorter group seat.hand 0 some refl in
-      let less = claims_less heap while.claims.base now.words seat.hand group machine.table there (omega arith) while.claims.claims in
+      let fewer = part_out_is_shorter group seat.hand 0 some refl in
+      let less = claims_one_group_less heap while.claims.base now.words seat.hand group machine.table there (omega arith) while.claims.claims in
       let entry = GivesBack number (length (part_in group seat.hand)) in
       let after_ = state_after_move heap now number (give_back_move number seat) in
       let next : WhileGivingBack heap old after_.words command (part_out group seat.hand) (seat.given + length (part_in group seat.hand)) = record {
@@ -98,17 +98,17 @@ module _ (heap : Heap) (old : State) (number : ℕ) (command : Command) (now : S
   alone_refused is empty same kept while =
       let seat = the_seat in
       let after_ = state_after_move heap now number (refusal_move number seat) in
-      let here : seat_at after_ number ≡ seat_after (refusal_move number seat) (found_by heap now (refusal_move number seat).step) = seat_at-set now.seats number _ within in
+      let here : seat_at after_ number ≡ seat_after (refusal_move number seat) (found_by heap now (refusal_move number seat).step) = set_seat_is_read now.seats number _ within in
       let reserve = ap (λ (k : Kept). length k.reserve) kept in
       let given : seat.given ≡ free_count heap old.words = omega (arith, while.all, ap (length {A = ℕ}) empty) in
       let found : length seat.reserve + seat.given ≡ within_reach heap old number = omega (arith, given, reserve) in
       let few : within_reach heap old number < need_of command = omega (arith, is.too_few, ap need_of same, found) in
       let refused : IsRefused heap old after_ number command (replies.Full (need seat) (length seat.reserve + seat.given)) = record {
         shows = rw (found, same) refl;
-        own_stays = subst (KeepsOwn (seat_at old number)) (sym here) (own_kept (seat_at old number) seat _ kept refl refl refl refl);
-        table_stays = refusal_restores heap seat.command old.words while.claims.base now.words is.makes.an_object is.makes.in_range machine.table small
+        own_stays = subst (KeepsOwn (seat_at old number)) (sym here) (keeps_own_data (seat_at old number) seat _ kept refl refl refl refl);
+        table_stays = same_table_after_refusal heap seat.command old.words while.claims.base now.words is.makes.an_object is.makes.in_range machine.table small
             (subst (λ (n : ℕ). AsksWords heap n old.words while.claims.base) (sym (ap spine_need_of same)) while.claims.asked)
-            (claims_over heap while.claims.base now.words (subst (Claims heap while.claims.base now.words) empty while.claims.claims));
+            (same_table_without_claims heap while.claims.base now.words (subst (Claims heap while.claims.base now.words) empty while.claims.claims));
       } in
       record {
         reply = replies.Full (need seat) (length seat.reserve + seat.given);
@@ -143,7 +143,7 @@ module _ (heap : Heap) (old : State) (number : ℕ) (command : Command) (now : S
   alone_bearing : the_seat.place ≡ places.Making Bearing → the_seat.command ≡ command → the_seat.made ≡ (seat_at old number).made → WhileMaking heap old number command → Leads (bearing_move number the_seat)
   alone_bearing place same made while =
       let seat = the_seat in
-      elim (bool_tells (is_last_birth seat)) as (λ _. Leads (bearing_move number seat)) [
+      elim (true_or_false (is_last_birth seat)) as (λ _. Leads (bearing_move number seat)) [
         | inl last ↦ rw last (record {
           reply = replies.Made (next_object_id number seat);
           before = told;
@@ -162,10 +162,10 @@ module _ (heap : Heap) (old : State) (number : ℕ) (command : Command) (now : S
 
 -- the spine words were asked for, and taken back where they were too many
 pub grants_alone : PlaceLeadsAlone (places.Making Granting)
-grants_alone heap old number command now told here = alone_granted heap old number command now told here.machine here.within here.small here.fits here.same here.own.kept_stays here.alone
+grants_alone heap old number command now told here = grant_leads_alone heap old number command now told here.machine here.within here.small here.fits here.same here.own.kept_stays here.alone
 
 pub withdraws_alone : PlaceLeadsAlone (places.Making Withdrawing)
-withdraws_alone heap old number command now told here = alone_withdrawn heap old number command now told here.machine here.within here.small here.fits here.same here.own.0.kept_stays here.alone
+withdraws_alone heap old number command now told here = withdrawal_leads_alone heap old number command now told here.machine here.within here.small here.fits here.same here.own.0.kept_stays here.alone
 
 -- a group was claimed
 pub claims_alone : PlaceLeadsAlone (places.Making Gathering)

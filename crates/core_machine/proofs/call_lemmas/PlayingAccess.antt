@@ -11,11 +11,11 @@ use Rattle.heap_model.specs.declared.reply.Reply.TheVariants as replies
 use Rattle.core_machine.specs.declared.place.Place.TheVariants as places
 use Rattle.core_machine.specs.seat.AccessMoves.{reply_entries_if, got_adds, got_shows}
 use Rattle.core_machine.specs.seat.Looks.{forgotten}
-use Rattle.core_machine.proofs.table_lemmas.Addresses.{put-at}
-use Rattle.core_machine.proofs.seat_lemmas.FieldPlaces.{field_cases}
-use Rattle.core_machine.proofs.seat_lemmas.Fitting.{array_makes, record_makes}
+use Rattle.core_machine.proofs.table_lemmas.Addresses.{put_of_read_changes_nothing}
+use Rattle.core_machine.proofs.seat_lemmas.FieldPlaces.{field_place_cases}
+use Rattle.core_machine.proofs.seat_lemmas.Fitting.{array_makes_object, record_makes_object}
 use Rattle.core_machine.proofs.call_lemmas.Stages.{AccessAlone, AloneStage}
-use Rattle.core_machine.proofs.call_lemmas.RepliesAlone.{RepliesAlone, object_alone, get_alone, set_alone, alone_makes_none, IsBeyond, meta_beyond}
+use Rattle.core_machine.proofs.call_lemmas.RepliesAlone.{RepliesAlone, object_replies_alone, get_replies_alone, set_replies_alone, alone_makes_no_object, IsBeyond, meta_reply_is_beyond}
 use Rattle.core_machine.proofs.call_lemmas.Stages.{IsAlone, PlaceLeadsAlone}
 use Rattle.core_machine.proofs.call_lemmas.PlayingEnds.{LeavesAllOf, beyond_forgets, ended_alone, leaves_all}
 
@@ -25,7 +25,7 @@ module _ (heap : Heap) (old : State) (number : ℕ) (command : Command) (now : S
 
   -- the way goes on
   field_alone : (words : List ℕ) (told : List Entry) (seat : Seat) (c : Command) → AccessAlone old words number command told (field_place_of seat c)
-  field_alone words told seat c = field_cases (AccessAlone old words number command told) seat c tt (λ on. tt) (λ off. tt)
+  field_alone words told seat c = field_place_cases (AccessAlone old words number command told) seat c tt (λ on. tt) (λ off. tt)
 
   way_alone : (words : List ℕ) (told : List Entry) (seat : Seat) → AccessAlone old words number command told (way_place_of seat)
   way_alone words told seat =
@@ -52,7 +52,7 @@ module _ (heap : Heap) (old : State) (number : ℕ) (command : Command) (now : S
   met_alone : (reply : Option Reply) (found : ℕ) → the_seat.command ≡ command → NamesObject the_seat.command → (new : State) → LeavesAllOf heap old new number reply
       → AloneStage heap old new number command (told_ ++ reply_entries_if number the_seat reply) (with_entries (after_meta the_seat found reply) (reply_entries_if number the_seat reply)) (with_entries (after_meta the_seat found reply) (reply_entries_if number the_seat reply)).place
   met_alone None found same names new refused = length_alone new (told_ ++ []) found (array_length_of found)
-  met_alone (Some reply) found same names new refused = ended_alone heap old number command told_ new the_seat reply same (object_alone the_seat.command names) refused
+  met_alone (Some reply) found same names new refused = ended_alone heap old number command told_ new the_seat reply same (object_replies_alone the_seat.command names) refused
 
   -- the meta was loaded
   closes : IsAlone heap old number command now told_ (places.Access LoadingMeta) → (move : Move) (reply : Option Reply) (found : ℕ) → IsBeyond reply
@@ -78,7 +78,7 @@ opens_alone heap old number command now told here =
     let move = access_move heap number seat LoadingMeta in
     let found = found_by heap now move.step in
     met_alone heap old number command now told (meta_reply_of seat.command found) found here.same here.way.names (state_after_move heap now number move)
-    (closes heap old number command now told here move (meta_reply_of seat.command found) found (meta_beyond seat.command found) (put-at heap now.words (Word seat.reached 0)) refl)
+    (closes heap old number command now told here move (meta_reply_of seat.command found) found (meta_reply_is_beyond seat.command found) (put_of_read_changes_nothing heap now.words (Word seat.reached 0)) refl)
 
 -- a link was loaded
 pub walks_alone : PlaceLeadsAlone (places.Access Walking)
@@ -112,7 +112,7 @@ gets_alone heap old number command now told here = by (head_of found)
         (told ++ got_shows heap number seat now.words found head)
         (with_entries (after_get seat found head) (got_adds number seat found head))
         (with_entries (after_get seat found head) (got_adds number seat found head)).place
-    by None = ended_alone heap old number command told (state_after_move heap now number move) seat _ here.same (get_alone seat.command here.way.0.1) (λ refusal. absurd refusal)
+    by None = ended_alone heap old number command told (state_after_move heap now number move) seat _ here.same (get_replies_alone seat.command here.way.0.1) (λ refusal. absurd refusal)
     by (Some head) = record { value = values.Object (id_of (at heap now.words (Word head 1))); stamp = stamp_of found; before = told; last = rw here.same refl }
 
 pub names_alone : PlaceLeadsAlone (places.Access Naming)
@@ -120,8 +120,8 @@ names_alone heap old number command now told here = record {
   reply = replies.Got here.alone.value here.alone.stamp;
   before = here.alone.before;
   last = append-nil told ∙ here.alone.last;
-  answer = λ a_record. absurd (alone_makes_none command (subst RepliesAlone here.same (get_alone (seat_at now number).command here.way.0.1)) (record_makes command a_record));
-  array = λ an_array. absurd (alone_makes_none command (subst RepliesAlone here.same (get_alone (seat_at now number).command here.way.0.1)) (array_makes command an_array));
+  answer = λ a_record. absurd (alone_makes_no_object command (subst RepliesAlone here.same (get_replies_alone (seat_at now number).command here.way.0.1)) (record_makes_object command a_record));
+  array = λ an_array. absurd (alone_makes_no_object command (subst RepliesAlone here.same (get_replies_alone (seat_at now number).command here.way.0.1)) (array_makes_object command an_array));
   refused = λ refusal. absurd refusal;
   phase = λ polls p e. cc;
 }
@@ -158,4 +158,4 @@ pub swaps_alone : PlaceLeadsAlone (places.Access Swapping)
 swaps_alone heap old number command now told here =
     let seat = seat_at now number in
     let move = access_move heap number seat Swapping in
-    ended_alone heap old number command told (state_after_move heap now number move) seat (replies.Was (stamp_of (found_by heap now move.step))) here.same (set_alone seat.command here.way.0.1) (λ refusal. absurd refusal)
+    ended_alone heap old number command told (state_after_move heap now number move) seat (replies.Was (stamp_of (found_by heap now move.step))) here.same (set_replies_alone seat.command here.way.0.1) (λ refusal. absurd refusal)

@@ -7,11 +7,11 @@ use Rattle.heap_model.specs.declared.reply.Reply.TheVariants as replies
 use Rattle.core_machine.specs.declared.place.Place.TheVariants as places
 use Rattle.core_machine.specs.seat.Local.{local_reply_of}
 use Rattle.core_machine.specs.seat.Looks.{Looks, forgotten, seen_phase}
-use Rattle.core_machine.proofs.table_lemmas.Addresses.{put-at}
-use Rattle.core_machine.proofs.seat_lemmas.Fitting.{array_makes, record_makes}
+use Rattle.core_machine.proofs.table_lemmas.Addresses.{put_of_read_changes_nothing}
+use Rattle.core_machine.proofs.seat_lemmas.Fitting.{array_makes_object, record_makes_object}
 use Rattle.core_machine.proofs.call_lemmas.Stages.{Answered}
-use Rattle.core_machine.proofs.machine_lemmas.Parties.{seat_at-set}
-use Rattle.core_machine.proofs.call_lemmas.RepliesAlone.{RepliesAlone, local_alone, alone_makes_none, local_none, local_refused, IsBeyond}
+use Rattle.core_machine.proofs.machine_lemmas.Parties.{set_seat_is_read}
+use Rattle.core_machine.proofs.call_lemmas.RepliesAlone.{RepliesAlone, local_replies_alone, alone_makes_no_object, local_reply_is_no_object, refusal_leaves_registers, IsBeyond}
 use Rattle.core_machine.proofs.call_lemmas.Stages.{PlaceLeadsAlone}
 
 -- the reply is a refusal, where there is one, and leaves all
@@ -54,8 +54,8 @@ module _ (heap : Heap) (old : State) (number : ℕ) (command : Command) (told : 
     reply = reply;
     before = told;
     last = ap (λ (c : Command). told ++ Said number c reply ∷ []) same;
-    answer = λ a_record. absurd (none (record_makes seat.command (subst IsRecordCall (sym same) a_record)));
-    array = λ an_array. absurd (none (array_makes seat.command (subst IsArrayCall (sym same) an_array)));
+    answer = λ a_record. absurd (none (record_makes_object seat.command (subst IsRecordCall (sym same) a_record)));
+    array = λ an_array. absurd (none (array_makes_object seat.command (subst IsArrayCall (sym same) an_array)));
     refused = refused;
     phase = phase;
   }
@@ -64,7 +64,7 @@ module _ (heap : Heap) (old : State) (number : ℕ) (command : Command) (told : 
   pub ended_alone : (new : State) (seat : Seat) (reply : Reply) → seat.command ≡ command → RepliesAlone seat.command → (IsPlaceRefusal reply → LeavesAll heap old new number reply)
       → Answered heap old new number command (told ++ Said number seat.command reply ∷ [])
   ended_alone new seat reply same alone refused =
-      ended new seat reply same (alone_makes_none seat.command alone) refused (λ polls. absurd (alone_no_poll seat.command alone (same ∙ polls)))
+      ended new seat reply same (alone_makes_no_object seat.command alone) refused (λ polls. absurd (alone_no_poll seat.command alone (same ∙ polls)))
 
 module _ (heap : Heap) (old : State) (number : ℕ) (now : State) (within : number < length now.seats) (resting : call_over (seat_at old number) ≡ seat_at old number) where
   -- the state after the seat's last step, where its word was loaded
@@ -74,7 +74,7 @@ module _ (heap : Heap) (old : State) (number : ℕ) (now : State) (within : numb
   leaves_all seat move reply looks mine stay words next kept seen =
       let last = seat_after move (found_by heap now move.step) in
       let there : seat_at (state_after_move heap now number move) number ≡ record (seat_at old number) { command = seat.command; looks = looks; mine = mine } =
-      seat_at-set now.seats number last within ∙ next ∙ as_before (seat_at old number) seat looks mine resting kept in
+      set_seat_is_read now.seats number last within ∙ next ∙ as_before (seat_at old number) seat looks mine resting kept in
       record {
         words_stay = words ∙ stay;
         seat_stays = subst (λ (s : Seat). s ≡ record (seat_at old number) { command = s.command; looks = looks_refused heap old.words reply (seat_at old number).looks; mine = s.mine }) (sym there)
@@ -98,7 +98,7 @@ tells_alone heap old number command now told here =
     let reply = local_reply_of seat.registers seat.command in
     let looks = forgotten (seen_phase found seat.looks) in
     let mine = seat.mine ++ Said number seat.command reply ∷ [] in
-    ended_alone heap old number command told (state_after_move heap now number move) seat reply here.same (local_alone seat.registers seat.command here.fits.2) (λ refusal.
-    leaves_all heap old number now here.within here.resting seat move reply looks mine here.alone (put-at heap now.words Phase)
-    (ap (λ (r : List Register). record (call_over seat) { registers = r; looks = looks; mine = mine }) (local_refused seat.registers seat.command refusal)) here.own.kept_stays
-    (seen_refused heap old now number reply (local_none seat.registers seat.command refusal) here.own.kept_stays here.alone))
+    ended_alone heap old number command told (state_after_move heap now number move) seat reply here.same (local_replies_alone seat.registers seat.command here.fits.2) (λ refusal.
+    leaves_all heap old number now here.within here.resting seat move reply looks mine here.alone (put_of_read_changes_nothing heap now.words Phase)
+    (ap (λ (r : List Register). record (call_over seat) { registers = r; looks = looks; mine = mine }) (refusal_leaves_registers seat.registers seat.command refusal)) here.own.kept_stays
+    (seen_refused heap old now number reply (local_reply_is_no_object seat.registers seat.command refusal) here.own.kept_stays here.alone))

@@ -6,10 +6,10 @@ use Rattle.core_machine.proofs.call_lemmas.Stages.{Stage, AloneAfter}
 use Rattle.core_machine.proofs.kinds.{place_kind}
 
 -- its next move leads on
-pub alone_moved : (heap : Heap) (old : State) (number : ℕ) (command : Command) (now : State) (told : List Entry) → number < length now.seats → call_over (seat_at old number) ≡ seat_at old number
+pub move_leads_alone : (heap : Heap) (old : State) (number : ℕ) (command : Command) (now : State) (told : List Entry) → number < length now.seats → call_over (seat_at old number) ≡ seat_at old number
     → IsMachine heap now → ((a : Address) → InTable heap a → at heap old.words a < 2 ^ 64) → (mine : List Entry) → Stage heap old now number command told mine (seat_at now number)
     → IfSome (next_move heap number (seat_at now number)) (AloneAfter heap old number command now told)
-alone_moved heap old number command now told within resting machine small mine stage =
+move_leads_alone heap old number command now told within resting machine small mine stage =
     let fits = machine.fit number within in
     (place_kind (seat_at now number).place).alone heap old number command now told record {
       machine = machine;

@@ -9,9 +9,9 @@ use Rattle.core_machine.specs.declared.place.Place.TheVariants as places
 use Rattle.core_machine.specs.declared.place.Polling.TheVariants.{Asking, Shading, Answering}
 use Rattle.core_machine.specs.seat.HandshakeMoves.{poll_move, poll_adds}
 use Rattle.core_machine.specs.seat.Handshake.{roots, answer_next, after_phase_load}
-use Rattle.core_machine.proofs.seat_lemmas.PollingOver.{over_cases}
-use Rattle.core_machine.proofs.table_lemmas.Bits.{bool_tells}
-use Rattle.core_machine.proofs.seat_lemmas.Fitting.{array_makes, record_makes}
+use Rattle.core_machine.proofs.seat_lemmas.PollingOver.{polling_over_cases}
+use Rattle.core_machine.proofs.table_lemmas.Bits.{true_or_false}
+use Rattle.core_machine.proofs.seat_lemmas.Fitting.{array_makes_object, record_makes_object}
 use Rattle.core_machine.proofs.call_lemmas.Stages.{AloneStage}
 use Rattle.core_machine.proofs.call_lemmas.Stages.{PlaceLeadsAlone}
 use Rattle.core_machine.proofs.call_lemmas.PlayingEnds.{ended}
@@ -35,7 +35,7 @@ module _ (heap : Heap) (old : State) (number : ℕ) (command : Command) (now : S
   prepared : (new : State) (told : List Entry) (seat : Seat) → seat.asked ≡ at heap old.words Phase
       → AloneStage heap old new number command told (with_entries (answer_next seat) []) (with_entries (answer_next seat) []).place
   prepared new told seat is =
-      elim (bool_tells (nat_lt seat.shaded (length (roots seat)))) as (λ _. AloneStage heap old new number command told (with_entries (answer_next seat) []) (with_entries (answer_next seat) []).place) [
+      elim (true_or_false (nat_lt seat.shaded (length (roots seat)))) as (λ _. AloneStage heap old new number command told (with_entries (answer_next seat) []) (with_entries (answer_next seat) []).place) [
         | inl more ↦ rw more is
         | inr all ↦ rw all is
       ]
@@ -45,9 +45,9 @@ module _ (heap : Heap) (old : State) (number : ℕ) (command : Command) (now : S
       → AloneStage heap old new number command (told_ ++ poll_adds number the_seat found) (with_entries (after_phase_load (with_seen found the_seat) found) (poll_adds number the_seat found)) (after_phase_load (with_seen found the_seat) found).place
   alone_asked new found same polls is =
       let seen = with_seen found the_seat in
-      elim (bool_tells (eqb found the_seat.answered))
+      elim (true_or_false (eqb found the_seat.answered))
       as (λ _. AloneStage heap old new number command (told_ ++ poll_adds number the_seat found) (with_entries (after_phase_load seen found) (poll_adds number the_seat found)) (after_phase_load seen found).place) [
-        | inl known ↦ rw known (over_cases (λ s more. AloneStage heap old new number command (told_ ++ more) (with_entries s more) s.place) number the_seat.command seen found
+        | inl known ↦ rw known (polling_over_cases (λ s more. AloneStage heap old new number command (told_ ++ more) (with_entries s more) s.place) number the_seat.command seen found
             (λ collects. absurd (no_collect the_seat.command collects polls))
             (λ tells. ended heap old number command told_ new the_seat (replies.Phase found) same (poll_makes_none the_seat.command polls) (λ refusal. absurd refusal) (λ a_poll p e. same_phase found p e is)))
         | inr anew ↦ rw anew (prepared new (told_ ++ []) (record seen { asked = found }) is)
@@ -70,15 +70,15 @@ pub answers_alone : PlaceLeadsAlone (places.Polling Answering)
 answers_alone heap old number command now told here =
     let seat = seat_at now number in
     let answer = Answers number seat.asked in
-    over_cases (λ s more. AloneStage heap old (state_after_move heap now number (polling_move number seat Answering)) number command (told ++ answer ∷ more) (with_entries s (answer ∷ more)) s.place)
+    polling_over_cases (λ s more. AloneStage heap old (state_after_move heap now number (polling_move number seat Answering)) number command (told ++ answer ∷ more) (with_entries s (answer ∷ more)) s.place)
     number seat.command (record seat { answered = seat.asked }) seat.asked
     (λ collects. absurd (no_collect seat.command collects here.own.0)) (λ tells. record {
       reply = replies.Phase seat.asked;
       before = told ++ answer ∷ [];
       last = ap (λ (c : Command). told ++ answer ∷ Said number c (replies.Phase seat.asked) ∷ []) here.same
           ∙ sym (append_assoc told (answer ∷ []) (Said number command (replies.Phase seat.asked) ∷ []));
-      answer = λ a_record. absurd (poll_makes_none seat.command here.own.0 (record_makes seat.command (subst IsRecordCall (sym here.same) a_record)));
-      array = λ an_array. absurd (poll_makes_none seat.command here.own.0 (array_makes seat.command (subst IsArrayCall (sym here.same) an_array)));
+      answer = λ a_record. absurd (poll_makes_none seat.command here.own.0 (record_makes_object seat.command (subst IsRecordCall (sym here.same) a_record)));
+      array = λ an_array. absurd (poll_makes_none seat.command here.own.0 (array_makes_object seat.command (subst IsArrayCall (sym here.same) an_array)));
       refused = λ refusal. absurd refusal;
       phase = λ a_poll p e. same_phase heap old number command now told seat.asked p e here.alone;
     })

@@ -16,45 +16,45 @@ RepliesAlone commands.Collect = ⊥
 RepliesAlone commands.Leave = ⊥
 RepliesAlone _ = Unit {0}
 
-pub local_alone : (registers : List Register) (command : Command) → IsLocal registers command → RepliesAlone command
-local_alone registers (commands.New d fields) local = local
-local_alone registers (commands.Array d cells) local = local
-local_alone registers commands.Poll local = local
-local_alone registers commands.Collect local = local
-local_alone registers commands.Leave local = local
-local_alone registers _ local = tt
+pub local_replies_alone : (registers : List Register) (command : Command) → IsLocal registers command → RepliesAlone command
+local_replies_alone registers (commands.New d fields) local = local
+local_replies_alone registers (commands.Array d cells) local = local
+local_replies_alone registers commands.Poll local = local
+local_replies_alone registers commands.Collect local = local
+local_replies_alone registers commands.Leave local = local
+local_replies_alone registers _ local = tt
 
-pub object_alone : (command : Command) → NamesObject command → RepliesAlone command
-object_alone (commands.Get d r i) names = tt
-object_alone (commands.Set r i v) names = tt
-object_alone (commands.Len r) names = tt
-object_alone _ names = absurd names
+pub object_replies_alone : (command : Command) → NamesObject command → RepliesAlone command
+object_replies_alone (commands.Get d r i) names = tt
+object_replies_alone (commands.Set r i v) names = tt
+object_replies_alone (commands.Len r) names = tt
+object_replies_alone _ names = absurd names
 
-pub get_alone : (command : Command) → IsGet command → RepliesAlone command
-get_alone (commands.Get d r i) a_get = tt
-get_alone _ a_get = absurd a_get
+pub get_replies_alone : (command : Command) → IsGet command → RepliesAlone command
+get_replies_alone (commands.Get d r i) a_get = tt
+get_replies_alone _ a_get = absurd a_get
 
-pub set_alone : (command : Command) → IsSet command → RepliesAlone command
-set_alone (commands.Set r i v) a_set = tt
-set_alone _ a_set = absurd a_set
+pub set_replies_alone : (command : Command) → IsSet command → RepliesAlone command
+set_replies_alone (commands.Set r i v) a_set = tt
+set_replies_alone _ a_set = absurd a_set
 
 -- such a command makes no object
-pub alone_makes_none : (command : Command) → RepliesAlone command → MakesObject command → ⊥
-alone_makes_none (commands.New d fields) alone makes = alone
-alone_makes_none (commands.Array d cells) alone makes = alone
-alone_makes_none _ alone makes = makes
+pub alone_makes_no_object : (command : Command) → RepliesAlone command → MakesObject command → ⊥
+alone_makes_no_object (commands.New d fields) alone makes = alone
+alone_makes_no_object (commands.Array d cells) alone makes = alone
+alone_makes_no_object _ alone makes = makes
 
 -- such a call that looks at no word is refused without an object alone
-pub local_none : (registers : List Register) (command : Command) → IsPlaceRefusal (local_reply_of registers command) → local_reply_of registers command ≡ NoObject
-local_none registers (commands.Num d n) refusal = absurd refusal
-local_none registers (commands.Nil d) refusal = absurd refusal
-local_none registers (commands.Copy d r) refusal = absurd refusal
-local_none registers (commands.Same a b) refusal = by (is_same_value (value_of (register_in registers a)) (value_of (register_in registers b))) refusal
+pub local_reply_is_no_object : (registers : List Register) (command : Command) → IsPlaceRefusal (local_reply_of registers command) → local_reply_of registers command ≡ NoObject
+local_reply_is_no_object registers (commands.Num d n) refusal = absurd refusal
+local_reply_is_no_object registers (commands.Nil d) refusal = absurd refusal
+local_reply_is_no_object registers (commands.Copy d r) refusal = absurd refusal
+local_reply_is_no_object registers (commands.Same a b) refusal = by (is_same_value (value_of (register_in registers a)) (value_of (register_in registers b))) refusal
   where
     by : (same : Bool) → IsPlaceRefusal (answer_of same) → answer_of same ≡ NoObject
     by true refused = absurd refused
     by false refused = absurd refused
-local_none registers _ refusal = refl
+local_reply_is_no_object registers _ refusal = refl
 
 -- the reply, where there is one, isn't that of a call without an object
 abbrev pub IsBeyond : Option Reply → Type 0
@@ -68,14 +68,14 @@ field_beyond field found = by (nat_lt field (length_of found))
     by true = tt
     by false = tt
 
-pub meta_beyond : (command : Command) (found : ℕ) → IsBeyond (meta_reply_of command found)
-meta_beyond (commands.Get d r i) found = field_beyond i found
-meta_beyond (commands.Set r i v) found = field_beyond i found
-meta_beyond _ found = tt
+pub meta_reply_is_beyond : (command : Command) (found : ℕ) → IsBeyond (meta_reply_of command found)
+meta_reply_is_beyond (commands.Get d r i) found = field_beyond i found
+meta_reply_is_beyond (commands.Set r i v) found = field_beyond i found
+meta_reply_is_beyond _ found = tt
 
 -- a refusal leaves the registers
-pub local_refused : (registers : List Register) (command : Command) → IsPlaceRefusal (local_reply_of registers command) → local_registers registers command ≡ registers
-local_refused registers (commands.Num d n) refusal = absurd refusal
-local_refused registers (commands.Nil d) refusal = absurd refusal
-local_refused registers (commands.Copy d r) refusal = absurd refusal
-local_refused registers _ refusal = refl
+pub refusal_leaves_registers : (registers : List Register) (command : Command) → IsPlaceRefusal (local_reply_of registers command) → local_registers registers command ≡ registers
+refusal_leaves_registers registers (commands.Num d n) refusal = absurd refusal
+refusal_leaves_registers registers (commands.Nil d) refusal = absurd refusal
+refusal_leaves_registers registers (commands.Copy d r) refusal = absurd refusal
+refusal_leaves_registers registers _ refusal = refl

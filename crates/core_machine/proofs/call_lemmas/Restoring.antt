@@ -9,9 +9,9 @@ use Rattle.core_machine.proofs.Terms.{Heap, Address, Phase, Answer, Budget, Cont
 use Rattle.core_machine.proofs.Terms.{SameTable, all_taken, word_without_taken}
 use Rattle.core_machine.specs.declared.table.address.Address.TheVariants.{Spot, Spine}
 use Rattle.core_machine.proofs.table_lemmas.Addresses.{at-put_same, at-put_other}
-use Rattle.core_machine.proofs.table_lemmas.Masks.{or_full, untaken-claimed}
-use Rattle.core_machine.proofs.table_lemmas.Free.{clear_in-claimed}
-use Rattle.core_machine.proofs.table_lemmas.Owned.{clear_in-group}
+use Rattle.core_machine.proofs.table_lemmas.Masks.{full_group_stays_when_claimed, give_back_undoes_claim}
+use Rattle.core_machine.proofs.table_lemmas.Free.{claimed_group_has_none_clear}
+use Rattle.core_machine.proofs.table_lemmas.Owned.{clear_is_of_group}
 
 -- the fragments of a group that the hand has, or not
 abbrev pub IsUntouched : ℕ → ℕ → List ℕ → Type 0
@@ -28,26 +28,26 @@ pub record Claims (heap : Heap) (old now hand : List ℕ) : Type 0 where
   pub others : (a : Address) → InTable heap a → ((g : ℕ) → a ≢ Control g) → at heap now a ≡ at heap old a
 
 -- nothing is claimed yet
-pub claims_none : (heap : Heap) (words : List ℕ) → Claims heap words words []
-claims_none heap words = record { controls = λ g within. inl (refl, refl); others = λ a within other. refl }
+pub nothing_is_claimed : (heap : Heap) (words : List ℕ) → Claims heap words words []
+nothing_is_claimed heap words = record { controls = λ g within. inl (refl, refl); others = λ a within other. refl }
 
 -- all fragments of a group are of it, and none of another
-pub part_all : (g : ℕ) (fragments : List ℕ) → All (λ f. f / 16 ≡ g) fragments → part_in g fragments ≡ fragments
-part_all g [] each = refl
-part_all g (f ∷ more) each =
-    rw (eq-eqb (f / 16) g (All-head (λ f. f / 16 ≡ g) f more each)) (ap (λ (l : List ℕ). f ∷ l) (part_all g more (All-tail (λ f. f / 16 ≡ g) f more each)))
+pub part_of_own_group_is_all : (g : ℕ) (fragments : List ℕ) → All (λ f. f / 16 ≡ g) fragments → part_in g fragments ≡ fragments
+part_of_own_group_is_all g [] each = refl
+part_of_own_group_is_all g (f ∷ more) each =
+    rw (eq-eqb (f / 16) g (All-head (λ f. f / 16 ≡ g) f more each)) (ap (λ (l : List ℕ). f ∷ l) (part_of_own_group_is_all g more (All-tail (λ f. f / 16 ≡ g) f more each)))
 
-pub part_none : (g k : ℕ) (fragments : List ℕ) → g ≢ k → All (λ f. f / 16 ≡ g) fragments → part_in k fragments ≡ []
-part_none g k [] other each = refl
-part_none g k (f ∷ more) other each =
+pub part_of_other_group_is_empty : (g k : ℕ) (fragments : List ℕ) → g ≢ k → All (λ f. f / 16 ≡ g) fragments → part_in k fragments ≡ []
+part_of_other_group_is_empty g k [] other each = refl
+part_of_other_group_is_empty g k (f ∷ more) other each =
     let here = All-head (λ f. f / 16 ≡ g) f more each in
-    rw (ne_eqb (f / 16) k (λ e. other (sym here ∙ e))) (part_none g k more other (All-tail (λ f. f / 16 ≡ g) f more each))
+    rw (ne_eqb (f / 16) k (λ e. other (sym here ∙ e))) (part_of_other_group_is_empty g k more other (All-tail (λ f. f / 16 ≡ g) f more each))
 
 -- a part of one group stays where another group's is left out
-pub part_in-out : (g k : ℕ) (fragments : List ℕ) → k ≢ g → part_in k (part_out g fragments) ≡ part_in k fragments
-part_in-out g k [] other = refl
-part_in-out g k (f ∷ more) other =
-    let rest = part_in-out g k more other in
+pub part_in_stays_without_other : (g k : ℕ) (fragments : List ℕ) → k ≢ g → part_in k (part_out g fragments) ≡ part_in k fragments
+part_in_stays_without_other g k [] other = refl
+part_in_stays_without_other g k (f ∷ more) other =
+    let rest = part_in_stays_without_other g k more other in
     elim (eqb_tells (f / 16) g) as (λ _. part_in k (part_out g (f ∷ more)) ≡ part_in k (f ∷ more)) [
       | inl here ↦ rw (here.0, ne_eqb (f / 16) k (λ e. other (sym e ∙ here.1))) rest
       | inr there ↦ rw there.0 (elim (eqb_tells (f / 16) k) as (λ _. part_in k (f ∷ part_out g more) ≡ part_in k (f ∷ more)) [ inl same ↦ rw same.0 (ap (λ (l : List ℕ). f ∷ l) rest) | inr away ↦ rw away.0 rest ])
@@ -67,19 +67,19 @@ more_here g old n part small (inl untouched) =
     elim (eqb_tells (length (clear_in g n)) 0) as (λ _. IsUntouched old (bit_or n all_taken) (part ++ clear_in g n) ⊎ IsClaimed g old (bit_or n all_taken) (part ++ clear_in g n)) [
       | inl none ↦
           let empty : clear_in g n ≡ [] = nil_from_length (clear_in g n) none.1 in
-          inl (rw (untouched.0, empty) refl, or_full g n empty ∙ untouched.1)
+          inl (rw (untouched.0, empty) refl, full_group_stays_when_claimed g n empty ∙ untouched.1)
       | inr some ↦
           let fits : n < 2 ^ 64 = omega (arith, untouched.1) in
-          inr (rw untouched.0 (omega (arith, some.1)), clear_in-claimed g n, rw untouched.0 (sym untouched.1 ∙ sym (untaken-claimed g n fits)))
+          inr (rw untouched.0 (omega (arith, some.1)), claimed_group_has_none_clear g n, rw untouched.0 (sym untouched.1 ∙ sym (give_back_undoes_claim g n fits)))
     ]
 more_here g old n part small (inr claimed) =
-    inr (rw (claimed.1, append-nil part) claimed.0, clear_in-claimed g n, rw (claimed.1, append-nil part, or_full g n claimed.1) claimed.2)
+    inr (rw (claimed.1, append-nil part) claimed.0, claimed_group_has_none_clear g n, rw (claimed.1, append-nil part, full_group_stays_when_claimed g n claimed.1) claimed.2)
 
 -- a group was claimed
-pub claims_more : (heap : Heap) (old now hand : List ℕ) (group : ℕ) → length now ≡ table_length heap → group < heap.groups
+pub claims_one_group_more : (heap : Heap) (old now hand : List ℕ) (group : ℕ) → length now ≡ table_length heap → group < heap.groups
     → ((a : Address) → InTable heap a → at heap old a < 2 ^ 64) → Claims heap old now hand
     → Claims heap old (put heap now (Control group) (bit_or (at heap now (Control group)) all_taken)) (hand ++ clear_in group (at heap now (Control group)))
-claims_more heap old now hand group table within small claims =
+claims_one_group_more heap old now hand group table within small claims =
     let n = at heap now (Control group) in
     let after = put heap now (Control group) (bit_or n all_taken) in
     let got = clear_in group n in
@@ -88,13 +88,13 @@ claims_more heap old now hand group table within small claims =
           as (λ _. IsUntouched (at heap old (Control g)) (at heap after (Control g)) (part_in g (hand ++ got)) ⊎ IsClaimed g (at heap old (Control g)) (at heap after (Control g)) (part_in g (hand ++ got))) [
             | inl here ↦
                 let same : part_in group (hand ++ got) ≡ part_in group hand ++ got =
-                filter-append (in_group group) hand got ∙ ap (λ (l : List ℕ). part_in group hand ++ l) (part_all group got (clear_in-group group n)) in
+                filter-append (in_group group) hand got ∙ ap (λ (l : List ℕ). part_in group hand ++ l) (part_of_own_group_is_all group got (clear_is_of_group group n)) in
                 subst (λ (k : ℕ). IsUntouched (at heap old (Control k)) (at heap after (Control k)) (part_in k (hand ++ got)) ⊎ IsClaimed k (at heap old (Control k)) (at heap after (Control k)) (part_in k (hand ++ got))) (sym here.1)
                 (rw (same, at-put_same heap now (Control group) (bit_or n all_taken) table within)
                 (more_here group (at heap old (Control group)) n (part_in group hand) (small (Control group) within) (claims.controls group within)))
             | inr there ↦
                 let same : part_in g (hand ++ got) ≡ part_in g hand =
-                filter-append (in_group g) hand got ∙ ap (λ (l : List ℕ). part_in g hand ++ l) (part_none group g got (λ e. there.1 (sym e)) (clear_in-group group n)) ∙ append-nil (part_in g hand) in
+                filter-append (in_group g) hand got ∙ ap (λ (l : List ℕ). part_in g hand ++ l) (part_of_other_group_is_empty group g got (λ e. there.1 (sym e)) (clear_is_of_group group n)) ∙ append-nil (part_in g hand) in
                 rw (same, at-put_other heap now (Control group) (Control g) (bit_or n all_taken) within below (λ e. there.1 (cc e))) (claims.controls g below)
           ];
       others = λ a there other. at-put_other heap now (Control group) a (bit_or n all_taken) within there (other group) ∙ claims.others a there other;
@@ -106,10 +106,10 @@ less_here g old n part some (inl untouched) = absurd (omega (arith, ap length un
 less_here g old n part some (inr claimed) = sym claimed.2
 
 -- the fragments of a group were given back
-pub claims_less : (heap : Heap) (old now hand : List ℕ) (group : ℕ) → length now ≡ table_length heap → group < heap.groups
+pub claims_one_group_less : (heap : Heap) (old now hand : List ℕ) (group : ℕ) → length now ≡ table_length heap → group < heap.groups
     → 0 < length (part_in group hand) → Claims heap old now hand
     → Claims heap old (put heap now (Control group) (word_without_taken (mask_of (part_in group hand)) (at heap now (Control group)))) (part_out group hand)
-claims_less heap old now hand group table within some claims =
+claims_one_group_less heap old now hand group table within some claims =
     let n = at heap now (Control group) in
     let word = word_without_taken (mask_of (part_in group hand)) n in
     let after = put heap now (Control group) word in
@@ -123,17 +123,17 @@ claims_less heap old now hand group table within some claims =
                   at-put_same heap now (Control group) word table within ∙ less_here group (at heap old (Control group)) n (part_in group hand) some (claims.controls group within),
                 ))
             | inr there ↦
-                rw (part_in-out group g hand there.1, at-put_other heap now (Control group) (Control g) word within below (λ e. there.1 (cc e))) (claims.controls g below)
+                rw (part_in_stays_without_other group g hand there.1, at-put_other heap now (Control group) (Control g) word within below (λ e. there.1 (cc e))) (claims.controls g below)
           ];
       others = λ a there other. at-put_other heap now (Control group) a word within there (other group) ∙ claims.others a there other;
     }
 
 -- once nothing is in the hand, every word is as it was
-pub claims_over : (heap : Heap) (old now : List ℕ) → Claims heap old now [] → SameTable heap old now
-claims_over heap old now claims (Control g) within = elim (claims.controls g within) as (λ _. at heap now (Control g) ≡ at heap old (Control g)) [ inl same ↦ same.1 | inr claimed ↦ absurd (omega (arith, claimed.0)) ]
-claims_over heap old now claims Phase within = claims.others Phase within (λ g e. cc)
-claims_over heap old now claims (Answer s) within = claims.others (Answer s) within (λ g e. cc)
-claims_over heap old now claims Budget within = claims.others Budget within (λ g e. cc)
-claims_over heap old now claims Spot within = claims.others Spot within (λ g e. cc)
-claims_over heap old now claims (Word f j) within = claims.others (Word f j) within (λ g e. cc)
-claims_over heap old now claims (Spine half offset) within = claims.others (Spine half offset) within (λ g e. cc)
+pub same_table_without_claims : (heap : Heap) (old now : List ℕ) → Claims heap old now [] → SameTable heap old now
+same_table_without_claims heap old now claims (Control g) within = elim (claims.controls g within) as (λ _. at heap now (Control g) ≡ at heap old (Control g)) [ inl same ↦ same.1 | inr claimed ↦ absurd (omega (arith, claimed.0)) ]
+same_table_without_claims heap old now claims Phase within = claims.others Phase within (λ g e. cc)
+same_table_without_claims heap old now claims (Answer s) within = claims.others (Answer s) within (λ g e. cc)
+same_table_without_claims heap old now claims Budget within = claims.others Budget within (λ g e. cc)
+same_table_without_claims heap old now claims Spot within = claims.others Spot within (λ g e. cc)
+same_table_without_claims heap old now claims (Word f j) within = claims.others (Word f j) within (λ g e. cc)
+same_table_without_claims heap old now claims (Spine half offset) within = claims.others (Spine half offset) within (λ g e. cc)

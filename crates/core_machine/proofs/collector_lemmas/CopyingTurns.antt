@@ -18,18 +18,18 @@ use Rattle.core_machine.specs.declared.step.Step.TheVariants as steps
 use Rattle.core_machine.specs.collector.Copying.{next_half, after_visited, after_seen, after_visit, visit_on, after_inspected, after_located, copy_at}
 use Rattle.core_machine.specs.collector.CopyingTurns.{visited, copying_step, after_copying, copying_adds}
 use Rattle.core_machine.specs.collector.FitsTurns.{IsCopying, FitsVisit, FitsArrayAt, FitsCopy, FitsCopying, FitsStage}
-use Rattle.core_machine.proofs.collector_lemmas.SpineTurns.{told_spot}
-use Rattle.core_machine.proofs.collector_lemmas.Standing.{StageStands, work_stands, stage_fits}
-use Rattle.core_machine.proofs.table_lemmas.DeadBits.{place_stands}
-use Rattle.core_machine.proofs.table_lemmas.Leading.{spot_leads}
-use Rattle.core_machine.proofs.table_lemmas.Lengths.{length_few}
-use Rattle.core_machine.proofs.table_lemmas.StepStands.{StepStands, load_stands}
+use Rattle.core_machine.proofs.collector_lemmas.SpineTurns.{told_spot_fits}
+use Rattle.core_machine.proofs.collector_lemmas.Standing.{StageStands, work_turn_stands, collector_fits_at_stage}
+use Rattle.core_machine.proofs.table_lemmas.DeadBits.{next_place_has_bit}
+use Rattle.core_machine.proofs.table_lemmas.Leading.{spot_leads_within_heap}
+use Rattle.core_machine.proofs.table_lemmas.Lengths.{array_length_is_small}
+use Rattle.core_machine.proofs.table_lemmas.StepStands.{StepStands, load_step_stands}
 
-pub flip_stands : StageStands stages.Flipping
-flip_stands heap collector limits fits flipping here =
-    work_stands heap (steps.Copying (FlipStore (next_half collector.phase))) (λ word. record collector { stage = stages.Advancing })
+pub stage_stands_at_flipping : StageStands stages.Flipping
+stage_stands_at_flipping heap collector limits fits flipping here =
+    work_turn_stands heap (steps.Copying (FlipStore (next_half collector.phase))) (λ word. record collector { stage = stages.Advancing })
     record { in_table = tt; wide = λ found small. omega arith; leads = λ found led. tt }
-    (λ word small led. stage_fits heap collector stages.Advancing fits (record { all = here.all; goes_on = λ last. absurd (omega (arith, last, here.for_marking)) }))
+    (λ word small led. collector_fits_at_stage heap collector stages.Advancing fits (record { all = here.all; goes_on = λ last. absurd (omega (arith, last, here.for_marking)) }))
 
 module _ (heap : Heap) (phase looked : ℕ) (copies : IsCopying heap.seats phase looked) where
   -- the next group's turn comes, or the phase is done
@@ -46,10 +46,10 @@ module _ (heap : Heap) (phase looked : ℕ) (copies : IsCopying heap.seats phase
   fits_seen group marked (Some place) within few is = (copies, record { group_within = within; marked_within = few; place_within = is.0; is_marked = is.1 })
 
   fits_visit : (group word : ℕ) → group < heap.groups → FitsStage heap phase looked (after_visit heap group word)
-  fits_visit group word within = fits_seen group (marked_bits_of word) (next_place_of (marked_bits_of word) 0) within (omega arith) (place_stands (marked_bits_of word) 0)
+  fits_visit group word within = fits_seen group (marked_bits_of word) (next_place_of (marked_bits_of word) 0) within (omega arith) (next_place_has_bit (marked_bits_of word) 0)
 
   fits_on : (visit : Visit) → FitsVisit heap visit → FitsStage heap phase looked (visit_on heap visit)
-  fits_on visit there = fits_seen visit.group visit.marked (next_place_of visit.marked (visit.place + 1)) there.group_within there.marked_within (place_stands visit.marked (visit.place + 1))
+  fits_on visit there = fits_seen visit.group visit.marked (next_place_of visit.marked (visit.place + 1)) there.group_within there.marked_within (next_place_has_bit visit.marked (visit.place + 1))
 
   -- behind an array's meta its name comes
   fits_inspected : (visit : Visit) (length : Option ℕ) → FitsVisit heap visit → IfSome length (λ cells. cells < 2 ^ 13) → FitsStage heap phase looked (after_inspected heap visit length)
@@ -81,25 +81,25 @@ record CopyingStands (heap : Heap) (phase looked : ℕ) (stage : Copying) : Type
 
 stage_stands : (heap : Heap) (phase looked : ℕ) (stage : Copying) → IsHeap heap → IsCopying heap.seats phase looked → FitsCopying heap stage → CopyingStands heap phase looked stage
 stage_stands heap phase looked (copying.Visiting group) limits copies here =
-    record { step = load_stands heap _ refl here; fits = λ found small led. fits_visit heap phase looked copies group found here }
+    record { step = load_step_stands heap _ refl here; fits = λ found small led. fits_visit heap phase looked copies group found here }
 stage_stands heap phase looked (copying.Inspecting visit) limits copies here = record {
-  step = load_stands heap _ refl (visited_within heap visit here, omega arith);
-  fits = λ found small led. fits_inspected heap phase looked copies visit (array_length_of found) here (length_few found);
+  step = load_step_stands heap _ refl (visited_within heap visit here, omega arith);
+  fits = λ found small led. fits_inspected heap phase looked copies visit (array_length_of found) here (array_length_is_small found);
 }
 stage_stands heap phase looked (copying.Naming visit words) limits copies here = record {
-  step = load_stands heap _ refl (visited_within heap visit here.0, omega arith);
+  step = load_step_stands heap _ refl (visited_within heap visit here.0, omega arith);
   fits = λ found small led. (copies, record { there = here.0; words_few = here.1 });
 }
 stage_stands heap phase looked (copying.Locating array) limits copies here = record {
-  step = load_stands heap _ refl (visited_within heap array.visit here.there, omega arith);
-  fits = λ found small led. fits_located heap phase looked copies array (spot_in found) here (told_spot found);
+  step = load_step_stands heap _ refl (visited_within heap array.visit here.there, omega arith);
+  fits = λ found small led. fits_located heap phase looked copies array (spot_in found) here (told_spot_fits found);
 }
 stage_stands heap phase looked (copying.Claiming array from) limits copies here = record {
   step = record { in_table = tt; wide = λ found small. omega arith; leads = λ found led. tt };
-  fits = λ found small led. fits_copy heap phase looked copies _ record { array_fits = here.0; from_within = here.1; to_within = told_spot found; index_within = omega arith };
+  fits = λ found small led. fits_copy heap phase looked copies _ record { array_fits = here.0; from_within = here.1; to_within = told_spot_fits found; index_within = omega arith };
 }
 stage_stands heap phase looked (copying.Loading copy) limits copies here = record {
-  step = load_stands heap _ refl here.0.from_within.half_within;
+  step = load_step_stands heap _ refl here.0.from_within.half_within;
   fits = λ found small led. (copies, record { copies = here.0; more = here.1; names = led; wide = small });
 }
 stage_stands heap phase looked (copying.Storing copy word) limits copies here = record {
@@ -115,13 +115,13 @@ stage_stands heap phase looked (copying.Swinging copy) limits copies here = reco
   step = record {
     in_table = (visited_within heap copy.array.visit here.0.array_fits.there, omega arith);
     wide = λ found small. omega (arith, here.0.to_within.half_within, here.0.to_within.offset_within);
-    leads = λ found led. spot_leads heap copy.to here.0.to_within;
+    leads = λ found led. spot_leads_within_heap heap copy.to here.0.to_within;
   };
   fits = λ found small led. fits_on heap phase looked copies copy.array.visit here.0.array_fits.there;
 }
 
-pub copying_stands : (stage : Copying) → StageStands (stages.Copying stage)
-copying_stands stage heap collector limits fits copies here =
+pub stage_stands_at_copying : (stage : Copying) → StageStands (stages.Copying stage)
+stage_stands_at_copying stage heap collector limits fits copies here =
     let stands = stage_stands heap collector.phase collector.looked stage limits here.0 here.1 in
     record {
       step = stands.step;

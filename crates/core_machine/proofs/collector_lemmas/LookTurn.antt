@@ -7,9 +7,9 @@ use Rattle.core_machine.specs.declared.step.TurningStep.TheVariants as turning
 use Rattle.core_machine.specs.collector.Collector.{Collector, has_answered_of, first_work, after_last_look, after_counted_look, after_look, look_answer}
 use Rattle.core_machine.specs.collector.FitsTurns.{FitsStage, CollectorFits}
 use Rattle.core_machine.proofs.collector_lemmas.Works.{first_either}
-use Rattle.core_machine.proofs.collector_lemmas.Standing.{StageStands, quiet_stands}
-use Rattle.core_machine.proofs.table_lemmas.Bits.{bool_tells}
-use Rattle.core_machine.proofs.table_lemmas.StepStands.{load_stands}
+use Rattle.core_machine.proofs.collector_lemmas.Standing.{StageStands, quiet_turn_stands}
+use Rattle.core_machine.proofs.table_lemmas.Bits.{true_or_false}
+use Rattle.core_machine.proofs.table_lemmas.StepStands.{load_step_stands}
 
 module _ (heap : Heap) (collector : Collector) (limits : IsHeap heap) (fits : CollectorFits heap collector) (looking : collector.stage ≡ stages.Looking) (within : collector.looked < heap.seats) where
   -- it stands before a seat of the heap
@@ -34,12 +34,12 @@ module _ (heap : Heap) (collector : Collector) (limits : IsHeap heap) (fits : Co
   ]
 
   fits_looked_at : (found : ℕ) → CollectorFits heap (after_look heap collector found)
-  fits_looked_at found = elim (bool_tells (has_answered_of collector.phase found)) as (λ _. CollectorFits heap (after_look heap collector found)) [
+  fits_looked_at found = elim (true_or_false (has_answered_of collector.phase found)) as (λ _. CollectorFits heap (after_look heap collector found)) [
     | inl yes_ ↦ rw yes_ fits_looked_on
     | inr no_ ↦ rw no_ fits
   ]
 
-pub look_stands : StageStands stages.Looking
-look_stands heap collector limits fits looking within =
-    quiet_stands heap (Turning (turning.LookLoad collector.looked)) (after_look heap collector) (look_answer collector)
-    (load_stands heap (Turning (turning.LookLoad collector.looked)) refl (omega (arith, within, limits.seats_fit))) (λ found small led. fits_looked_at heap collector limits fits looking within found)
+pub stage_stands_at_looking : StageStands stages.Looking
+stage_stands_at_looking heap collector limits fits looking within =
+    quiet_turn_stands heap (Turning (turning.LookLoad collector.looked)) (after_look heap collector) (look_answer collector)
+    (load_step_stands heap (Turning (turning.LookLoad collector.looked)) refl (omega (arith, within, limits.seats_fit))) (λ found small led. fits_looked_at heap collector limits fits looking within found)

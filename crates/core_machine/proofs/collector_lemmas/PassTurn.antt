@@ -7,9 +7,9 @@ use Rattle.core_machine.specs.declared.collector.stage.Stage.TheVariants as stag
 use Rattle.core_machine.specs.declared.step.TurningStep.TheVariants as turning
 use Rattle.core_machine.specs.collector.Marking.{lowest_grey_of, after_last_group, after_group, after_pass}
 use Rattle.core_machine.specs.collector.FitsTurns.{FitsStage, IsMarking}
-use Rattle.core_machine.proofs.collector_lemmas.Standing.{StageStands, work_stands, stage_fits}
-use Rattle.core_machine.proofs.table_lemmas.Grey.{grey_place}
-use Rattle.core_machine.proofs.table_lemmas.StepStands.{load_stands}
+use Rattle.core_machine.proofs.collector_lemmas.Standing.{StageStands, work_turn_stands, collector_fits_at_stage}
+use Rattle.core_machine.proofs.table_lemmas.Grey.{lowest_grey_within_group}
+use Rattle.core_machine.proofs.table_lemmas.StepStands.{load_step_stands}
 
 module _ (heap : Heap) (limits : IsHeap heap) (phase looked : ℕ) (marks : IsMarking heap.seats phase looked) where
   fits_last_group : (found : Bool) → FitsStage heap phase looked (after_last_group found)
@@ -28,9 +28,9 @@ module _ (heap : Heap) (limits : IsHeap heap) (phase looked : ℕ) (marks : IsMa
   fits_pass group found (Some place) within few =
       record { marks = marks; fragment_within = omega (arith, within, few); part_within = omega arith; few_steps = omega arith }
 
-pub pass_stands : (group : ℕ) (found : Bool) → StageStands (stages.Passing group found)
-pass_stands group found heap collector limits fits passing here =
-    work_stands heap (Turning (turning.GroupLoad group)) (λ word. record collector { stage = after_pass heap group found (lowest_grey_of word) })
-    (load_stands heap (Turning (turning.GroupLoad group)) refl here.group_within)
-    (λ word small led. stage_fits heap collector (after_pass heap group found (lowest_grey_of word)) fits
-    (fits_pass heap limits collector.phase collector.looked here.marks group found (lowest_grey_of word) here.group_within (grey_place word)))
+pub stage_stands_at_passing : (group : ℕ) (found : Bool) → StageStands (stages.Passing group found)
+stage_stands_at_passing group found heap collector limits fits passing here =
+    work_turn_stands heap (Turning (turning.GroupLoad group)) (λ word. record collector { stage = after_pass heap group found (lowest_grey_of word) })
+    (load_step_stands heap (Turning (turning.GroupLoad group)) refl here.group_within)
+    (λ word small led. collector_fits_at_stage heap collector (after_pass heap group found (lowest_grey_of word)) fits
+    (fits_pass heap limits collector.phase collector.looked here.marks group found (lowest_grey_of word) here.group_within (lowest_grey_within_group word)))

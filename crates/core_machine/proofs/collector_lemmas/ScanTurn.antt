@@ -8,15 +8,15 @@ use Rattle.core_machine.specs.declared.collector.stage.Stage.TheVariants as stag
 use Rattle.core_machine.specs.declared.step.TurningStep.TheVariants as turning
 use Rattle.core_machine.specs.collector.Marking.{part_after, scan_step, scan_at, after_scan_load, array_at, after_first_load}
 use Rattle.core_machine.specs.collector.FitsTurns.{FitsStage, IsMarking, IsScanning}
-use Rattle.core_machine.proofs.collector_lemmas.Standing.{StageStands, work_stands, stage_fits}
-use Rattle.core_machine.proofs.table_lemmas.Bits.{bool_tells}
-use Rattle.core_machine.proofs.table_lemmas.Lengths.{length_few}
-use Rattle.core_machine.proofs.table_lemmas.StepStands.{load_stands}
+use Rattle.core_machine.proofs.collector_lemmas.Standing.{StageStands, work_turn_stands, collector_fits_at_stage}
+use Rattle.core_machine.proofs.table_lemmas.Bits.{true_or_false}
+use Rattle.core_machine.proofs.table_lemmas.Lengths.{array_length_is_small}
+use Rattle.core_machine.proofs.table_lemmas.StepStands.{load_step_stands}
 
 -- each word comes after the one before it, and none after the fourth
 after_part : (part word : ℕ) → part < 4 → (part < part_after part word) × (part_after part word ≤ 4)
 after_part part word within = elim (eqb_tells part 0) as (λ _. (part < part_after part word) × (part_after part word ≤ 4)) [
-  | inl first ↦ elim (bool_tells (is_meta word)) as (λ _. (part < part_after part word) × (part_after part word ≤ 4)) [
+  | inl first ↦ elim (true_or_false (is_meta word)) as (λ _. (part < part_after part word) × (part_after part word ≤ 4)) [
     | inl meta ↦ rw (first.0, meta) (omega (arith, first.1), omega arith)
     | inr link ↦ rw (first.0, link) (omega (arith, first.1), omega arith)
   ]
@@ -25,8 +25,8 @@ after_part part word within = elim (eqb_tells part 0) as (λ _. (part < part_aft
 
 module _ (heap : Heap) (phase looked : ℕ) (marks : IsMarking heap.seats phase looked) (scan : Scan) (within : scan.fragment < 16 * heap.groups) where
   -- the scan comes to a word by few steps
-  pub fits_at : (part : ℕ) → part ≤ 4 → scan.steps ≤ 2 * part → FitsStage heap phase looked (scan_at scan part)
-  fits_at part below few = elim (leb_tells (suc part) 4) as (λ _. FitsStage heap phase looked (scan_at scan part)) [
+  pub scan_place_fits : (part : ℕ) → part ≤ 4 → scan.steps ≤ 2 * part → FitsStage heap phase looked (scan_at scan part)
+  scan_place_fits part below few = elim (leb_tells (suc part) 4) as (λ _. FitsStage heap phase looked (scan_at scan part)) [
     | inl more ↦ rw more.0 (record { marks = marks; fragment_within = within; part_within = more.1; few_steps = few })
     | inr all ↦ rw all.0 (record { marks = marks; fragment_within = within; few_steps = omega (arith, below, few) })
   ]
@@ -34,7 +34,7 @@ module _ (heap : Heap) (phase looked : ℕ) (marks : IsMarking heap.seats phase 
 fits_scan : (heap : Heap) (phase looked : ℕ) (scan : Scan) (next : ℕ) (target : Option ℕ) → IsScanning heap phase looked scan → scan.part < next → next ≤ 4
     → IsWithinHeap heap target → FitsStage heap phase looked (after_scan_load scan next target)
 fits_scan heap phase looked scan next None here before below led =
-    fits_at heap phase looked here.marks (scan_step scan) here.fragment_within next below (omega (arith, here.few_steps))
+    scan_place_fits heap phase looked here.marks (scan_step scan) here.fragment_within next below (omega (arith, here.few_steps))
 fits_scan heap phase looked scan next (Some target) here before below led = record {
   marks = here.marks;
   fragment_within = here.fragment_within;
@@ -48,7 +48,7 @@ fits_scan heap phase looked scan next (Some target) here before below led = reco
 -- a fragment's first word alone tells the length of an array
 pub array_told : (part word : ℕ) → IfSome (array_at part word) (λ cells. (part ≡ 0) × (cells < 2 ^ 13))
 array_told part word = elim (eqb_tells part 0) as (λ _. IfSome (array_at part word) (λ cells. (part ≡ 0) × (cells < 2 ^ 13))) [
-  | inl first ↦ rw first.0 (on (array_length_of word) first.1 (length_few word))
+  | inl first ↦ rw first.0 (on (array_length_of word) first.1 (array_length_is_small word))
   | inr later ↦ rw later.0 tt
 ]
   where
@@ -67,11 +67,11 @@ fits_first_load heap phase looked scan (Some cells) next target here told before
   first_step = omega (arith, here.few_steps, told.0);
 }
 
-pub scan_stands : (scan : Scan) → StageStands (stages.Scanning scan)
-scan_stands scan heap collector limits fits scanning here =
-    work_stands heap (Turning (turning.ScanLoad scan.fragment scan.part))
+pub stage_stands_at_scanning : (scan : Scan) → StageStands (stages.Scanning scan)
+stage_stands_at_scanning scan heap collector limits fits scanning here =
+    work_turn_stands heap (Turning (turning.ScanLoad scan.fragment scan.part))
     (λ word. record collector { stage = after_first_load scan (array_at scan.part word) (part_after scan.part word) (pointer_in scan.part word) })
-    (load_stands heap (Turning (turning.ScanLoad scan.fragment scan.part)) refl (here.fragment_within, here.part_within))
+    (load_step_stands heap (Turning (turning.ScanLoad scan.fragment scan.part)) refl (here.fragment_within, here.part_within))
     (λ word small led. let after = after_part scan.part word here.part_within in
-    stage_fits heap collector (after_first_load scan (array_at scan.part word) (part_after scan.part word) (pointer_in scan.part word)) fits
+    collector_fits_at_stage heap collector (after_first_load scan (array_at scan.part word) (part_after scan.part word) (pointer_in scan.part word)) fits
     (fits_first_load heap collector.phase collector.looked scan (array_at scan.part word) (part_after scan.part word) (pointer_in scan.part word) here (array_told scan.part word) after.0 after.1 led))

@@ -19,9 +19,9 @@ StageStands stage = (heap : Heap) (collector : Collector) → IsHeap heap → Co
     → FitsStage heap collector.phase collector.looked stage → TurnStands heap (turn_at heap collector stage)
 
 -- a turn that adds no entry
-pub quiet_stands : (heap : Heap) (step : Step) (told : ℕ → Collector) (answer : ℕ → Turn) → StepStands heap step
+pub quiet_turn_stands : (heap : Heap) (step : Step) (told : ℕ → Collector) (answer : ℕ → Turn) → StepStands heap step
     → ((found : ℕ) → found < 2 ^ 64 → FoundPointsWithin heap (address_of step) found → CollectorFits heap (told found)) → TurnStands heap (quiet_turn step told answer)
-quiet_stands heap step told answer stands fits = record {
+quiet_turn_stands heap step told answer stands fits = record {
   step = stands;
   fits = λ found small led may. record {
     phase_within = (fits found small led).phase_within;
@@ -31,19 +31,19 @@ quiet_stands heap step told answer stands fits = record {
 }
 
 -- another stage in the same phase
-pub stage_fits : (heap : Heap) (collector : Collector) (stage : Stage) → CollectorFits heap collector → FitsStage heap collector.phase collector.looked stage
+pub collector_fits_at_stage : (heap : Heap) (collector : Collector) (stage : Stage) → CollectorFits heap collector → FitsStage heap collector.phase collector.looked stage
     → CollectorFits heap (record collector { stage = stage })
-stage_fits heap collector stage fits here = record { phase_within = fits.phase_within; phase_told = fits.phase_told; at_stage = here }
+collector_fits_at_stage heap collector stage fits here = record { phase_within = fits.phase_within; phase_told = fits.phase_told; at_stage = here }
 
 -- a turn of a phase's work that adds no entry
-pub work_stands : (heap : Heap) (step : Step) (told : ℕ → Collector) → StepStands heap step
+pub work_turn_stands : (heap : Heap) (step : Step) (told : ℕ → Collector) → StepStands heap step
     → ((found : ℕ) → found < 2 ^ 64 → FoundPointsWithin heap (address_of step) found → CollectorFits heap (told found)) → TurnStands heap (work_turn step told)
-work_stands heap step told stands fits = quiet_stands heap step told (λ found. Stepped) stands fits
+work_turn_stands heap step told stands fits = quiet_turn_stands heap step told (λ found. Stepped) stands fits
 
 -- a turn that begins the next phase of which this entry tells
-pub begin_fits : (heap : Heap) (collector : Collector) (entry : Entry) → IsHeap heap → CollectorFits heap collector → collector.phase < 2 ^ 64 - 2
+pub collector_fits_at_begin : (heap : Heap) (collector : Collector) (entry : Entry) → IsHeap heap → CollectorFits heap collector → collector.phase < 2 ^ 64 - 2
     → CollectorFits heap (record (after_advance collector) { log = collector.log ++ entry ∷ [] })
-begin_fits heap collector entry limits fits may = record {
+collector_fits_at_begin heap collector entry limits fits may = record {
   phase_within = omega (arith, may);
   phase_told = omega (arith, fits.phase_told, length-append collector.log (entry ∷ []));
   at_stage = omega (arith, limits.some_seat);

@@ -8,11 +8,11 @@ use Rattle.core_machine.specs.declared.collector.stage.Stage.TheVariants as stag
 use Rattle.core_machine.specs.declared.step.TurningStep.TheVariants as turning
 use Rattle.core_machine.specs.collector.Sweeping.{dead_bits_of, next_place_of, after_swept, after_examined, after_freed}
 use Rattle.core_machine.specs.collector.FitsTurns.{FitsStage, IsSweeping}
-use Rattle.core_machine.proofs.collector_lemmas.Standing.{StageStands, work_stands, stage_fits}
-use Rattle.core_machine.proofs.table_lemmas.DeadBits.{dead_few, place_stands, place_from}
-use Rattle.core_machine.proofs.table_lemmas.Lengths.{spine_words_few}
-use Rattle.core_machine.proofs.table_lemmas.StepStands.{load_stands}
-use Rattle.core_machine.proofs.table_lemmas.Wide.{and_wide}
+use Rattle.core_machine.proofs.collector_lemmas.Standing.{StageStands, work_turn_stands, collector_fits_at_stage}
+use Rattle.core_machine.proofs.table_lemmas.DeadBits.{dead_bits_within_group, next_place_has_bit, next_place_not_before}
+use Rattle.core_machine.proofs.table_lemmas.Lengths.{spine_words_within_limit}
+use Rattle.core_machine.proofs.table_lemmas.StepStands.{load_step_stands}
+use Rattle.core_machine.proofs.table_lemmas.Wide.{and_fits_bits}
 
 -- one more place tells of one spine more at most
 more_words : (words more place : ℕ) → words ≤ 2048 * place → more ≤ 2048 → words + more ≤ 2048 * (place + 1)
@@ -43,25 +43,25 @@ module _ (heap : Heap) (phase looked group : ℕ) (sweeps : IsSweeping heap phas
     | inr some ↦ rw some.0 (record { sweeps = sweeps; some_words = some.1; words_few = few })
   ]
 
-pub sweep_stands : (group : ℕ) → StageStands (stages.Sweeping group)
-sweep_stands group heap collector limits fits sweeping here =
-    work_stands heap (Turning (turning.GroupLoad group)) (λ word. record collector { stage = after_examined heap group (dead_bits_of word) 0 (next_place_of (dead_bits_of word) 0) })
-    (load_stands heap (Turning (turning.GroupLoad group)) refl here.group_within)
-    (λ word small led. stage_fits heap collector (after_examined heap group (dead_bits_of word) 0 (next_place_of (dead_bits_of word) 0)) fits
-    (fits_examined heap collector.phase collector.looked group here (dead_bits_of word) 0 0 (next_place_of (dead_bits_of word) 0) (dead_few word) (omega arith) (omega arith)
-    (place_stands (dead_bits_of word) 0) (place_from (dead_bits_of word) 0)))
+pub stage_stands_at_sweeping : (group : ℕ) → StageStands (stages.Sweeping group)
+stage_stands_at_sweeping group heap collector limits fits sweeping here =
+    work_turn_stands heap (Turning (turning.GroupLoad group)) (λ word. record collector { stage = after_examined heap group (dead_bits_of word) 0 (next_place_of (dead_bits_of word) 0) })
+    (load_step_stands heap (Turning (turning.GroupLoad group)) refl here.group_within)
+    (λ word small led. collector_fits_at_stage heap collector (after_examined heap group (dead_bits_of word) 0 (next_place_of (dead_bits_of word) 0)) fits
+    (fits_examined heap collector.phase collector.looked group here (dead_bits_of word) 0 0 (next_place_of (dead_bits_of word) 0) (dead_bits_within_group word) (omega arith) (omega arith)
+    (next_place_has_bit (dead_bits_of word) 0) (next_place_not_before (dead_bits_of word) 0)))
 
-pub examine_stands : (group dead place words : ℕ) → StageStands (stages.Examining group dead place words)
-examine_stands group dead place words heap collector limits fits examining here =
-    work_stands heap (Turning (turning.MetaLoad (16 * group + place))) (λ word. record collector { stage = after_examined heap group dead (words + spine_words_in word) (next_place_of dead (place + 1)) })
-    (load_stands heap (Turning (turning.MetaLoad (16 * group + place))) refl (omega (arith, here.sweeps.group_within, here.place_within), omega arith))
-    (λ word small led. stage_fits heap collector (after_examined heap group dead (words + spine_words_in word) (next_place_of dead (place + 1))) fits
+pub stage_stands_at_examining : (group dead place words : ℕ) → StageStands (stages.Examining group dead place words)
+stage_stands_at_examining group dead place words heap collector limits fits examining here =
+    work_turn_stands heap (Turning (turning.MetaLoad (16 * group + place))) (λ word. record collector { stage = after_examined heap group dead (words + spine_words_in word) (next_place_of dead (place + 1)) })
+    (load_step_stands heap (Turning (turning.MetaLoad (16 * group + place))) refl (omega (arith, here.sweeps.group_within, here.place_within), omega arith))
+    (λ word small led. collector_fits_at_stage heap collector (after_examined heap group dead (words + spine_words_in word) (next_place_of dead (place + 1))) fits
     (fits_examined heap collector.phase collector.looked group here.sweeps dead (words + spine_words_in word) (place + 1) (next_place_of dead (place + 1)) here.dead_within
-    (more_words words (spine_words_in word) place here.words_few (spine_words_few word)) (omega (arith, here.place_within)) (place_stands dead (place + 1)) (place_from dead (place + 1))))
+    (more_words words (spine_words_in word) place here.words_few (spine_words_within_limit word)) (omega (arith, here.place_within)) (next_place_has_bit dead (place + 1)) (next_place_not_before dead (place + 1))))
 
-pub free_stands : (group dead words : ℕ) → StageStands (stages.Freeing group dead words)
-free_stands group dead words heap collector limits fits freeing here = record {
-  step = record { in_table = here.sweeps.group_within; wide = λ found small. and_wide found _ small; leads = λ found led. tt };
+pub stage_stands_at_freeing : (group dead words : ℕ) → StageStands (stages.Freeing group dead words)
+stage_stands_at_freeing group dead words heap collector limits fits freeing here = record {
+  step = record { in_table = here.sweeps.group_within; wide = λ found small. and_fits_bits found _ small; leads = λ found led. tt };
   fits = λ found small led may. record {
     phase_within = fits.phase_within;
     phase_told = omega (arith, fits.phase_told, length-append collector.log (Frees (count_ones dead) ∷ []));
@@ -69,8 +69,8 @@ free_stands group dead words heap collector limits fits freeing here = record {
   };
 }
 
-pub return_stands : (group words : ℕ) → StageStands (stages.Returning group words)
-return_stands group words heap collector limits fits returning here = record {
+pub stage_stands_at_returning : (group words : ℕ) → StageStands (stages.Returning group words)
+stage_stands_at_returning group words heap collector limits fits returning here = record {
   step = record { in_table = tt; wide = λ found small. omega arith; leads = λ found led. tt };
   fits = λ found small led may. record {
     phase_within = fits.phase_within;

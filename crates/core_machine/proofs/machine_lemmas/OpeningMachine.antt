@@ -5,8 +5,8 @@ use Rattle.std.proofs.lemmas.Grind.{get_or_default_zero}
 use Rattle.core_machine.proofs.Terms.{Heap, IsHeap, Address, Phase, Answer, Budget, Control, Word, table_length, index_of, InTable, at, State, IsMachine}
 use Rattle.core_machine.specs.declared.table.address.Address.TheVariants.{Spot, Spine}
 use Rattle.core_machine.specs.machine.Opening.{IsOpening, opening_word, board, board_name}
-use Rattle.core_machine.proofs.machine_lemmas.Opens.{machine_opens}
-use Rattle.core_machine.proofs.table_lemmas.Wide.{record_wide}
+use Rattle.core_machine.proofs.machine_lemmas.Opens.{opened_is_machine}
+use Rattle.core_machine.proofs.table_lemmas.Wide.{record_word_fits_bits}
 
 -- the address of the word at an index of the table
 record Addressed (heap : Heap) (i : ℕ) : Type 0 where
@@ -75,7 +75,7 @@ opening_wide heap Budget = omega arith
 opening_wide heap Spot = omega arith
 opening_wide heap (Control group) = elim (eqb_tells group 0) as (λ _. opening_word heap (Control group) < 2 ^ 64) [ inl first ↦ rw first.0 (omega arith) | inr later ↦ rw later.0 (omega arith) ]
 opening_wide heap (Word fragment part) = elim (leb_tells (suc fragment) 11) as (λ _. opening_word heap (Word fragment part) < 2 ^ 64) [
-  | inl of_board ↦ rw of_board.0 (record_wide board_name 32 (board heap) fragment part (omega arith) (omega arith) (omega arith) (board_small heap))
+  | inl of_board ↦ rw of_board.0 (record_word_fits_bits board_name 32 (board heap) fragment part (omega arith) (omega arith) (omega arith) (board_small heap))
   | inr free ↦ rw free.0 (omega arith)
 ]
 opening_wide heap (Spine half offset) = omega arith
@@ -84,9 +84,9 @@ word_at : (heap : Heap) (words : List ℕ) (a : Address) → at heap words a ≡
 unfolding at
 word_at heap words a = refl
 
-pub opening_machine : (heap : Heap) (state : State) → IsHeap heap → IsOpening heap state → IsMachine heap state
-opening_machine heap state limits opens =
-    machine_opens heap state.words state.seats state.collector limits opens.table wide opens.words_open opens.seats_open opens.nothing_done
+pub opening_is_machine : (heap : Heap) (state : State) → IsHeap heap → IsOpening heap state → IsMachine heap state
+opening_is_machine heap state limits opens =
+    opened_is_machine heap state.words state.seats state.collector limits opens.table wide opens.words_open opens.seats_open opens.nothing_done
   where
     wide : All (λ word. word < 2 ^ 64) state.words
     wide i d below =

@@ -15,8 +15,8 @@ use Rattle.core_machine.specs.machine.Opening.{board, board_name, board_word, bo
 use Rattle.heap_model.specs.declared.id.Id.TheVariants.{Board}
 use Rattle.core_machine.specs.collector.Collector.{Collector, opening_collector}
 use Rattle.core_machine.specs.seat.Fits.{CollectorFits}
-use Rattle.core_machine.proofs.seat_lemmas.Aside.{gone_aside, no_hand_fits, no_way_fits}
-use Rattle.core_machine.proofs.table_lemmas.Leading.{record_leads, zero_leads}
+use Rattle.core_machine.proofs.seat_lemmas.Aside.{left_aside_is_absurd, empty_hand_fits, empty_way_fits}
+use Rattle.core_machine.proofs.table_lemmas.Leading.{record_leads_within_heap, zero_leads_within_heap}
 use Rattle.core_machine.proofs.table_lemmas.Addresses.{length-put, at-put_same, at-put_other}
 
 -- another number hasn't
@@ -28,9 +28,9 @@ with_left-other heap n number word other =
     ]
 
 -- one number more has left
-pub with_left-more : (heap : Heap) (words : List ℕ) (n : ℕ) (a : Address) (word : ℕ) → length words ≡ table_length heap → heap.seats ≤ n → n < 16
+pub put_leaves_one_more : (heap : Heap) (words : List ℕ) (n : ℕ) (a : Address) (word : ℕ) → length words ≡ table_length heap → heap.seats ≤ n → n < 16
     → InTable heap a → at heap words a ≡ with_left heap n a word → at heap (put heap words (Answer n) LEFT) a ≡ with_left heap (n + 1) a word
-with_left-more heap words n (Answer number) word table past within there is =
+put_leaves_one_more heap words n (Answer number) word table past within there is =
     elim (eqb_tells number n) as (λ _. at heap (put heap words (Answer n) LEFT) (Answer number) ≡ with_left heap (n + 1) (Answer number) word) [
       | inl here ↦
           let out : ltb number heap.seats ≡ false = le-ltb number heap.seats (omega arith) in
@@ -39,12 +39,12 @@ with_left-more heap words n (Answer number) word table past within there is =
       | inr other ↦
           at-put_other heap words (Answer n) (Answer number) LEFT within there (λ same. other.1 (cc same)) ∙ is ∙ with_left-other heap n number word other.1
     ]
-with_left-more heap words n Phase word table past within there is = at-put_other heap words (Answer n) Phase LEFT within tt (λ e. cc) ∙ is
-with_left-more heap words n Budget word table past within there is = at-put_other heap words (Answer n) Budget LEFT within tt (λ e. cc) ∙ is
-with_left-more heap words n Spot word table past within there is = at-put_other heap words (Answer n) Spot LEFT within tt (λ e. cc) ∙ is
-with_left-more heap words n (Control group) word table past within there is = at-put_other heap words (Answer n) (Control group) LEFT within there (λ e. cc) ∙ is
-with_left-more heap words n (Word fragment part) word table past within there is = at-put_other heap words (Answer n) (Word fragment part) LEFT within there (λ e. cc) ∙ is
-with_left-more heap words n (Spine half offset) word table past within there is = at-put_other heap words (Answer n) (Spine half offset) LEFT within there (λ e. cc) ∙ is
+put_leaves_one_more heap words n Phase word table past within there is = at-put_other heap words (Answer n) Phase LEFT within tt (λ e. cc) ∙ is
+put_leaves_one_more heap words n Budget word table past within there is = at-put_other heap words (Answer n) Budget LEFT within tt (λ e. cc) ∙ is
+put_leaves_one_more heap words n Spot word table past within there is = at-put_other heap words (Answer n) Spot LEFT within tt (λ e. cc) ∙ is
+put_leaves_one_more heap words n (Control group) word table past within there is = at-put_other heap words (Answer n) (Control group) LEFT within there (λ e. cc) ∙ is
+put_leaves_one_more heap words n (Word fragment part) word table past within there is = at-put_other heap words (Answer n) (Word fragment part) LEFT within there (λ e. cc) ∙ is
+put_leaves_one_more heap words n (Spine half offset) word table past within there is = at-put_other heap words (Answer n) (Spine half offset) LEFT within there (λ e. cc) ∙ is
 
 -- the next of the board's words
 abbrev pub next_word : Heap → ℕ → ℕ
@@ -59,10 +59,10 @@ with_board-other heap fragment part place word other =
       | inr above ↦ rw (above.0, le-ltb (4 * fragment + part) (place + 1) (omega arith)) refl
     ]
 
-pub with_board-more : (heap : Heap) (words : List ℕ) (place : ℕ) (a : Address) (word : ℕ) → length words ≡ table_length heap → 1 ≤ heap.groups → place < 44
+pub put_boards_one_more : (heap : Heap) (words : List ℕ) (place : ℕ) (a : Address) (word : ℕ) → length words ≡ table_length heap → 1 ≤ heap.groups → place < 44
     → InTable heap a → at heap words a ≡ with_board heap place a word
     → at heap (put heap words (Word (place / 4) (place % 4)) (next_word heap place)) a ≡ with_board heap (place + 1) a word
-with_board-more heap words place (Word fragment part) word table some within there is =
+put_boards_one_more heap words place (Word fragment part) word table some within there is =
     elim (eqb_tells (4 * fragment + part) place) as (λ _. at heap (put heap words (Word (place / 4) (place % 4)) (next_word heap place)) (Word fragment part) ≡ with_board heap (place + 1) (Word fragment part) word) [
       | inl here ↦
           let f : place / 4 ≡ fragment = omega arith in
@@ -74,12 +74,12 @@ with_board-more heap words place (Word fragment part) word table some within the
           (λ same. other.1 (let f : fragment ≡ place / 4 = cc in let p : part ≡ place % 4 = cc in omega arith))
           ∙ is ∙ with_board-other heap fragment part place word other.1
     ]
-with_board-more heap words place (Answer number) word table some within there is = at-put_other heap words (Word (place / 4) (place % 4)) (Answer number) (next_word heap place) (omega arith, omega arith) there (λ e. cc) ∙ is
-with_board-more heap words place Phase word table some within there is = at-put_other heap words (Word (place / 4) (place % 4)) Phase (next_word heap place) (omega arith, omega arith) tt (λ e. cc) ∙ is
-with_board-more heap words place Budget word table some within there is = at-put_other heap words (Word (place / 4) (place % 4)) Budget (next_word heap place) (omega arith, omega arith) tt (λ e. cc) ∙ is
-with_board-more heap words place Spot word table some within there is = at-put_other heap words (Word (place / 4) (place % 4)) Spot (next_word heap place) (omega arith, omega arith) tt (λ e. cc) ∙ is
-with_board-more heap words place (Control group) word table some within there is = at-put_other heap words (Word (place / 4) (place % 4)) (Control group) (next_word heap place) (omega arith, omega arith) there (λ e. cc) ∙ is
-with_board-more heap words place (Spine half offset) word table some within there is = at-put_other heap words (Word (place / 4) (place % 4)) (Spine half offset) (next_word heap place) (omega arith, omega arith) there (λ e. cc) ∙ is
+put_boards_one_more heap words place (Answer number) word table some within there is = at-put_other heap words (Word (place / 4) (place % 4)) (Answer number) (next_word heap place) (omega arith, omega arith) there (λ e. cc) ∙ is
+put_boards_one_more heap words place Phase word table some within there is = at-put_other heap words (Word (place / 4) (place % 4)) Phase (next_word heap place) (omega arith, omega arith) tt (λ e. cc) ∙ is
+put_boards_one_more heap words place Budget word table some within there is = at-put_other heap words (Word (place / 4) (place % 4)) Budget (next_word heap place) (omega arith, omega arith) tt (λ e. cc) ∙ is
+put_boards_one_more heap words place Spot word table some within there is = at-put_other heap words (Word (place / 4) (place % 4)) Spot (next_word heap place) (omega arith, omega arith) tt (λ e. cc) ∙ is
+put_boards_one_more heap words place (Control group) word table some within there is = at-put_other heap words (Word (place / 4) (place % 4)) (Control group) (next_word heap place) (omega arith, omega arith) there (λ e. cc) ∙ is
+put_boards_one_more heap words place (Spine half offset) word table some within there is = at-put_other heap words (Word (place / 4) (place % 4)) (Spine half offset) (next_word heap place) (omega arith, omega arith) there (λ e. cc) ∙ is
 
 -- a list of one number reads as that number, and so it does past its end
 read_same : (n i number : ℕ) → get_or (replicate n number) i number ≡ number
@@ -89,9 +89,9 @@ read_same n i number = elim (leb_tells (suc i) n) as (λ _. get_or (replicate n 
 ]
 
 -- a table of zeros
-pub at-zeros : (heap : Heap) (words : List ℕ) (a : Address) → words ≡ replicate (table_length heap) 0 → at heap words a ≡ 0
+pub zeros_read_zero : (heap : Heap) (words : List ℕ) (a : Address) → words ≡ replicate (table_length heap) 0 → at heap words a ≡ 0
 unfolding at
-at-zeros heap words a is = rw is (read_same (table_length heap) (index_of heap a) 0)
+zeros_read_zero heap words a is = rw is (read_same (table_length heap) (index_of heap a) 0)
 
 -- the word of the spot
 abbrev pub spot_word_of : ℕ
@@ -105,25 +105,25 @@ between heap left a spot group some within apart away =
 
 module _ (heap : Heap) (zeros left words : List ℕ) (some : 1 ≤ heap.groups) (table : length left ≡ table_length heap) where
   -- the words, once all is written, are those of the opening
-  pub opens : (a : Address) → InTable heap a → at heap zeros a ≡ 0 → at heap left a ≡ with_left heap 16 a (at heap zeros a)
+  pub words_are_opening_words : (a : Address) → InTable heap a → at heap zeros a ≡ 0 → at heap left a ≡ with_left heap 16 a (at heap zeros a)
       → at heap words a ≡ with_board heap 44 a (at heap (put heap (put heap left Spot spot_word_of) (Control 0) (board_group heap)) a)
       → at heap words a ≡ opening_word heap a
-  opens Phase within zero left_is is = is ∙ between heap left Phase spot_word_of (board_group heap) some within (λ e. cc) (λ e. cc) ∙ left_is ∙ zero
-  opens Budget within zero left_is is = is ∙ between heap left Budget spot_word_of (board_group heap) some within (λ e. cc) (λ e. cc) ∙ left_is ∙ zero
-  opens (Spine half offset) within zero left_is is = is ∙ between heap left (Spine half offset) spot_word_of (board_group heap) some within (λ e. cc) (λ e. cc) ∙ left_is ∙ zero
-  opens Spot within zero left_is is =
+  words_are_opening_words Phase within zero left_is is = is ∙ between heap left Phase spot_word_of (board_group heap) some within (λ e. cc) (λ e. cc) ∙ left_is ∙ zero
+  words_are_opening_words Budget within zero left_is is = is ∙ between heap left Budget spot_word_of (board_group heap) some within (λ e. cc) (λ e. cc) ∙ left_is ∙ zero
+  words_are_opening_words (Spine half offset) within zero left_is is = is ∙ between heap left (Spine half offset) spot_word_of (board_group heap) some within (λ e. cc) (λ e. cc) ∙ left_is ∙ zero
+  words_are_opening_words Spot within zero left_is is =
       is ∙ at-put_other heap (put heap left Spot spot_word_of) (Control 0) Spot (board_group heap) some tt (λ e. cc) ∙ at-put_same heap left Spot spot_word_of table tt
-  opens (Answer number) within zero left_is is =
+  words_are_opening_words (Answer number) within zero left_is is =
       is ∙ between heap left (Answer number) spot_word_of (board_group heap) some within (λ e. cc) (λ e. cc) ∙ left_is ∙ answers number zero within
     where
       answers : (number : ℕ) → at heap zeros (Answer number) ≡ 0 → number < 16 → with_left heap 16 (Answer number) (at heap zeros (Answer number)) ≡ opening_word heap (Answer number)
       answers number zero within = rw (zero, lt-ltb number 16 within) refl
-  opens (Control group) within zero left_is is =
+  words_are_opening_words (Control group) within zero left_is is =
       elim (eqb_tells group 0) as (λ _. at heap words (Control group) ≡ opening_word heap (Control group)) [
         | inl here ↦ rw here.0 (is ∙ ap (λ (g : ℕ). at heap (put heap (put heap left Spot spot_word_of) (Control 0) (board_group heap)) (Control g)) here.1 ∙ at-put_same heap (put heap left Spot spot_word_of) (Control 0) (board_group heap) (length-put heap left Spot spot_word_of ∙ table) some)
         | inr other ↦ rw other.0 (is ∙ between heap left (Control group) spot_word_of (board_group heap) some within (λ e. cc) (λ same. other.1 (cc same)) ∙ left_is ∙ zero)
       ]
-  opens (Word fragment part) within zero left_is is =
+  words_are_opening_words (Word fragment part) within zero left_is is =
       let rest = between heap left (Word fragment part) spot_word_of (board_group heap) some within (λ e. cc) (λ e. cc) ∙ left_is ∙ zero in
       elim (leb_tells (suc fragment) 11) as (λ _. at heap words (Word fragment part) ≡ opening_word heap (Word fragment part)) [
         | inl board_ ↦ rw board_.0 (is ∙ rw (lt-ltb (4 * fragment + part) 44 (omega arith)) refl)
@@ -147,8 +147,8 @@ opening_leads heap limits (Control group) there = tt
 opening_leads heap limits (Spine half offset) there = omega (arith, limits.some_group)
 opening_leads heap limits (Word f part) there =
     elim (leb_tells (suc f) 11) as (λ _. IsWithinHeap heap (pointer_in part (opening_word heap (Word f part)))) [
-      | inl board_ ↦ rw board_.0 (record_leads heap board_name 32 (board heap) f part (omega arith) (omega arith) (omega arith) (omega (arith, limits.some_group)) (omega (arith, limits.groups_fit)) (board_within heap limits.some_group))
-      | inr past ↦ rw past.0 (zero_leads heap part)
+      | inl board_ ↦ rw board_.0 (record_leads_within_heap heap board_name 32 (board heap) f part (omega arith) (omega arith) (omega arith) (omega (arith, limits.some_group)) (omega (arith, limits.groups_fit)) (board_within heap limits.some_group))
+      | inr past ↦ rw past.0 (zero_leads_within_heap heap part)
     ]
 
 -- a register at the opening
@@ -165,13 +165,13 @@ fits_open heap number limits = record {
     small_reserve = omega arith;
     reserve_of_cursor = All-nil (λ fragment. fragment / 16 ≡ number % heap.groups);
   };
-  hand = no_hand_fits heap;
-  way = no_way_fits heap limits.some_group;
+  hand = empty_hand_fits heap;
+  way = empty_way_fits heap limits.some_group;
   asked_small = omega arith;
   at_place = record { empty_hand = refl; no_body = refl; none_stored = refl; none_tried = refl; none_given = refl; no_spine = record { none_used = refl; no_place = refl; none_listed = refl } };
   way_at_place = record { none_reached = refl; no_links = refl; no_part = refl; no_address = refl; none_loaded = refl };
   answer_at_place = record { none_asked = refl; none_shaded = refl };
-  gone = gone_aside refl;
+  gone = left_aside_is_absurd refl;
 }
 
 -- so do the collector's
@@ -179,11 +179,11 @@ collector_opens : (heap : Heap) → IsHeap heap → CollectorFits heap opening_c
 collector_opens heap limits = record { phase_within = omega arith; phase_told = omega arith; at_stage = omega (arith, limits.some_seat) }
 
 -- a machine that opens is one
-pub machine_opens : (heap : Heap) (words : List ℕ) (seats : List Seat) (collector : Collector) → IsHeap heap → length words ≡ table_length heap → All (λ word. word < 2 ^ 64) words
+pub opened_is_machine : (heap : Heap) (words : List ℕ) (seats : List Seat) (collector : Collector) → IsHeap heap → length words ≡ table_length heap → All (λ word. word < 2 ^ 64) words
     → ((a : Address) → InTable heap a → at heap words a ≡ opening_word heap a)
     → seats ≡ map (opening_seat heap) (range_with_len 0 heap.seats) → collector ≡ opening_collector
     → IsMachine heap (record { words = words; seats = seats; collector = collector })
-machine_opens heap words seats collector limits table wide opens opened here =
+opened_is_machine heap words seats collector limits table wide opens opened here =
     let long : length seats ≡ heap.seats = ap length opened ∙ length-map-range_with_len (opening_seat heap) 0 heap.seats in
     record {
       limits = limits;

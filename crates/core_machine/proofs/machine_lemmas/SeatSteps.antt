@@ -4,8 +4,8 @@ use Rattle.std.specs.Prelude.{IfSome}
 use Rattle.core_machine.proofs.Terms.{Heap, Step, put, InTable, FoundPointsWithin, address_of, word_after, Fits, next_move, due_step, seat_after_due, seat_at, found_by, Steps}
 use Rattle.core_machine.proofs.Terms.{state_after, SeatWithRoom, MachineValue, spare_of, SpendsRoom, IsMachine}
 use Rattle.core_machine.specs.collector.Collector.{Collector}
-use Rattle.core_machine.proofs.machine_lemmas.Parties.{state_of, value_of, fits_of}
-use Rattle.core_machine.proofs.machine_lemmas.Stepping.{due_within, step_in_table, step_found, step_machine, step_state_of, step_spends, spare_before}
+use Rattle.core_machine.proofs.machine_lemmas.Parties.{state_of, value_of, partys_seat_fits}
+use Rattle.core_machine.proofs.machine_lemmas.Stepping.{due_party_is_seat, due_step_in_table, step_finds_within_heap, step_leaves_machine, step_leaves_state, step_spends_room, spare_was_partys}
 
 module _ (heap : Heap) (words : List ℕ) (parties : List SeatWithRoom) (collector : Collector) (room gone : ℕ) (value : MachineValue) (number : ℕ) (step : Step)
     (view : value_of heap words parties collector room gone ≡ value) (by_value : due_step value.heap number (seat_at value.state number) ≡ Some step) where
@@ -13,44 +13,44 @@ module _ (heap : Heap) (words : List ℕ) (parties : List SeatWithRoom) (collect
   due = subst (λ (v : MachineValue). due_step v.heap number (seat_at v.state number) ≡ Some step) (sym view) by_value
 
   within : number < length parties
-  within = due_within heap words parties collector number step due
+  within = due_party_is_seat heap words parties collector number step due
 
   -- its word is in the table
-  pub in_table_of : IsMachine heap (state_of words parties collector) → InTable heap (address_of step)
-  in_table_of machine = step_in_table heap words parties collector number step machine due
+  pub step_word_in_table : IsMachine heap (state_of words parties collector) → InTable heap (address_of step)
+  step_word_in_table machine = due_step_in_table heap words parties collector number step machine due
 
   -- the seat's data fit together
-  pub seat_fits : (party : SeatWithRoom) → party ≡ get_or parties number party → IsMachine heap (state_of words parties collector) → Fits heap party.seat
-  seat_fits party here machine = fits_of heap words parties collector number party within here machine
+  pub party_seat_fits : (party : SeatWithRoom) → party ≡ get_or parties number party → IsMachine heap (state_of words parties collector) → Fits heap party.seat
+  party_seat_fits party here machine = partys_seat_fits heap words parties collector number party within here machine
 
   -- the word that it finds leads within the heap
-  pub seat_finds : (party : SeatWithRoom) (found : ℕ) → party ≡ get_or parties number party → IsMachine heap (state_of words parties collector)
+  pub seat_finds_within_heap : (party : SeatWithRoom) (found : ℕ) → party ≡ get_or parties number party → IsMachine heap (state_of words parties collector)
       → found ≡ found_by heap (state_of words parties collector) step → IfSome (next_move heap number party.seat) (λ m. FoundPointsWithin heap (address_of m.step) found)
-  seat_finds party found here machine is =
-      step_found heap words parties collector room gone number party party within here step found machine due is
+  seat_finds_within_heap party found here machine is =
+      step_finds_within_heap heap words parties collector room gone number party party within here step found machine due is
 
   -- the party has the room that the value says
   pub seat_room : (party : SeatWithRoom) → party ≡ get_or parties number party → 2 ≤ spare_of value number → 1 < party.spare
   seat_room party here room_ =
-      let is = spare_before heap words parties collector room gone number party party within here in
+      let is = spare_was_partys heap words parties collector room gone number party party within here in
       omega (arith, is, rw (← view) at room_)
 
   -- the party that got room loses no more than its new entries take
-  pub seat_spends : (party next : SeatWithRoom) (now : List ℕ) → party ≡ get_or parties number party
+  pub seat_step_spends_room : (party next : SeatWithRoom) (now : List ℕ) → party ≡ get_or parties number party
       → next.forgotten ≡ party.forgotten → party.spare + length party.seat.mine ≤ next.spare + length next.seat.mine → SpendsRoom value (value_of heap now (set parties number next) collector room gone) number
-  seat_spends party next now here same own =
+  seat_step_spends_room party next now here same own =
       subst (λ (v : MachineValue). SpendsRoom v (value_of heap now (set parties number next) collector room gone) number) view
-      (step_spends heap words parties collector room gone number party next within here now same own)
+      (step_spends_room heap words parties collector room gone number party next within here now same own)
 
   module _ (party next : SeatWithRoom) (found : ℕ) (now : List ℕ) (here : party ≡ get_or parties number party) (is : found ≡ found_by heap (state_of words parties collector) step)
       (now_is : now ≡ put heap words (address_of step) (word_after step found)) (moved_ : next.seat ≡ seat_after_due party.seat (next_move heap number party.seat) found) where
     step_leaves : state_of now (set parties number next) collector ≡ state_after heap (state_of words parties collector) (Steps number)
-    step_leaves = step_state_of heap words parties collector room gone number party next within here step found now due is now_is moved_
+    step_leaves = step_leaves_state heap words parties collector room gone number party next within here step found now due is now_is moved_
 
     -- it leaves the state after it
-    pub seat_leaves : state_of now (set parties number next) collector ≡ state_after value.heap value.state (Steps number)
-    seat_leaves = subst (λ (v : MachineValue). state_of now (set parties number next) collector ≡ state_after v.heap v.state (Steps number)) view step_leaves
+    pub seat_step_leaves_state : state_of now (set parties number next) collector ≡ state_after value.heap value.state (Steps number)
+    seat_step_leaves_state = subst (λ (v : MachineValue). state_of now (set parties number next) collector ≡ state_after v.heap v.state (Steps number)) view step_leaves
 
     -- and a machine
-    pub seat_machine : IsMachine heap (state_of words parties collector) → IsMachine heap (state_of now (set parties number next) collector)
-    seat_machine machine = step_machine heap words parties collector room gone number party next within here step now due step_leaves machine
+    pub seat_step_leaves_machine : IsMachine heap (state_of words parties collector) → IsMachine heap (state_of now (set parties number next) collector)
+    seat_step_leaves_machine machine = step_leaves_machine heap words parties collector room gone number party next within here step now due step_leaves machine

@@ -15,14 +15,14 @@ use Rattle.heap_model.specs.declared.command.Command.TheVariants as commands
 use Rattle.core_machine.specs.Moves.{takes_some}
 use Rattle.core_machine.specs.declared.place.Place.TheVariants as places
 use Rattle.core_machine.specs.seat.MakingMoves.{claim_move, first_part, give_back_move, refusal_looks, refusal_move}
-use Rattle.core_machine.proofs.call_lemmas.Awaits.{plain, after_words, goes_on_mine}
-use Rattle.core_machine.proofs.moves.Standing.{PlaceStands, present_at, aside_at, CommandStands, rest_ready}
-use Rattle.core_machine.proofs.seat_lemmas.Aside.{IsAside, gone_aside, fits_over, fits_hand, aside_idle}
-use Rattle.core_machine.proofs.seat_lemmas.Fitting.{need_of_object, fits_goes_on, fits_returning, goes_on_cases, returning_cases, settled_cases, gathers_at_rest, next_within}
+use Rattle.core_machine.proofs.call_lemmas.Awaits.{adds_where_none_awaited, after_words, own_list_same_going_on}
+use Rattle.core_machine.proofs.moves.Standing.{PlaceStands, call_place_has_not_left, place_is_aside, CommandStands, ready_is_at_rest}
+use Rattle.core_machine.proofs.seat_lemmas.Aside.{IsAside, left_aside_is_absurd, fits_after_call, fits_with_hand, idle_is_aside}
+use Rattle.core_machine.proofs.seat_lemmas.Fitting.{object_need_within_limits, fits_going_on, refusal_place_fits, goes_on_cases, returning_cases, settled_cases, gathered_at_rest, next_group_within_heap}
 use Rattle.core_machine.proofs.table_lemmas.Clear.{length-clear_among}
-use Rattle.core_machine.proofs.table_lemmas.Filters.{out_shorter}
-use Rattle.core_machine.proofs.table_lemmas.Owned.{group_within, clear_in-group, within_group}
-use Rattle.core_machine.proofs.table_lemmas.StepStands.{StepStands, load_stands, take_back_stands}
+use Rattle.core_machine.proofs.table_lemmas.Filters.{part_out_is_shorter}
+use Rattle.core_machine.proofs.table_lemmas.Owned.{fragments_group_within_heap, clear_is_of_group, group_fragments_within_heap}
+use Rattle.core_machine.proofs.table_lemmas.StepStands.{StepStands, load_step_stands, take_back_step_stands}
 
 -- what is past the need after a claim is of the group that was claimed
 claimed_rest : (group need : ℕ) (reserve hand more : List ℕ) → length reserve + length hand ≤ need
@@ -42,13 +42,13 @@ fits_claimed heap seat found fits aside is =
     let some = length-clear_among group found 16 in
     let last : seat.cursor + (seat.tried + 1) - 1 ≡ seat.cursor + seat.tried = omega arith in
     let made_one : eqb (seat.tried + 1) 0 ≡ false = grind arith in
-    fits_goes_on heap (record seat { hand = seat.hand ++ clear_in group found; tried = seat.tried + 1 }) record {
+    fits_going_on heap (record seat { hand = seat.hand ++ clear_in group found; tried = seat.tried + 1 }) record {
       registers_whole = fits.own.registers_whole;
       cursor_within = fits.own.cursor_within;
       small_reserve = fits.own.small_reserve;
       reserve_of_cursor = fits.own.reserve_of_cursor;
       hand_within = All-append (λ fragment. fragment < 16 * heap.groups) seat.hand (clear_in group found) fits.hand.hand_within
-          (within_group heap group (clear_in group found) (next_within heap seat fits.own.cursor_within) (clear_in-group group found));
+          (group_fragments_within_heap heap group (clear_in group found) (next_group_within_heap heap seat fits.own.cursor_within) (clear_is_of_group group found));
       makes = is.makes;
       no_spine = is.no_spine;
       no_body = is.no_body;
@@ -56,7 +56,7 @@ fits_claimed heap seat found fits aside is =
       none_given = is.none_given;
       tried_within = omega (arith, is.groups_left);
       few = omega (arith, is.too_few);
-      rest_of_last = rw (made_one, last) (claimed_rest group (need seat) seat.reserve seat.hand (clear_in group found) (omega (arith, is.too_few)) (clear_in-group group found));
+      rest_of_last = rw (made_one, last) (claimed_rest group (need seat) seat.reserve seat.hand (clear_in group found) (omega (arith, is.too_few)) (clear_is_of_group group found));
       aside = aside;
     }
 
@@ -74,7 +74,7 @@ pub nears_gathered : (heap : Heap) (seat : Seat) (more : List Entry) (owed steps
     → (length (fragments_gathered seat) < need seat → 2 * need seat - length (fragments_gathered seat) + length more ≤ owed)
     → Nears heap (with_entries (gather_next heap seat) more) owed steps (length more)
 nears_gathered heap seat more owed steps makes none fewer paid lacking =
-    let some = need_of_object seat.command makes.an_object makes.in_range in
+    let some = object_need_within_limits seat.command makes.an_object makes.in_range in
     let before = length-append seat.reserve seat.hand in
     let used = length-take (need seat) (fragments_gathered seat) in
     goes_on_cases (λ s. Nears heap (with_entries s more) owed steps (length more)) heap seat
@@ -92,29 +92,29 @@ nears_claimed : (heap : Heap) (number : ℕ) (seat : Seat) (found : ℕ) → Sea
 nears_claimed heap number seat found is =
     let got = clear_in (next_group_of heap seat) found in
     let few = takes_few number (length got) in
-    let some = need_of_object seat.command is.makes.an_object is.makes.in_range in
+    let some = object_need_within_limits seat.command is.makes.an_object is.makes.in_range in
     let before = length-append seat.reserve seat.hand in
     let all = length-append seat.reserve (seat.hand ++ got) in
     let hand = length-append seat.hand got in
     nears_gathered heap (record seat { hand = seat.hand ++ got; tried = seat.tried + 1 }) (takes_some number (length got)) (owes_making seat Gathering) (making_steps heap seat Gathering) is.makes is.none_stored
     (omega (arith, is.groups_left)) (omega (arith, before, is.too_few, few.1, some.0)) (λ lacks. omega (arith, before, all, hand, few.0, lacks))
 
-pub goes_on_awaits : (heap : Heap) (words : List ℕ) (number : ℕ) (seat : Seat) (more : List Entry) → entries_awaited heap words number (with_entries (gather_next heap seat) more) ≡ []
-goes_on_awaits heap words number seat more =
+pub going_on_awaits_none : (heap : Heap) (words : List ℕ) (number : ℕ) (seat : Seat) (more : List Entry) → entries_awaited heap words number (with_entries (gather_next heap seat) more) ≡ []
+going_on_awaits_none heap words number seat more =
     goes_on_cases (λ s. entries_awaited heap words number (with_entries s more) ≡ []) heap seat (λ enough. refl) (λ few left. refl) (λ few all. refl)
 
 -- a group is claimed
-pub claim_stands : PlaceStands (places.Making Gathering)
-claim_stands heap number seat here =
+pub place_stands_at_gathering : PlaceStands (places.Making Gathering)
+place_stands_at_gathering heap number seat here =
     let got : ℕ → List ℕ = λ found. clear_in (next_group_of heap seat) found in
     let next : ℕ → Seat = λ found. record seat { hand = seat.hand ++ got found; tried = seat.tried + 1 } in
     let move = claim_move heap number seat in
     record {
-      step = record { in_table = next_within heap seat here.fits.own.cursor_within; wide = λ found small. or_lt 64 found all_taken small (omega arith); leads = λ found led. tt };
-      fits = λ found small led. fits_claimed heap seat found here.fits (aside_at heap number seat (places.Making Gathering) here (λ e. cc) here.way here.answer) here.hand;
+      step = record { in_table = next_group_within_heap heap seat here.fits.own.cursor_within; wide = λ found small. or_lt 64 found all_taken small (omega arith); leads = λ found led. tt };
+      fits = λ found small led. fits_claimed heap seat found here.fits (place_is_aside heap number seat (places.Making Gathering) here (λ e. cc) here.way here.answer) here.hand;
       near = λ found. nears_claimed heap number seat found here.hand;
       adds = λ now. let found = found_by heap now move.step in
-          plain heap now number seat move (goes_on_mine heap (next found)) (rw here.placed refl) (goes_on_awaits heap (after_words heap now number seat move) number (next found) (move.adds found)) refl;
+          adds_where_none_awaited heap now number seat move (own_list_same_going_on heap (next found)) (rw here.placed refl) (going_on_awaits_none heap (after_words heap now number seat move) number (next found) (move.adds found)) refl;
     }
 
 -- some fragments were given back
@@ -122,64 +122,64 @@ fits_given_back : (heap : Heap) (seat : Seat) → Fits heap seat → IsAside hea
 fits_given_back heap seat fits aside is =
     let group = first_group_of seat.hand in
     let both = length-filter_both (in_group group) (out_of_group group) (λ fragment. refl) seat.hand in
-    fits_hand heap seat (part_out group seat.hand) seat.stored seat.tried (seat.given + length (part_in group seat.hand)) (places.Making (refusal_place (part_out group seat.hand))) fits aside
+    fits_with_hand heap seat (part_out group seat.hand) seat.stored seat.tried (seat.given + length (part_in group seat.hand)) (places.Making (refusal_place (part_out group seat.hand))) fits aside
     (All-filter (out_of_group group) (λ fragment. fragment < 16 * heap.groups) seat.hand fits.hand.hand_within)
-    (fits_returning heap (after_give_back seat) (part_out group seat.hand)
+    (refusal_place_fits heap (after_give_back seat) (part_out group seat.hand)
     (record { makes = is.makes; no_spine = is.no_spine; no_body = is.no_body; none_stored = is.none_stored; all_tried = is.all_tried; too_few = omega (arith, is.too_few) }) refl)
     aside.nowhere aside.silent
 
 nears_given_back : (heap : Heap) (seat : Seat) (entry : Entry) → 0 < length seat.hand
     → Nears heap (with_entries (after_give_back seat) (entry ∷ [])) (length seat.hand + 1) (length seat.hand + 1) 1
 nears_given_back heap seat entry some =
-    let less = out_shorter (first_group_of seat.hand) seat.hand 0 some refl in
+    let less = part_out_is_shorter (first_group_of seat.hand) seat.hand 0 some refl in
     returning_cases (λ m. Nears heap (with_entries (record (after_give_back seat) { place = places.Making m }) (entry ∷ [])) (length seat.hand + 1) (length seat.hand + 1) 1)
     (part_out (first_group_of seat.hand) seat.hand)
     (λ empty. record { fewer = omega arith; paid = omega arith }) (λ left. record { fewer = omega arith; paid = omega arith })
 
 -- a group is given back
-pub give_back_stands : PlaceStands (places.Making GivingBack)
-give_back_stands heap number seat here = record {
+pub place_stands_at_returning : PlaceStands (places.Making GivingBack)
+place_stands_at_returning heap number seat here = record {
   step = record {
-    in_table = group_within heap seat.hand 0 here.hand.1 here.fits.hand.hand_within;
+    in_table = fragments_group_within_heap heap seat.hand 0 here.hand.1 here.fits.hand.hand_within;
     wide = λ found small. let le = and_le_r found (2 ^ 64 - 1 - mask_of (first_part seat)) in omega arith;
     leads = λ found led. tt;
   };
-  fits = λ found small led. fits_given_back heap seat here.fits (aside_at heap number seat (places.Making GivingBack) here (λ e. cc) here.way here.answer) here.hand.0;
+  fits = λ found small led. fits_given_back heap seat here.fits (place_is_aside heap number seat (places.Making GivingBack) here (λ e. cc) here.way here.answer) here.hand.0;
   near = λ found. nears_given_back heap seat _ here.hand.1;
-  adds = λ now. plain heap now number seat (give_back_move number seat) refl (rw here.placed refl) refl refl;
+  adds = λ now. adds_where_none_awaited heap now number seat (give_back_move number seat) refl (rw here.placed refl) refl refl;
 }
 
 -- the step at which a refusal is told
 refusal_step_stands : (heap : Heap) (command : Command) (words : ℕ) → StepStands heap (refusal_step command words)
-refusal_step_stands heap (commands.Array d cells) words = take_back_stands heap words
-refusal_step_stands heap _ words = load_stands heap PollLoad refl tt
+refusal_step_stands heap (commands.Array d cells) words = take_back_step_stands heap words
+refusal_step_stands heap _ words = load_step_stands heap PollLoad refl tt
 
 -- a refusal is told
-pub refusal_stands : PlaceStands (places.Making Refusing)
-refusal_stands heap number seat here = record {
+pub place_stands_at_refusing : PlaceStands (places.Making Refusing)
+place_stands_at_refusing heap number seat here = record {
   step = refusal_step_stands heap seat.command (spine_need seat);
-  fits = λ found small led. fits_over heap (record seat { looks = refusal_looks seat.command found seat.looks }) here.fits.own.registers_whole here.fits.own.registers_fit here.fits.own.cursor_within here.fits.own.small_reserve
-      here.fits.own.reserve_of_cursor (gone_aside (present_at heap number seat (places.Making Refusing) here (λ e. cc)));
+  fits = λ found small led. fits_after_call heap (record seat { looks = refusal_looks seat.command found seat.looks }) here.fits.own.registers_whole here.fits.own.registers_fit here.fits.own.cursor_within here.fits.own.small_reserve
+      here.fits.own.reserve_of_cursor (left_aside_is_absurd (call_place_has_not_left heap number seat (places.Making Refusing) here (λ e. cc)));
   near = λ found. record { fewer = omega arith; paid = omega arith };
-  adds = λ now. plain heap now number seat (refusal_move number seat) refl (rw here.placed refl) refl refl;
+  adds = λ now. adds_where_none_awaited heap now number seat (refusal_move number seat) refl (rw here.placed refl) refl refl;
 }
 
 -- a record is to be made
 fits_gathers : (heap : Heap) (seat : Seat) (d fields : ℕ) → Fits heap seat → MayBegin seat (New d fields) → Fits heap (after_begin heap seat (New d fields))
 fits_gathers heap seat d fields fits may =
-    fits_goes_on heap (record seat { command = New d fields })
-    (gathers_at_rest heap (record seat { command = New d fields }) fits.own (aside_idle heap seat fits may.idle may.present) (subst (FitsPlace heap seat) may.idle fits.at_place)
+    fits_going_on heap (record seat { command = New d fields })
+    (gathered_at_rest heap (record seat { command = New d fields }) fits.own (idle_is_aside heap seat fits may.idle may.present) (subst (FitsPlace heap seat) may.idle fits.at_place)
     (record { an_object = tt; in_range = may.in_range; numbered = may.numbered }))
 
 -- the making of a record begins
-pub gather_begins : (d fields : ℕ) → CommandStands (New d fields)
-gather_begins d fields heap number seat ready =
+pub command_stands_for_new : (d fields : ℕ) → CommandStands (New d fields)
+command_stands_for_new d fields heap number seat ready =
     let next = record seat { command = New d fields } in
-    let rest = rest_ready heap number seat (New d fields) ready in
-    let some = need_of_object (New d fields) tt ready.may.in_range in
+    let rest = ready_is_at_rest heap number seat (New d fields) ready in
+    let some = object_need_within_limits (New d fields) tt ready.may.in_range in
     record {
       fits = fits_gathers heap seat d fields ready.fits ready.may;
-      kept = goes_on_mine heap next;
+      kept = own_list_same_going_on heap next;
       awaits = λ words. goes_on_cases (λ s. entries_awaited heap words number s ≡ []) heap next (λ enough. refl) (λ few left. refl) (λ few all. refl);
       owed = goes_on_cases (λ s. owes s ≤ 2 * need_of (New d fields) + 2) heap next (λ enough. omega arith) (λ few left. omega arith)
           (λ few all. absurd (omega (arith, all, rest.none_tried, ready.limits.some_group)));

@@ -9,11 +9,11 @@ use Rattle.core_machine.proofs.Terms.{id_of, plain_of, plain_register, IsWithinH
 use Rattle.core_machine.specs.declared.place.Place.TheVariants as places
 use Rattle.core_machine.specs.seat.AccessMoves.{loaded_head_of, got_adds, got_shows, get_move, name_move}
 use Rattle.core_machine.proofs.call_lemmas.Awaits.{after_words}
-use Rattle.core_machine.proofs.moves.Standing.{PlaceStands, rests_at}
-use Rattle.core_machine.proofs.seat_lemmas.FittingAccess.{Rests, fits_access, fits_filled}
-use Rattle.core_machine.proofs.table_lemmas.Addresses.{put-at}
-use Rattle.core_machine.proofs.table_lemmas.StepStands.{load_stands}
-use Rattle.core_machine.proofs.table_lemmas.WithinHeap.{head_leads, some_within}
+use Rattle.core_machine.proofs.moves.Standing.{PlaceStands, access_place_rests}
+use Rattle.core_machine.proofs.seat_lemmas.FittingAccess.{Rests, fits_at_access, fits_with_register}
+use Rattle.core_machine.proofs.table_lemmas.Addresses.{put_of_read_changes_nothing}
+use Rattle.core_machine.proofs.table_lemmas.StepStands.{load_step_stands}
+use Rattle.core_machine.proofs.table_lemmas.WithinHeap.{head_leads_within_heap, some_fragment_within_heap}
 
 -- a number in a word has thirty bits
 plain_fits : (heap : Heap) (kind : Kind) (value : ℕ) → value < 2 ^ 30 → FitsRegister heap (plain_register kind value)
@@ -26,9 +26,9 @@ plain_fits heap kinds.Fixed value small = tt
 fits_got : (heap : Heap) (seat : Seat) (found : ℕ) (head : Option ℕ) → Rests heap seat → SeatIsAtGet seat → head_of found ≡ head → IsWithinHeap heap head
     → Fits heap (after_get seat found head)
 fits_got heap seat found None rests is none led =
-    fits_filled heap seat (plain_of found) rests (plain_fits heap (cell_of found).kind (cell_of found).value (omega arith))
+    fits_with_register heap seat (plain_of found) rests (plain_fits heap (cell_of found).kind (cell_of found).value (omega arith))
 fits_got heap seat found (Some head) rests is some led =
-    fits_access heap seat seat.reached seat.links seat.part found Naming rests rests.fits.way.reached_within (subst (IsWithinHeap heap) (sym some) led)
+    fits_at_access heap seat seat.reached seat.links seat.part found Naming rests rests.fits.way.reached_within (subst (IsWithinHeap heap) (sym some) led)
     (is, subst IsSome (sym some) refl)
 
 nears_got : (heap : Heap) (number : ℕ) (seat : Seat) (found : ℕ) (head : Option ℕ)
@@ -44,25 +44,25 @@ module _ (heap : Heap) (number : ℕ) (seat : Seat) where
   got_awaits words found (Some head) is = (refl, rw is refl)
 
 -- the field is loaded
-pub get_stands : PlaceStands (places.Access Getting)
-get_stands heap number seat here =
+pub place_stands_at_getting : PlaceStands (places.Access Getting)
+place_stands_at_getting heap number seat here =
     let move = get_move heap number seat in
     record {
-      step = load_stands heap move.step refl (here.fits.way.reached_within, here.way.0.2.part_within);
-      fits = λ found small led. fits_got heap seat found (head_of found) (rests_at heap number seat Getting here) here.way.0 refl (head_leads heap seat.part found led);
+      step = load_step_stands heap move.step refl (here.fits.way.reached_within, here.way.0.2.part_within);
+      fits = λ found small led. fits_got heap seat found (head_of found) (access_place_rests heap number seat Getting here) here.way.0 refl (head_leads_within_heap heap seat.part found led);
       near = λ found. nears_got heap number seat found (head_of found);
       adds = λ now. let found = found_by heap now move.step in
-          let same : after_words heap now number seat move ≡ now.words = put-at heap now.words (Word seat.reached seat.part) in
+          let same : after_words heap now number seat move ≡ now.words = put_of_read_changes_nothing heap now.words (Word seat.reached seat.part) in
           let by = got_awaits heap number seat now.words found (head_of found) refl in
           record { kept = by.0; told = rw (same, here.placed) by.1 };
     }
 
 -- the name is loaded
-pub name_stands : PlaceStands (places.Access Naming)
-name_stands heap number seat here = record {
-  step = load_stands heap (name_move number seat).step refl (some_within heap (head_of seat.loaded) here.way.1 here.fits.way.loaded_within, omega arith);
-  fits = λ found small led. fits_filled heap seat (Object (loaded_head_of seat) (id_of found)) (rests_at heap number seat Naming here)
-      (some_within heap (head_of seat.loaded) here.way.1 here.fits.way.loaded_within);
+pub place_stands_at_naming : PlaceStands (places.Access Naming)
+place_stands_at_naming heap number seat here = record {
+  step = load_step_stands heap (name_move number seat).step refl (some_fragment_within_heap heap (head_of seat.loaded) here.way.1 here.fits.way.loaded_within, omega arith);
+  fits = λ found small led. fits_with_register heap seat (Object (loaded_head_of seat) (id_of found)) (access_place_rests heap number seat Naming here)
+      (some_fragment_within_heap heap (head_of seat.loaded) here.way.1 here.fits.way.loaded_within);
   near = λ found. record { fewer = omega arith; paid = omega arith };
   adds = λ now. record { kept = refl; told = rw here.placed refl };
 }

@@ -10,9 +10,9 @@ use Rattle.core_machine.specs.declared.place.Leaving.TheVariants.{Emptying, Part
 use Rattle.core_machine.specs.declared.place.Place.TheVariants as places
 use Rattle.core_machine.specs.seat.HandshakeMoves.{empty_move, leave_move}
 use Rattle.core_machine.specs.seat.Handshake.{after_emptying, after_leave, leave_place}
-use Rattle.core_machine.proofs.call_lemmas.Awaits.{plain}
-use Rattle.core_machine.proofs.moves.Standing.{PlaceStands, aside_at, BeginStands, CommandStands, aside_ready, rest_ready, resting_begins}
-use Rattle.core_machine.proofs.seat_lemmas.Aside.{IsAside, gone_aside, fits_over}
+use Rattle.core_machine.proofs.call_lemmas.Awaits.{adds_where_none_awaited}
+use Rattle.core_machine.proofs.moves.Standing.{PlaceStands, place_is_aside, BeginStands, CommandStands, ready_is_aside, ready_is_at_rest, resting_begin_stands}
+use Rattle.core_machine.proofs.seat_lemmas.Aside.{IsAside, left_aside_is_absurd, fits_after_call}
 
 -- the reserve was given back
 fits_emptied : (heap : Heap) (seat : Seat) → Fits heap seat → IsAside heap seat → IsAtRest seat → seat.command ≡ commands.Leave → Fits heap (after_emptying seat)
@@ -30,7 +30,7 @@ fits_emptied heap seat fits aside rest leaves = record {
   at_place = (rest, leaves, refl);
   way_at_place = aside.nowhere;
   answer_at_place = aside.silent;
-  gone = gone_aside aside.present;
+  gone = left_aside_is_absurd aside.present;
 }
 
 -- nil fits everywhere
@@ -40,34 +40,34 @@ nils_fit heap n = All-replicate (FitsRegister heap) n Nil tt
 -- the seat has left
 fits_parted : (heap : Heap) (seat : Seat) → Fits heap seat → seat.reserve ≡ [] → Fits heap (after_leave seat)
 fits_parted heap seat fits empty =
-    fits_over heap (record seat { registers = replicate 16 Nil; left = true }) (length-replicate 16 Nil) (nils_fit heap 16) fits.own.cursor_within fits.own.small_reserve fits.own.reserve_of_cursor
+    fits_after_call heap (record seat { registers = replicate 16 Nil; left = true }) (length-replicate 16 Nil) (nils_fit heap 16) fits.own.cursor_within fits.own.small_reserve fits.own.reserve_of_cursor
     (λ left. empty)
 
 -- the reserve is given back
-pub empty_stands : PlaceStands (places.Leaving Emptying)
-empty_stands heap number seat here = record {
+pub place_stands_at_emptying : PlaceStands (places.Leaving Emptying)
+place_stands_at_emptying heap number seat here = record {
   step = record { in_table = here.fits.own.cursor_within; wide = λ found small. let le = and_le_r found (2 ^ 64 - 1 - mask_of seat.reserve) in omega arith; leads = λ found led. tt };
-  fits = λ found small led. fits_emptied heap seat here.fits (aside_at heap number seat (places.Leaving Emptying) here (λ e. cc) here.way here.answer) here.hand.0 here.hand.1;
+  fits = λ found small led. fits_emptied heap seat here.fits (place_is_aside heap number seat (places.Leaving Emptying) here (λ e. cc) here.way here.answer) here.hand.0 here.hand.1;
   near = λ found. record { fewer = omega arith; paid = omega arith };
-  adds = λ now. plain heap now number seat (empty_move number seat) refl (rw here.placed refl) refl refl;
+  adds = λ now. adds_where_none_awaited heap now number seat (empty_move number seat) refl (rw here.placed refl) refl refl;
 }
 
 -- the seat leaves
-pub leave_stands : PlaceStands (places.Leaving Parting)
-leave_stands heap number seat here = record {
+pub place_stands_at_parting : PlaceStands (places.Leaving Parting)
+place_stands_at_parting heap number seat here = record {
   step = record { in_table = here.few; wide = λ found small. omega arith; leads = λ found led. tt };
   fits = λ found small led. fits_parted heap seat here.fits here.hand.2;
   near = λ found. record { fewer = omega arith; paid = omega arith };
-  adds = λ now. plain heap now number seat (leave_move number seat) refl (rw here.placed refl) refl refl;
+  adds = λ now. adds_where_none_awaited heap now number seat (leave_move number seat) refl (rw here.placed refl) refl refl;
 }
 
 -- a leave begins
-pub leave_begins : CommandStands commands.Leave
-leave_begins heap number seat ready = by seat.reserve refl where
+pub command_stands_for_leave : CommandStands commands.Leave
+command_stands_for_leave heap number seat ready = by seat.reserve refl where
   by : (reserve : List ℕ) → seat.reserve ≡ reserve → BeginStands heap number seat commands.Leave (record seat { command = commands.Leave; place = places.Leaving (leave_place reserve) })
   by [] is =
-      let aside = aside_ready heap number seat commands.Leave ready in
-      resting_begins heap number seat commands.Leave ready (places.Leaving Parting) (rest_ready heap number seat commands.Leave ready, refl, is) aside.nowhere aside.silent (λ words. refl) (omega arith)
+      let aside = ready_is_aside heap number seat commands.Leave ready in
+      resting_begin_stands heap number seat commands.Leave ready (places.Leaving Parting) (ready_is_at_rest heap number seat commands.Leave ready, refl, is) aside.nowhere aside.silent (λ words. refl) (omega arith)
   by (fragment ∷ more) is =
-      let aside = aside_ready heap number seat commands.Leave ready in
-      resting_begins heap number seat commands.Leave ready (places.Leaving Emptying) (rest_ready heap number seat commands.Leave ready, refl, rw is (omega arith)) aside.nowhere aside.silent (λ words. refl) (omega arith)
+      let aside = ready_is_aside heap number seat commands.Leave ready in
+      resting_begin_stands heap number seat commands.Leave ready (places.Leaving Emptying) (ready_is_at_rest heap number seat commands.Leave ready, refl, rw is (omega arith)) aside.nowhere aside.silent (λ words. refl) (omega arith)

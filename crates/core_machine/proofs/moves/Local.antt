@@ -8,18 +8,18 @@ use Rattle.core_machine.proofs.Terms.{Command, Heap, local_move, Register, Nil, 
 use Rattle.heap_model.specs.declared.command.Command.TheVariants as commands
 use Rattle.core_machine.specs.declared.place.Place.TheVariants as places
 use Rattle.core_machine.specs.seat.Local.{after_local, local_registers}
-use Rattle.core_machine.proofs.call_lemmas.Awaits.{plain}
-use Rattle.core_machine.proofs.moves.Standing.{PlaceStands, present_at, BeginStands, IsReady, aside_ready, rest_ready, resting_begins}
-use Rattle.core_machine.proofs.seat_lemmas.Aside.{gone_aside, fits_over}
-use Rattle.core_machine.proofs.table_lemmas.StepStands.{load_stands}
-use Rattle.core_machine.proofs.table_lemmas.WithinHeap.{register_fits}
+use Rattle.core_machine.proofs.call_lemmas.Awaits.{adds_where_none_awaited}
+use Rattle.core_machine.proofs.moves.Standing.{PlaceStands, call_place_has_not_left, BeginStands, IsReady, ready_is_aside, ready_is_at_rest, resting_begin_stands}
+use Rattle.core_machine.proofs.seat_lemmas.Aside.{left_aside_is_absurd, fits_after_call}
+use Rattle.core_machine.proofs.table_lemmas.StepStands.{load_step_stands}
+use Rattle.core_machine.proofs.table_lemmas.WithinHeap.{each_register_fits}
 
 -- the registers after a command that looks at no word
 local_fit : (heap : Heap) (registers : List Register) (command : Command) → IsCommand command → All (FitsRegister heap) registers
     → All (FitsRegister heap) (local_registers registers command)
 local_fit heap registers (commands.Num d n) range fit = All-set (FitsRegister heap) registers d (Number n) range.1 fit
 local_fit heap registers (commands.Nil d) range fit = All-set (FitsRegister heap) registers d Nil tt fit
-local_fit heap registers (commands.Copy d r) range fit = All-set (FitsRegister heap) registers d (register_in registers r) (register_fits heap registers r fit) fit
+local_fit heap registers (commands.Copy d r) range fit = All-set (FitsRegister heap) registers d (register_in registers r) (each_register_fits heap registers r fit) fit
 local_fit heap registers _ range fit = fit
 
 local_whole : (registers : List Register) (command : Command) → length (local_registers registers command) ≡ length registers
@@ -31,21 +31,21 @@ local_whole registers _ = refl
 -- the reply of a local command was told
 fits_local : (heap : Heap) (seat : Seat) (found : ℕ) → Fits heap seat → seat.left ≡ false → IsCommand seat.command → Fits heap (after_local (with_seen found seat))
 fits_local heap seat found fits present range =
-    fits_over heap (record (with_seen found seat) { registers = local_registers seat.registers seat.command }) (local_whole seat.registers seat.command ∙ fits.own.registers_whole)
-    (local_fit heap seat.registers seat.command range fits.own.registers_fit) fits.own.cursor_within fits.own.small_reserve fits.own.reserve_of_cursor (gone_aside present)
+    fits_after_call heap (record (with_seen found seat) { registers = local_registers seat.registers seat.command }) (local_whole seat.registers seat.command ∙ fits.own.registers_whole)
+    (local_fit heap seat.registers seat.command range fits.own.registers_fit) fits.own.cursor_within fits.own.small_reserve fits.own.reserve_of_cursor (left_aside_is_absurd present)
 
 -- a reply is told
-pub telling_stands : PlaceStands places.Local
-telling_stands heap number seat here = record {
-  step = load_stands heap PollLoad refl tt;
-  fits = λ found small led. fits_local heap seat found here.fits (present_at heap number seat places.Local here (λ e. cc)) here.hand.1;
+pub place_stands_at_local : PlaceStands places.Local
+place_stands_at_local heap number seat here = record {
+  step = load_step_stands heap PollLoad refl tt;
+  fits = λ found small led. fits_local heap seat found here.fits (call_place_has_not_left heap number seat places.Local here (λ e. cc)) here.hand.1;
   near = λ found. record { fewer = omega arith; paid = omega arith };
-  adds = λ now. plain heap now number seat (local_move number seat) refl (rw here.placed refl) refl refl;
+  adds = λ now. adds_where_none_awaited heap now number seat (local_move number seat) refl (rw here.placed refl) refl refl;
 }
 
 -- a call begins that looks at no word
-pub tell_begins : (command : Command) → (heap : Heap) (number : ℕ) (seat : Seat) → IsReady heap seat command → IsLocal seat.registers command
+pub local_begin_stands : (command : Command) → (heap : Heap) (number : ℕ) (seat : Seat) → IsReady heap seat command → IsLocal seat.registers command
     → BeginStands heap number seat command (record seat { command = command; place = places.Local })
-tell_begins command heap number seat ready local =
-    let aside = aside_ready heap number seat command ready in
-    resting_begins heap number seat command ready places.Local (rest_ready heap number seat command ready, ready.may.in_range, local) aside.nowhere aside.silent (λ words. refl) (omega arith)
+local_begin_stands command heap number seat ready local =
+    let aside = ready_is_aside heap number seat command ready in
+    resting_begin_stands heap number seat command ready places.Local (ready_is_at_rest heap number seat command ready, ready.may.in_range, local) aside.nowhere aside.silent (λ words. refl) (omega arith)

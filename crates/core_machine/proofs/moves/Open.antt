@@ -7,14 +7,14 @@ use Rattle.core_machine.proofs.Terms.{after_meta, access_start, register_head, r
 use Rattle.heap_model.specs.declared.command.Command.TheVariants as commands
 use Rattle.core_machine.specs.declared.place.Place.TheVariants as places
 use Rattle.core_machine.specs.seat.AccessMoves.{reply_entries_if, open_move}
-use Rattle.core_machine.proofs.call_lemmas.Awaits.{plain, after_words}
-use Rattle.core_machine.proofs.moves.Standing.{PlaceStands, rests_at, BeginStands, IsReady, aside_ready, rest_ready}
-use Rattle.core_machine.proofs.moves.Local.{tell_begins}
-use Rattle.core_machine.proofs.moves.Walk.{fits_onward, nears_onward, onward_awaits, onward_mine}
-use Rattle.core_machine.proofs.seat_lemmas.Aside.{gone_aside}
-use Rattle.core_machine.proofs.seat_lemmas.FittingAccess.{Rests, fits_access, fits_closed}
-use Rattle.core_machine.proofs.table_lemmas.StepStands.{load_stands}
-use Rattle.core_machine.proofs.table_lemmas.WithinHeap.{register_fits}
+use Rattle.core_machine.proofs.call_lemmas.Awaits.{adds_where_none_awaited, after_words}
+use Rattle.core_machine.proofs.moves.Standing.{PlaceStands, access_place_rests, BeginStands, IsReady, ready_is_aside, ready_is_at_rest}
+use Rattle.core_machine.proofs.moves.Local.{local_begin_stands}
+use Rattle.core_machine.proofs.moves.Walk.{fits_onward, nears_onward, onward_awaits_none, onward_keeps_list}
+use Rattle.core_machine.proofs.seat_lemmas.Aside.{left_aside_is_absurd}
+use Rattle.core_machine.proofs.seat_lemmas.FittingAccess.{Rests, fits_at_access, fits_after_sets}
+use Rattle.core_machine.proofs.table_lemmas.StepStands.{load_step_stands}
+use Rattle.core_machine.proofs.table_lemmas.WithinHeap.{each_register_fits}
 
 -- where the call doesn't end at the meta, it names a field
 met_names : (command : Command) (found : ℕ) → NamesObject command → meta_reply_of command found ≡ None → NamesField command
@@ -29,7 +29,7 @@ fits_length : (heap : Heap) (seat : Seat) (found : ℕ) (cells : Option ℕ) →
 fits_length heap seat found None rests is names led =
     fits_onward heap seat (row_of (field_of seat.command)) (part_of (field_of seat.command)) found rests is.works names is.none_loaded (omega arith) (omega arith) led
 fits_length heap seat found (Some cells) rests is names led =
-    fits_access heap seat seat.reached 0 (field_of seat.command % 4) seat.loaded LoadingSpot rests rests.fits.way.reached_within rests.fits.way.loaded_within
+    fits_at_access heap seat seat.reached 0 (field_of seat.command % 4) seat.loaded LoadingSpot rests rests.fits.way.reached_within rests.fits.way.loaded_within
     (record { works = is.works; names = names; no_links = refl; part_within = omega arith; none_loaded = is.none_loaded })
 
 nears_length : (heap : Heap) (seat : Seat) (found : ℕ) (cells : Option ℕ) → Nears heap (with_entries (after_length seat found cells) []) 1 (row_of (field_of seat.command) + 7) 0
@@ -38,7 +38,7 @@ nears_length heap seat found (Some cells) = record { fewer = omega arith; paid =
 
 length_adds : (heap : Heap) (words : List ℕ) (number : ℕ) (seat : Seat) (found : ℕ) (cells : Option ℕ)
     → ((after_length seat found cells).mine ≡ seat.mine) × (entries_awaited heap words number (with_entries (after_length seat found cells) []) ≡ [])
-length_adds heap words number seat found None = (onward_mine (with_field_place seat) found, onward_awaits heap words number (with_field_place seat) found [])
+length_adds heap words number seat found None = (onward_keeps_list (with_field_place seat) found, onward_awaits_none heap words number (with_field_place seat) found [])
 length_adds heap words number seat found (Some cells) = (refl, refl)
 
 -- the meta was found
@@ -46,7 +46,7 @@ fits_met : (heap : Heap) (seat : Seat) (found : ℕ) (reply : Option Reply) → 
     → IsWithinHeap heap (pointer_in 0 found) → Fits heap (after_meta seat found reply)
 fits_met heap seat found None rests is none led =
     fits_length heap seat found (array_length_of found) rests is (met_names seat.command found is.names none) led
-fits_met heap seat found (Some reply) rests is some led = fits_closed heap seat seat.registers seat.sets rests rests.fits.own.registers_whole rests.fits.own.registers_fit
+fits_met heap seat found (Some reply) rests is some led = fits_after_sets heap seat seat.registers seat.sets rests rests.fits.own.registers_whole rests.fits.own.registers_fit
 
 nears_met : (heap : Heap) (number : ℕ) (seat : Seat) (found : ℕ) (reply : Option Reply)
     → Nears heap (with_entries (after_meta seat found reply) (reply_entries_if number seat reply)) 1 (row_of (field_of seat.command) + 7) (length (reply_entries_if number seat reply))
@@ -60,16 +60,16 @@ module _ (heap : Heap) (number : ℕ) (seat : Seat) where
   met_adds words found (Some reply) = (refl, refl)
 
 -- the meta is loaded
-pub open_stands : PlaceStands (places.Access LoadingMeta)
-open_stands heap number seat here =
+pub place_stands_at_loading_meta : PlaceStands (places.Access LoadingMeta)
+place_stands_at_loading_meta heap number seat here =
     let move = open_move number seat in
     record {
-      step = load_stands heap move.step refl (here.fits.way.reached_within, omega arith);
-      fits = λ found small led. fits_met heap seat found (meta_reply_of seat.command found) (rests_at heap number seat LoadingMeta here) here.way refl led;
+      step = load_step_stands heap move.step refl (here.fits.way.reached_within, omega arith);
+      fits = λ found small led. fits_met heap seat found (meta_reply_of seat.command found) (access_place_rests heap number seat LoadingMeta here) here.way refl led;
       near = λ found. nears_met heap number seat found (meta_reply_of seat.command found);
       adds = λ now. let found = found_by heap now move.step in
           let by = met_adds heap number seat (after_words heap now number seat move) found (meta_reply_of seat.command found) in
-          plain heap now number seat move by.0 (rw here.placed refl) by.1 refl;
+          adds_where_none_awaited heap now number seat move by.0 (rw here.placed refl) by.1 refl;
     }
 
 -- a command on an object that its register doesn't hold looks at no word
@@ -80,25 +80,25 @@ local_none registers (commands.Len r) names none = none
 local_none registers _ names none = absurd names
 
 -- a call on an object begins: without one it tells its reply at once
-pub open_begins : (command : Command) → NamesObject command → (heap : Heap) (number : ℕ) (seat : Seat) → IsReady heap seat command
+pub begin_stands_at_access : (command : Command) → NamesObject command → (heap : Heap) (number : ℕ) (seat : Seat) → IsReady heap seat command
     → BeginStands heap number seat command (access_start (record seat { command = command }) (register_in seat.registers (object_of command)))
-open_begins command names heap number seat ready = by (register_in seat.registers (object_of command)) refl where
+begin_stands_at_access command names heap number seat ready = by (register_in seat.registers (object_of command)) refl where
   by : (register : Register) → register_in seat.registers (object_of command) ≡ register → BeginStands heap number seat command (access_start (record seat { command = command }) register)
-  by Nil is = tell_begins command heap number seat ready (local_none seat.registers command names (ap register_head is))
-  by (Number n) is = tell_begins command heap number seat ready (local_none seat.registers command names (ap register_head is))
+  by Nil is = local_begin_stands command heap number seat ready (local_none seat.registers command names (ap register_head is))
+  by (Number n) is = local_begin_stands command heap number seat ready (local_none seat.registers command names (ap register_head is))
   by (Object head id) is =
-      let aside = aside_ready heap number seat command ready in
+      let aside = ready_is_aside heap number seat command ready in
       record {
         fits = record {
           own = ready.fits.own;
           hand = ready.fits.hand;
           way = record {
-            reached_within = subst (FitsRegister heap) is (register_fits heap seat.registers (object_of command) ready.fits.own.registers_fit);
+            reached_within = subst (FitsRegister heap) is (each_register_fits heap seat.registers (object_of command) ready.fits.own.registers_fit);
             address_within = ready.fits.way.address_within;
             loaded_within = ready.fits.way.loaded_within;
           };
           asked_small = ready.fits.asked_small;
-          at_place = rest_ready heap number seat command ready;
+          at_place = ready_is_at_rest heap number seat command ready;
           way_at_place = record {
             works = record { in_range = ready.may.in_range; numbered = ready.may.numbered; holds = subst IsSome (sym (ap register_head is)) refl };
             names = names;
@@ -108,7 +108,7 @@ open_begins command names heap number seat ready = by (register_in seat.register
             none_loaded = aside.nowhere.none_loaded;
           };
           answer_at_place = aside.silent;
-          gone = gone_aside ready.may.present;
+          gone = left_aside_is_absurd ready.may.present;
         };
         kept = refl;
         awaits = λ words. refl;

@@ -8,13 +8,13 @@ use Rattle.core_machine.specs.declared.place.Place.TheVariants as places
 use Rattle.core_machine.specs.declared.place.Polling.{Polling}
 use Rattle.core_machine.specs.declared.place.Polling.TheVariants.{Asking, Shading, Answering}
 use Rattle.core_machine.specs.seat.HandshakeMoves.{poll_move, root_move, answer_move}
-use Rattle.core_machine.proofs.seat_lemmas.PollingOver.{over_cases}
+use Rattle.core_machine.proofs.seat_lemmas.PollingOver.{polling_over_cases}
 use Rattle.core_machine.specs.seat.Handshake.{polling_over, after_phase_load, after_root_shade, after_answer, roots, answer_next}
-use Rattle.core_machine.proofs.call_lemmas.Awaits.{plain, after_words}
-use Rattle.core_machine.proofs.moves.Standing.{IsAt, PlaceStands, present_at, CommandStands, aside_ready, rest_ready, resting_begins}
-use Rattle.core_machine.proofs.seat_lemmas.Aside.{gone_aside, fits_over, fits_ended}
-use Rattle.core_machine.proofs.table_lemmas.StepStands.{load_stands, shade_stands}
-use Rattle.core_machine.proofs.table_lemmas.WithinHeap.{roots_within, few_roots}
+use Rattle.core_machine.proofs.call_lemmas.Awaits.{adds_where_none_awaited, after_words}
+use Rattle.core_machine.proofs.moves.Standing.{IsAt, PlaceStands, call_place_has_not_left, CommandStands, ready_is_aside, ready_is_at_rest, resting_begin_stands}
+use Rattle.core_machine.proofs.seat_lemmas.Aside.{left_aside_is_absurd, fits_after_call, fits_when_over}
+use Rattle.core_machine.proofs.table_lemmas.StepStands.{load_step_stands, shade_step_stands}
+use Rattle.core_machine.proofs.table_lemmas.WithinHeap.{roots_within_heap, roots_within_register_count}
 
 -- a call that answers the phase leaves these alone
 pub record Polls (heap : Heap) (seat : Seat) : Type 0 where
@@ -41,7 +41,7 @@ fits_answering heap seat answered asked shaded place polls small at_place way an
       at_place = at_place;
       way_at_place = way;
       answer_at_place = answer;
-      gone = gone_aside polls.present;
+      gone = left_aside_is_absurd polls.present;
     }
 
 -- another answer is under way
@@ -65,8 +65,8 @@ fits_answered heap seat answered polls =
     let fits = polls.fits in
     let next = record seat { answered = answered } in
     let over : Fits heap (after_call next) =
-    fits_over heap next fits.own.registers_whole fits.own.registers_fit fits.own.cursor_within fits.own.small_reserve fits.own.reserve_of_cursor (gone_aside polls.present) in
-    over_cases (λ s more. Fits heap s) 0 seat.command next 0 (λ collects. fits_ended heap next over) (λ tells. over)
+    fits_after_call heap next fits.own.registers_whole fits.own.registers_fit fits.own.cursor_within fits.own.small_reserve fits.own.reserve_of_cursor (left_aside_is_absurd polls.present) in
+    polling_over_cases (λ s more. Fits heap s) 0 seat.command next 0 (λ collects. fits_when_over heap next over) (λ tells. over)
 
 -- the phase was found
 fits_phase : (heap : Heap) (seat : Seat) (found : ℕ) → Polls heap seat → found < 2 ^ 64 → seat.shaded ≡ 0 → Fits heap (after_phase_load seat found)
@@ -86,12 +86,12 @@ fits_stored_answer heap seat polls = fits_answered heap seat seat.asked polls
 
 polls_at : (heap : Heap) (number : ℕ) (seat : Seat) (place : Polling) → IsAt heap number seat (places.Polling place) → AnswersThePhase seat.command → Polls heap seat
 polls_at heap number seat place here polls =
-    record { fits = here.fits; rest = here.hand; nowhere = here.way; present = present_at heap number seat (places.Polling place) here (λ e. cc); polls = polls }
+    record { fits = here.fits; rest = here.hand; nowhere = here.way; present = call_place_has_not_left heap number seat (places.Polling place) here (λ e. cc); polls = polls }
 
 -- the seat has loaded the phase
 seen_at : (heap : Heap) (number : ℕ) (seat : Seat) (found : ℕ) → IsAt heap number seat (places.Polling Asking) → Polls heap (with_seen found seat)
 seen_at heap number seat found here =
-    let present = present_at heap number seat (places.Polling Asking) here (λ e. cc) in
+    let present = call_place_has_not_left heap number seat (places.Polling Asking) here (λ e. cc) in
     record {
       fits = record {
         own = here.fits.own;
@@ -101,7 +101,7 @@ seen_at heap number seat found here =
         at_place = subst (FitsPlace heap (with_seen found seat)) (sym here.placed) here.hand;
         way_at_place = subst (FitsWay (with_seen found seat)) (sym here.placed) here.way;
         answer_at_place = subst (FitsAnswer (with_seen found seat)) (sym here.placed) here.answer;
-        gone = gone_aside present;
+        gone = left_aside_is_absurd present;
       };
       rest = here.hand;
       nowhere = here.way;
@@ -120,9 +120,9 @@ nears_shades_on heap seat steps more =
 nears_phase : (heap : Heap) (number : ℕ) (seat : Seat) (found : ℕ)
     → Nears heap (seat_after (poll_move number seat) found) 2 (length seat.registers + 2) (length ((poll_move number seat).adds found))
 nears_phase heap number seat found =
-    let few = few_roots (record seat { asked = found }) in
+    let few = roots_within_register_count (record seat { asked = found }) in
     elim (eqb_tells found seat.answered) as (λ _. Nears heap (seat_after (poll_move number seat) found) 2 (length seat.registers + 2) (length ((poll_move number seat).adds found))) [
-      | inl same ↦ rw same.0 (over_cases (λ s more. Nears heap (with_entries s more) 2 (length seat.registers + 2) (length more)) number seat.command (with_seen found seat) found
+      | inl same ↦ rw same.0 (polling_over_cases (λ s more. Nears heap (with_entries s more) 2 (length seat.registers + 2) (length more)) number seat.command (with_seen found seat) found
           (λ collects. record { fewer = omega arith; paid = omega arith }) (λ tells. record { fewer = omega arith; paid = omega arith }))
       | inr new ↦ rw new.0 (nears_shades_on heap (record (with_seen found seat) { asked = found }) (length seat.registers + 2) (omega arith))
     ]
@@ -131,50 +131,50 @@ module _ (heap : Heap) (number : ℕ) (seat : Seat) where
   phase_adds : (words : List ℕ) (found : ℕ) (more : List Entry) → ((after_phase_load seat found).mine ≡ seat.mine) × (entries_awaited heap words number (with_entries (after_phase_load seat found) more) ≡ [])
   phase_adds words found more =
       elim (eqb_tells found seat.answered) as (λ _. ((after_phase_load seat found).mine ≡ seat.mine) × (entries_awaited heap words number (with_entries (after_phase_load seat found) more) ≡ [])) [
-        | inl same ↦ rw same.0 (over_cases (λ s told. (s.mine ≡ seat.mine) × (entries_awaited heap words number (with_entries s more) ≡ [])) number seat.command seat found (λ collects. (refl, refl)) (λ tells. (refl, refl)))
+        | inl same ↦ rw same.0 (polling_over_cases (λ s told. (s.mine ≡ seat.mine) × (entries_awaited heap words number (with_entries s more) ≡ [])) number seat.command seat found (λ collects. (refl, refl)) (λ tells. (refl, refl)))
         | inr new ↦ rw new.0 (refl, refl)
       ]
 
 -- the phase is loaded
-pub poll_stands : PlaceStands (places.Polling Asking)
-poll_stands heap number seat here =
+pub place_stands_at_poll_asking : PlaceStands (places.Polling Asking)
+place_stands_at_poll_asking heap number seat here =
     let move = poll_move number seat in
     record {
-      step = load_stands heap PollLoad refl tt;
+      step = load_step_stands heap PollLoad refl tt;
       fits = λ found small led. fits_phase heap (with_seen found seat) found (seen_at heap number seat found here) small here.answer.0.none_shaded;
       near = λ found. nears_phase heap number seat found;
       adds = λ now. let found = found_by heap now move.step in
           let by = phase_adds heap number (with_seen found seat) (after_words heap now number seat move) found (move.adds found) in
-          plain heap now number seat move by.0 (rw here.placed refl) by.1 refl;
+          adds_where_none_awaited heap now number seat move by.0 (rw here.placed refl) by.1 refl;
     }
 
 -- a root is shaded
-pub root_stands : PlaceStands (places.Polling Shading)
-root_stands heap number seat here = record {
-  step = shade_stands heap (get_or (roots seat) seat.shaded 0) (roots_within heap seat seat.shaded here.fits here.answer.1);
+pub place_stands_at_shading : PlaceStands (places.Polling Shading)
+place_stands_at_shading heap number seat here = record {
+  step = shade_step_stands heap (get_or (roots seat) seat.shaded 0) (roots_within_heap heap seat seat.shaded here.fits here.answer.1);
   fits = λ found small led. fits_shaded heap seat (polls_at heap number seat Shading here here.answer.0.polls) here.answer.0.anew here.answer.1;
   near = λ found. nears_shades_on heap (record seat { shaded = seat.shaded + 1 }) ((length (roots seat) - seat.shaded) + 1) (omega (arith, here.answer.1));
-  adds = λ now. plain heap now number seat (root_move seat) refl (rw here.placed refl) refl refl;
+  adds = λ now. adds_where_none_awaited heap now number seat (root_move seat) refl (rw here.placed refl) refl refl;
 }
 
 -- the answer is stored
-pub answer_stands : PlaceStands (places.Polling Answering)
-answer_stands heap number seat here = record {
+pub place_stands_at_answering : PlaceStands (places.Polling Answering)
+place_stands_at_answering heap number seat here = record {
   step = record { in_table = here.few; wide = λ found small. here.fits.asked_small; leads = λ found led. tt };
   fits = λ found small led. fits_stored_answer heap seat (polls_at heap number seat Answering here here.answer.0.polls);
-  near = λ found. over_cases (λ s more. Nears heap (with_entries s (Answers number seat.asked ∷ more)) 2 1 (suc (length more))) number seat.command stored seat.asked
+  near = λ found. polling_over_cases (λ s more. Nears heap (with_entries s (Answers number seat.asked ∷ more)) 2 1 (suc (length more))) number seat.command stored seat.asked
       (λ collects. record { fewer = omega arith; paid = omega arith }) (λ tells. record { fewer = omega arith; paid = omega arith });
   adds = λ now.
       let words = after_words heap now number seat (answer_move number seat) in
-      let by = over_cases (λ s more. (s.mine ≡ seat.mine) × (entries_awaited heap words number (with_entries s (Answers number seat.asked ∷ more)) ≡ [])) number seat.command stored seat.asked (λ collects. (refl, refl)) (λ tells. (refl, refl)) in
-      plain heap now number seat (answer_move number seat) by.0 (rw here.placed refl) by.1 refl;
+      let by = polling_over_cases (λ s more. (s.mine ≡ seat.mine) × (entries_awaited heap words number (with_entries s (Answers number seat.asked ∷ more)) ≡ [])) number seat.command stored seat.asked (λ collects. (refl, refl)) (λ tells. (refl, refl)) in
+      adds_where_none_awaited heap now number seat (answer_move number seat) by.0 (rw here.placed refl) by.1 refl;
 }
   where
     stored : Seat
     stored = record seat { answered = seat.asked }
 
 -- a poll begins
-pub poll_begins : CommandStands commands.Poll
-poll_begins heap number seat ready =
-    let aside = aside_ready heap number seat commands.Poll ready in
-    resting_begins heap number seat commands.Poll ready (places.Polling Asking) (rest_ready heap number seat commands.Poll ready) aside.nowhere (aside.silent, tt) (λ words. refl) (omega arith)
+pub command_stands_for_poll : CommandStands commands.Poll
+command_stands_for_poll heap number seat ready =
+    let aside = ready_is_aside heap number seat commands.Poll ready in
+    resting_begin_stands heap number seat commands.Poll ready (places.Polling Asking) (ready_is_at_rest heap number seat commands.Poll ready) aside.nowhere (aside.silent, tt) (λ words. refl) (omega arith)

@@ -5,21 +5,21 @@ use Rattle.core_machine.proofs.Terms.{Nears}
 use Rattle.core_machine.specs.declared.place.Place.TheVariants as places
 use Rattle.heap_words.specs.Spot.{spot_in}
 use Rattle.core_machine.specs.seat.AccessMoves.{locate_move, index_move}
-use Rattle.core_machine.proofs.call_lemmas.Awaits.{plain, after_words}
-use Rattle.core_machine.proofs.moves.Standing.{PlaceStands, rests_at}
-use Rattle.core_machine.proofs.moves.Walk.{field_fits, field_few, field_awaits}
-use Rattle.core_machine.proofs.seat_lemmas.FittingAccess.{Rests, fits_access, fits_addressed}
-use Rattle.core_machine.proofs.table_lemmas.StepStands.{load_stands}
+use Rattle.core_machine.proofs.call_lemmas.Awaits.{adds_where_none_awaited, after_words}
+use Rattle.core_machine.proofs.moves.Standing.{PlaceStands, access_place_rests}
+use Rattle.core_machine.proofs.moves.Walk.{field_place_fits, field_has_few_steps, field_awaits_none}
+use Rattle.core_machine.proofs.seat_lemmas.FittingAccess.{Rests, fits_at_access, fits_with_address}
+use Rattle.core_machine.proofs.table_lemmas.StepStands.{load_step_stands}
 
 -- the place of the spine is loaded
-pub locate_stands : PlaceStands (places.Access LoadingSpot)
-locate_stands heap number seat here =
+pub place_stands_at_locating : PlaceStands (places.Access LoadingSpot)
+place_stands_at_locating heap number seat here =
     let move = locate_move seat in
     record {
-      step = load_stands heap move.step refl (here.fits.way.reached_within, omega arith);
-      fits = λ found small led. fits_addressed heap seat (spot_in found) Indexing (rests_at heap number seat LoadingSpot here) (record { half_within = omega arith; offset_within = omega arith }) here.way;
+      step = load_step_stands heap move.step refl (here.fits.way.reached_within, omega arith);
+      fits = λ found small led. fits_with_address heap seat (spot_in found) Indexing (access_place_rests heap number seat LoadingSpot here) (record { half_within = omega arith; offset_within = omega arith }) here.way;
       near = λ found. record { fewer = omega arith; paid = omega arith };
-      adds = λ now. plain heap now number seat move refl (rw here.placed refl) refl refl;
+      adds = λ now. adds_where_none_awaited heap now number seat move refl (rw here.placed refl) refl refl;
     }
 
 -- the cell's fragment was reached, which the spine word names
@@ -27,21 +27,21 @@ fits_indexed : (heap : Heap) (seat : Seat) (found : ℕ) → Rests heap seat →
 fits_indexed heap seat found rests is within =
     let place = field_place_of seat seat.command in
     let there = record seat { reached = payload_in found; place = places.Access place } in
-    fits_access heap seat (payload_in found) seat.links seat.part seat.loaded place rests within rests.fits.way.loaded_within
-    (field_fits there seat.command refl is.works is.names (record { arrived = is.no_links; part_within = is.part_within }) is.none_loaded)
+    fits_at_access heap seat (payload_in found) seat.links seat.part seat.loaded place rests within rests.fits.way.loaded_within
+    (field_place_fits there seat.command refl is.works is.names (record { arrived = is.no_links; part_within = is.part_within }) is.none_loaded)
 
 nears_indexed : (heap : Heap) (seat : Seat) (found : ℕ) → Nears heap (with_entries (after_index seat found) []) 1 5 0
-nears_indexed heap seat found = let few = field_few (row_of (field_of seat.command)) seat.links seat seat.command in record { fewer = omega (arith, few); paid = omega arith }
+nears_indexed heap seat found = let few = field_has_few_steps (row_of (field_of seat.command)) seat.links seat seat.command in record { fewer = omega (arith, few); paid = omega arith }
 
 -- the spine word is loaded that names the cell's fragment
-pub index_stands : PlaceStands (places.Access Indexing)
-index_stands heap number seat here =
+pub place_stands_at_indexing : PlaceStands (places.Access Indexing)
+place_stands_at_indexing heap number seat here =
     let move = index_move seat in
     record {
-      step = load_stands heap move.step refl here.fits.way.address_within.half_within;
-      fits = λ found small led. fits_indexed heap seat found (rests_at heap number seat Indexing here) here.way led;
+      step = load_step_stands heap move.step refl here.fits.way.address_within.half_within;
+      fits = λ found small led. fits_indexed heap seat found (access_place_rests heap number seat Indexing here) here.way led;
       near = λ found. nears_indexed heap seat found;
       adds = λ now. let found = found_by heap now move.step in
-          plain heap now number seat move refl (rw here.placed refl)
-          (field_awaits heap (after_words heap now number seat move) number seat (with_entries (after_index seat found) []) seat.command) refl;
+          adds_where_none_awaited heap now number seat move refl (rw here.placed refl)
+          (field_awaits_none heap (after_words heap now number seat move) number seat (with_entries (after_index seat found) []) seat.command) refl;
     }

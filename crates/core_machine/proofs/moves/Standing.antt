@@ -7,7 +7,7 @@ use Rattle.heap_model.specs.account.Space.{need_of}
 use Rattle.core_machine.specs.declared.place.Place.TheVariants as places
 use Rattle.core_machine.specs.declared.place.Access.{Access}
 use Rattle.core_machine.proofs.call_lemmas.Awaits.{Adds}
-use Rattle.core_machine.proofs.seat_lemmas.Aside.{IsAside, present_busy, aside_idle, gone_aside}
+use Rattle.core_machine.proofs.seat_lemmas.Aside.{IsAside, busy_has_not_left, idle_is_aside, left_aside_is_absurd}
 use Rattle.core_machine.proofs.seat_lemmas.FittingAccess.{Rests}
 use Rattle.core_machine.proofs.table_lemmas.StepStands.{StepStands}
 
@@ -35,13 +35,13 @@ abbrev pub PlaceStands : Place → Type 0
 PlaceStands place = (heap : Heap) (number : ℕ) (seat : Seat) → IsAt heap number seat place → IfSome (move_at heap number seat place) (MoveStands heap number seat place)
 
 -- a seat with a call in flight hasn't left
-pub present_at : (heap : Heap) (number : ℕ) (seat : Seat) (place : Place) → IsAt heap number seat place → (place ≡ places.Idle → ⊥) → seat.left ≡ false
-present_at heap number seat place here busy = present_busy heap seat place here.fits here.placed busy
+pub call_place_has_not_left : (heap : Heap) (number : ℕ) (seat : Seat) (place : Place) → IsAt heap number seat place → (place ≡ places.Idle → ⊥) → seat.left ≡ false
+call_place_has_not_left heap number seat place here busy = busy_has_not_left heap seat place here.fits here.placed busy
 
 -- at a place where nothing is reached, loaded or about to be answered
-pub aside_at : (heap : Heap) (number : ℕ) (seat : Seat) (place : Place) → IsAt heap number seat place → (place ≡ places.Idle → ⊥) → IsNowhere seat → IsSilent seat
+pub place_is_aside : (heap : Heap) (number : ℕ) (seat : Seat) (place : Place) → IsAt heap number seat place → (place ≡ places.Idle → ⊥) → IsNowhere seat → IsSilent seat
     → IsAside heap seat
-aside_at heap number seat place here busy nowhere silent = record {
+place_is_aside heap number seat place here busy nowhere silent = record {
   registers_fit = here.fits.own.registers_fit;
   reached_within = here.fits.way.reached_within;
   address_within = here.fits.way.address_within;
@@ -49,16 +49,16 @@ aside_at heap number seat place here busy nowhere silent = record {
   asked_small = here.fits.asked_small;
   nowhere = nowhere;
   silent = silent;
-  present = present_at heap number seat place here busy;
+  present = call_place_has_not_left heap number seat place here busy;
 }
 
 -- at a place of reaching
-pub rests_at : (heap : Heap) (number : ℕ) (seat : Seat) (place : Access) → IsAt heap number seat (places.Access place) → Rests heap seat
-rests_at heap number seat place here = record {
+pub access_place_rests : (heap : Heap) (number : ℕ) (seat : Seat) (place : Access) → IsAt heap number seat (places.Access place) → Rests heap seat
+access_place_rests heap number seat place here = record {
   fits = here.fits;
   rest = here.hand;
   silent = here.answer;
-  present = present_at heap number seat (places.Access place) here (λ e. cc);
+  present = call_place_has_not_left heap number seat (places.Access place) here (λ e. cc);
 }
 
 -- a seat whose data fit together may begin this command
@@ -81,21 +81,21 @@ abbrev pub CommandStands : Command → Type 0
 CommandStands command = (heap : Heap) (number : ℕ) (seat : Seat) → IsReady heap seat command → BeginStands heap number seat command (after_begin heap seat command)
 
 module _ (heap : Heap) (number : ℕ) (seat : Seat) (command : Command) (ready : IsReady heap seat command) where
-  pub rest_ready : IsAtRest seat
-  rest_ready = subst (FitsPlace heap seat) ready.may.idle ready.fits.at_place
+  pub ready_is_at_rest : IsAtRest seat
+  ready_is_at_rest = subst (FitsPlace heap seat) ready.may.idle ready.fits.at_place
 
-  pub aside_ready : IsAside heap seat
-  aside_ready = aside_idle heap seat ready.fits ready.may.idle ready.may.present
+  pub ready_is_aside : IsAside heap seat
+  ready_is_aside = idle_is_aside heap seat ready.fits ready.may.idle ready.may.present
 
   -- the seat at the first place of its call
   abbrev pub placed_at : Place → Seat
   placed_at place = record seat { command = command; place = place }
 
   -- at a place where nothing is in the hand, reached or about to be answered
-  pub resting_begins : (place : Place) → FitsPlace heap (placed_at place) place → FitsWay (placed_at place) place → FitsAnswer (placed_at place) place
+  pub resting_begin_stands : (place : Place) → FitsPlace heap (placed_at place) place → FitsWay (placed_at place) place → FitsAnswer (placed_at place) place
       → ((words : List ℕ) → entries_awaited_at heap words number (placed_at place) place ≡ [])
       → owes_at (placed_at place) place ≤ 2 * need_of command + 2 → BeginStands heap number seat command (placed_at place)
-  resting_begins place hand way answer awaits owed = record {
+  resting_begin_stands place hand way answer awaits owed = record {
     fits = record {
       own = ready.fits.own;
       hand = ready.fits.hand;
@@ -104,7 +104,7 @@ module _ (heap : Heap) (number : ℕ) (seat : Seat) (command : Command) (ready :
       at_place = hand;
       way_at_place = way;
       answer_at_place = answer;
-      gone = gone_aside ready.may.present;
+      gone = left_aside_is_absurd ready.may.present;
     };
     kept = refl;
     awaits = awaits;

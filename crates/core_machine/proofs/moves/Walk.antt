@@ -7,12 +7,12 @@ use Rattle.core_machine.proofs.Terms.{NamesField, WorksOnObject, after_walk, at_
 use Rattle.core_machine.proofs.Terms.{pointer_in, link_of, IsWithinHeap, access_steps, Nears}
 use Rattle.core_machine.specs.declared.place.Place.TheVariants as places
 use Rattle.core_machine.specs.seat.AccessMoves.{walk_move}
-use Rattle.core_machine.proofs.call_lemmas.Awaits.{plain, after_words}
-use Rattle.core_machine.proofs.moves.Standing.{PlaceStands, rests_at}
-use Rattle.core_machine.proofs.seat_lemmas.FieldPlaces.{field_cases}
-use Rattle.core_machine.proofs.seat_lemmas.FittingAccess.{Rests, fits_access}
-use Rattle.core_machine.proofs.table_lemmas.Bits.{bool_tells}
-use Rattle.core_machine.proofs.table_lemmas.StepStands.{load_stands}
+use Rattle.core_machine.proofs.call_lemmas.Awaits.{adds_where_none_awaited, after_words}
+use Rattle.core_machine.proofs.moves.Standing.{PlaceStands, access_place_rests}
+use Rattle.core_machine.proofs.seat_lemmas.FieldPlaces.{field_place_cases}
+use Rattle.core_machine.proofs.seat_lemmas.FittingAccess.{Rests, fits_at_access}
+use Rattle.core_machine.proofs.table_lemmas.Bits.{true_or_false}
+use Rattle.core_machine.proofs.table_lemmas.StepStands.{load_step_stands}
 
 -- a link that leads within the heap, or to fragment 0 where there is none
 unwrap_within : (heap : Heap) (fragment : Option ℕ) → 0 < heap.groups → IsWithinHeap heap fragment → unwrap_or fragment 0 < 16 * heap.groups
@@ -20,15 +20,15 @@ unwrap_within heap None some led = omega arith
 unwrap_within heap (Some f) some led = led
 
 -- the field was reached
-pub field_fits : (seat : Seat) (command : Command) → seat.command ≡ command → WorksOnObject seat → NamesField command → IsAtField seat.links seat.part → seat.loaded ≡ 0
+pub field_place_fits : (seat : Seat) (command : Command) → seat.command ≡ command → WorksOnObject seat → NamesField command → IsAtField seat.links seat.part → seat.loaded ≡ 0
     → FitsAccess seat (field_place_of seat command)
-field_fits seat (Get d r i) is works names there empty = ((works, subst IsGet (sym is) tt, there), empty)
-field_fits seat (Set r i v) is works names there empty =
-    elim (bool_tells (has_barrier_of seat)) as (λ _. FitsAccess seat (field_place_of seat (Set r i v))) [
+field_place_fits seat (Get d r i) is works names there empty = ((works, subst IsGet (sym is) tt, there), empty)
+field_place_fits seat (Set r i v) is works names there empty =
+    elim (true_or_false (has_barrier_of seat)) as (λ _. FitsAccess seat (field_place_of seat (Set r i v))) [
       | inl on ↦ rw on ((works, subst IsSet (sym is) tt, there), on, empty)
       | inr off ↦ rw off ((works, subst IsSet (sym is) tt, there), λ e. empty)
     ]
-field_fits seat _ is works names there empty = absurd names
+field_place_fits seat _ is works names there empty = absurd names
 
 -- the way stands at a fragment
 way_fits : (heap : Heap) (seat : Seat) (reached links part : ℕ) → Rests heap seat → WorksOnObject seat → NamesField seat.command → seat.loaded ≡ 0
@@ -36,15 +36,15 @@ way_fits : (heap : Heap) (seat : Seat) (reached links part : ℕ) → Rests heap
     → Fits heap (at_access (record seat { reached = reached; links = links; part = part }) (way_place_of (record seat { reached = reached; links = links; part = part })))
 way_fits heap seat reached links part rests works names empty within fewer field =
     elim (eqb_tells links 0) as (λ _. Fits heap (at_access (record seat { reached = reached; links = links; part = part }) (way_place_of (record seat { reached = reached; links = links; part = part })))) [
-      | inl none ↦ rw none.0 (fits_access heap seat reached links part seat.loaded (field_place_of seat seat.command) rests within rests.fits.way.loaded_within
+      | inl none ↦ rw none.0 (fits_at_access heap seat reached links part seat.loaded (field_place_of seat seat.command) rests within rests.fits.way.loaded_within
           (field_fits_there none.1))
-      | inr some ↦ rw some.0 (fits_access heap seat reached links part seat.loaded Walking rests within rests.fits.way.loaded_within
+      | inr some ↦ rw some.0 (fits_at_access heap seat reached links part seat.loaded Walking rests within rests.fits.way.loaded_within
           (record { works = works; names = names; more = omega (arith, some.1); some_done = less some.1 fewer; part_within = field; none_loaded = empty }))
     ]
   where
     field_fits_there : links ≡ 0 → FitsAccess (record seat { reached = reached; links = links; part = part; place = places.Access (field_place_of seat seat.command) }) (field_place_of seat seat.command)
     field_fits_there none =
-        field_fits (record seat { reached = reached; links = links; part = part; place = places.Access (field_place_of seat seat.command) }) seat.command refl works names (record { arrived = none; part_within = field }) empty
+        field_place_fits (record seat { reached = reached; links = links; part = part; place = places.Access (field_place_of seat seat.command) }) seat.command refl works names (record { arrived = none; part_within = field }) empty
 
     less : (links ≡ 0 → ⊥) → links < row_of (field_of seat.command) ⊎ (links ≡ 0) → links < row_of (field_of seat.command)
     less some (inl l) = l
@@ -61,13 +61,13 @@ fits_onward heap seat links part found rests works names empty fewer field led =
     ]
 
 -- few steps are left where the field was reached
-pub field_few : (rows links : ℕ) (seat : Seat) (command : Command) → access_steps rows links (field_place_of seat command) ≤ 4
-field_few rows links seat command = field_cases (λ p. access_steps rows links p ≤ 4) seat command (omega arith) (λ on. omega arith) (λ off. omega arith)
+pub field_has_few_steps : (rows links : ℕ) (seat : Seat) (command : Command) → access_steps rows links (field_place_of seat command) ≤ 4
+field_has_few_steps rows links seat command = field_place_cases (λ p. access_steps rows links p ≤ 4) seat command (omega arith) (λ on. omega arith) (λ off. omega arith)
 
 way_few : (rows : ℕ) (seat : Seat) → access_steps rows seat.links (way_place_of seat) ≤ seat.links + 4
 way_few rows seat =
     elim (eqb_tells seat.links 0) as (λ _. access_steps rows seat.links (way_place_of seat) ≤ seat.links + 4) [
-      | inl none ↦ rw none.0 (let few = field_few rows seat.links seat seat.command in omega arith)
+      | inl none ↦ rw none.0 (let few = field_has_few_steps rows seat.links seat seat.command in omega arith)
       | inr some ↦ rw some.0 (omega arith)
     ]
 
@@ -94,31 +94,31 @@ nears_onward heap seat found steps more =
     some_more some few (inr e) = omega (arith, some, e.0, e.1)
 
 -- no way awaits a name
-pub field_awaits : (heap : Heap) (words : List ℕ) (number : ℕ) (seat s : Seat) (command : Command) → entries_awaited_at heap words number s (places.Access (field_place_of seat command)) ≡ []
-field_awaits heap words number seat s command = field_cases (λ p. entries_awaited_at heap words number s (places.Access p) ≡ []) seat command refl (λ on. refl) (λ off. refl)
+pub field_awaits_none : (heap : Heap) (words : List ℕ) (number : ℕ) (seat s : Seat) (command : Command) → entries_awaited_at heap words number s (places.Access (field_place_of seat command)) ≡ []
+field_awaits_none heap words number seat s command = field_place_cases (λ p. entries_awaited_at heap words number s (places.Access p) ≡ []) seat command refl (λ on. refl) (λ off. refl)
 
 way_awaits : (heap : Heap) (words : List ℕ) (number : ℕ) (seat s : Seat) → entries_awaited_at heap words number s (places.Access (way_place_of seat)) ≡ []
 way_awaits heap words number seat s =
-    elim (eqb_tells seat.links 0) as (λ _. entries_awaited_at heap words number s (places.Access (way_place_of seat)) ≡ []) [ inl none ↦ rw none.0 (field_awaits heap words number seat s seat.command) | inr some ↦ rw some.0 refl ]
+    elim (eqb_tells seat.links 0) as (λ _. entries_awaited_at heap words number s (places.Access (way_place_of seat)) ≡ []) [ inl none ↦ rw none.0 (field_awaits_none heap words number seat s seat.command) | inr some ↦ rw some.0 refl ]
 
-pub onward_awaits : (heap : Heap) (words : List ℕ) (number : ℕ) (seat : Seat) (found : ℕ) (more : List Entry) → entries_awaited heap words number (with_entries (after_walk seat found) more) ≡ []
-onward_awaits heap words number seat found more =
+pub onward_awaits_none : (heap : Heap) (words : List ℕ) (number : ℕ) (seat : Seat) (found : ℕ) (more : List Entry) → entries_awaited heap words number (with_entries (after_walk seat found) more) ≡ []
+onward_awaits_none heap words number seat found more =
     elim (eqb_tells seat.links 0) as (λ _. entries_awaited heap words number (with_entries (after_walk seat found) more) ≡ []) [
       | inl none ↦ let way = way_awaits heap words number seat (with_entries (at_access seat (way_place_of seat)) more) in rw none.0 (rw none.0 at way)
       | inr some ↦ rw some.0 (way_awaits heap words number (after_link seat found) (with_entries (at_access (after_link seat found) (way_place_of (after_link seat found))) more))
     ]
 
-pub onward_mine : (seat : Seat) (found : ℕ) → (after_walk seat found).mine ≡ seat.mine
-onward_mine seat found = elim (eqb_tells seat.links 0) as (λ _. (after_walk seat found).mine ≡ seat.mine) [ inl none ↦ rw none.0 refl | inr some ↦ rw some.0 refl ]
+pub onward_keeps_list : (seat : Seat) (found : ℕ) → (after_walk seat found).mine ≡ seat.mine
+onward_keeps_list seat found = elim (eqb_tells seat.links 0) as (λ _. (after_walk seat found).mine ≡ seat.mine) [ inl none ↦ rw none.0 refl | inr some ↦ rw some.0 refl ]
 
 -- a link is loaded
-pub walk_stands : PlaceStands (places.Access Walking)
-walk_stands heap number seat here =
+pub place_stands_at_walking : PlaceStands (places.Access Walking)
+place_stands_at_walking heap number seat here =
     let move = walk_move seat in
     record {
-      step = load_stands heap move.step refl (here.fits.way.reached_within, omega arith);
-      fits = λ found small led. fits_onward heap seat seat.links seat.part found (rests_at heap number seat Walking here) here.way.works here.way.names here.way.none_loaded (omega (arith, here.way.some_done)) here.way.part_within led;
+      step = load_step_stands heap move.step refl (here.fits.way.reached_within, omega arith);
+      fits = λ found small led. fits_onward heap seat seat.links seat.part found (access_place_rests heap number seat Walking here) here.way.works here.way.names here.way.none_loaded (omega (arith, here.way.some_done)) here.way.part_within led;
       near = λ found. nears_onward heap seat found (seat.links + 4) (inr (here.way.more, refl));
       adds = λ now. let found = found_by heap now move.step in
-          plain heap now number seat move (onward_mine seat found) (rw here.placed refl) (onward_awaits heap (after_words heap now number seat move) number seat found []) refl;
+          adds_where_none_awaited heap now number seat move (onward_keeps_list seat found) (rw here.placed refl) (onward_awaits_none heap (after_words heap now number seat move) number seat found []) refl;
     }

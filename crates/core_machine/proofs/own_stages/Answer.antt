@@ -18,10 +18,10 @@ use Rattle.core_machine.specs.seat.Handshake.{roots, answer_next, after_phase_lo
 use Rattle.core_machine.specs.seat.HandshakeMoves.{poll_adds, empty_move, leave_move}
 use Rattle.core_machine.specs.seat.Local.{answer_of, local_reply_of}
 use Rattle.core_machine.specs.seat.Looks.{forgotten}
-use Rattle.core_machine.proofs.call_lemmas.RepliesAlone.{local_alone}
-use Rattle.core_machine.proofs.own_stages.Leading.{PlaceLeads, quiet, from_untold, answered_alone}
-use Rattle.core_machine.proofs.seat_lemmas.PollingOver.{over_cases}
-use Rattle.core_machine.proofs.table_lemmas.Bits.{bool_tells}
+use Rattle.core_machine.proofs.call_lemmas.RepliesAlone.{local_replies_alone}
+use Rattle.core_machine.proofs.own_stages.Leading.{PlaceLeads, holds_with_nothing_told, holds_of_untold, reply_alone_answers}
+use Rattle.core_machine.proofs.seat_lemmas.PollingOver.{polling_over_cases}
+use Rattle.core_machine.proofs.table_lemmas.Bits.{true_or_false}
 
 no_collect : (command : Command) → command ≡ commands.Collect → command ≡ commands.Poll → ⊥
 no_collect command collects polls = cc
@@ -54,15 +54,15 @@ module _ (tells : Step → ℕ → Type 0) where
   local_stands heap number _ before kept local answers = absurd local
 
   -- the reply was told
-  pub telling_leads : PlaceLeads tells places.Local
-  telling_leads heap number before seat told here stage found tell =
+  pub place_leads_at_local : PlaceLeads tells places.Local
+  place_leads_at_local heap number before seat told here stage found tell =
       let last = kept_of ((local_move number seat).told found) in
       let reply = local_reply_of seat.registers seat.command in
       record {
         kept = refl;
         same = refl;
-        stage = from_untold (λ b t. IsAnswered tells heap number seat.command b last (t ++ Said number seat.command reply ∷ [])) stage
-            (answered_alone tells heap number seat.command (kept_of seat) last reply (local_alone seat.registers seat.command here.hand.2)
+        stage = holds_of_untold (λ b t. IsAnswered tells heap number seat.command b last (t ++ Said number seat.command reply ∷ [])) stage
+            (reply_alone_answers tells heap number seat.command (kept_of seat) last reply (local_replies_alone seat.registers seat.command here.hand.2)
             (local_stands heap number seat.command (kept_of seat) last here.hand.2 (record { local = here.hand.2; reply_is = refl; kept_is = refl })));
       }
 
@@ -70,8 +70,8 @@ module _ (tells : Step → ℕ → Type 0) where
   asked_stage : (heap : Heap) (number : ℕ) (before : Kept) (seat : Seat) (told : List Entry) → seat.command ≡ commands.Poll → HasAsked tells before (kept_of seat) seat.asked told
       → StageAt tells heap number before (with_entries (answer_next seat) []) (told ++ []) (answer_next seat).place
   asked_stage heap number before seat told polls asked =
-      let still = quiet (HasAsked tells before (kept_of seat) seat.asked) told asked in
-      elim (bool_tells (nat_lt seat.shaded (length (roots seat)))) as (λ _. StageAt tells heap number before (with_entries (answer_next seat) []) (told ++ []) (answer_next seat).place) [
+      let still = holds_with_nothing_told (HasAsked tells before (kept_of seat) seat.asked) told asked in
+      elim (true_or_false (nat_lt seat.shaded (length (roots seat)))) as (λ _. StageAt tells heap number before (with_entries (answer_next seat) []) (told ++ []) (answer_next seat).place) [
         | inl more ↦ rw more (polls, still)
         | inr all ↦ rw all (polls, still)
       ]
@@ -90,24 +90,24 @@ module _ (tells : Step → ℕ → Type 0) where
   }
 
   -- the phase was loaded
-  pub poll_leads : PlaceLeads tells (places.Polling Asking)
-  poll_leads heap number before seat told here stage found tell = record {
+  pub place_leads_at_poll_asking : PlaceLeads tells (places.Polling Asking)
+  place_leads_at_poll_asking heap number before seat told here stage found tell = record {
     kept = elim (eqb_tells found seat.answered) as (λ _. (after_phase_load seen found).mine ≡ seat.mine) [
-      | inl known ↦ rw known.0 (over_cases (λ s more. s.mine ≡ seat.mine) number seat.command seen found (λ collects. refl) (λ tells_. refl))
+      | inl known ↦ rw known.0 (polling_over_cases (λ s more. s.mine ≡ seat.mine) number seat.command seen found (λ collects. refl) (λ tells_. refl))
       | inr new ↦ rw new.0 refl
     ];
     same = elim (eqb_tells found seat.answered) as (λ _. (after_phase_load seen found).command ≡ seat.command) [
-      | inl known ↦ rw known.0 (over_cases (λ s more. s.command ≡ seat.command) number seat.command seen found (λ collects. refl) (λ tells_. refl))
+      | inl known ↦ rw known.0 (polling_over_cases (λ s more. s.command ≡ seat.command) number seat.command seen found (λ collects. refl) (λ tells_. refl))
       | inr new ↦ rw new.0 refl
     ];
     stage = elim (eqb_tells found seat.answered) as (λ _. StageAt tells heap number before (with_entries (after_phase_load seen found) (poll_adds number seat found)) (told ++ poll_adds number seat found) (after_phase_load seen found).place) [
-      | inl known ↦ rw known.0 (over_cases (λ s more. StageAt tells heap number before (with_entries s more) (told ++ more) s.place) number seat.command seen found
+      | inl known ↦ rw known.0 (polling_over_cases (λ s more. StageAt tells heap number before (with_entries s more) (told ++ more) s.place) number seat.command seen found
           (λ collects. absurd (no_collect seat.command collects stage.0))
-          (λ tells_. from_untold (λ b t. IsAnswered tells heap number seat.command b (kept_of (after_call seen)) (t ++ Said number seat.command (replies.Phase found) ∷ [])) stage.1
+          (λ tells_. holds_of_untold (λ b t. IsAnswered tells heap number seat.command b (kept_of (after_call seen)) (t ++ Said number seat.command (replies.Phase found) ∷ [])) stage.1
           (answered_poll heap number seat.command (kept_of seat) (kept_of (after_call seen)) found [] stage.0 tell tt (inl (known.1, refl))
           (ap (λ (p : ℕ). kept_replied found (record (kept_of seat) { answered = p })) (sym known.1)))))
       | inr new ↦ rw new.0 (asked_stage heap number before (record seen { asked = found }) told stage.0
-          (from_untold (λ b t. HasAsked tells b (kept_of seen) found t) stage.1 (record { told_of = tell; kept_is = refl; none_told = refl })))
+          (holds_of_untold (λ b t. HasAsked tells b (kept_of seen) found t) stage.1 (record { told_of = tell; kept_is = refl; none_told = refl })))
     ];
   }
     where
@@ -115,21 +115,21 @@ module _ (tells : Step → ℕ → Type 0) where
       seen = with_seen found seat
 
   -- a root was shaded
-  pub root_leads : PlaceLeads tells (places.Polling Shading)
-  root_leads heap number before seat told here stage found tell =
+  pub place_leads_at_shading : PlaceLeads tells (places.Polling Shading)
+  place_leads_at_shading heap number before seat told here stage found tell =
       record { kept = refl; same = refl; stage = asked_stage heap number before (record seat { shaded = seat.shaded + 1 }) told stage.0 stage.1 }
 
   -- the answer was stored
-  pub answer_leads : PlaceLeads tells (places.Polling Answering)
-  answer_leads heap number before seat told here stage found tell =
+  pub place_leads_at_answering : PlaceLeads tells (places.Polling Answering)
+  place_leads_at_answering heap number before seat told here stage found tell =
       let asked = stage.1 in
       let answer = Answers number seat.asked in
       let stored : Seat = record seat { answered = seat.asked } in
       let anew = subst (λ (n : ℕ). seat.asked ≢ n) (ap (λ (k : Kept). k.answered) asked.kept_is) here.answer.0.anew in
       record {
-        kept = over_cases (λ s more. s.mine ≡ seat.mine) number seat.command stored seat.asked (λ collects. refl) (λ tells_. refl);
-        same = over_cases (λ s more. s.command ≡ seat.command) number seat.command stored seat.asked (λ collects. refl) (λ tells_. refl);
-        stage = over_cases (λ s more. StageAt tells heap number before (with_entries s (answer ∷ more)) (told ++ answer ∷ more) s.place) number seat.command stored seat.asked
+        kept = polling_over_cases (λ s more. s.mine ≡ seat.mine) number seat.command stored seat.asked (λ collects. refl) (λ tells_. refl);
+        same = polling_over_cases (λ s more. s.command ≡ seat.command) number seat.command stored seat.asked (λ collects. refl) (λ tells_. refl);
+        stage = polling_over_cases (λ s more. StageAt tells heap number before (with_entries s (answer ∷ more)) (told ++ answer ∷ more) s.place) number seat.command stored seat.asked
             (λ collects. absurd (no_collect seat.command collects stage.0))
             (λ tells_. subst (λ (t : List Entry). IsAnswered tells heap number seat.command before (kept_of (after_call stored)) (t ++ answer ∷ Said number seat.command (replies.Phase seat.asked) ∷ [])) (sym asked.none_told)
             (answered_poll heap number seat.command before (kept_of (after_call stored)) seat.asked (answer ∷ []) stage.0 asked.told_of (refl, tt) (inr (anew, refl))
@@ -137,17 +137,17 @@ module _ (tells : Step → ℕ → Type 0) where
       }
 
   -- the reserve was given back
-  pub empty_leads : PlaceLeads tells (places.Leaving Emptying)
-  empty_leads heap number before seat told here stage found tell = record {
+  pub place_leads_at_emptying : PlaceLeads tells (places.Leaving Emptying)
+  place_leads_at_emptying heap number before seat told here stage found tell = record {
     kept = refl;
     same = refl;
-    stage = from_untold (λ b t. HasEmptied number b (kept_of ((empty_move number seat).told found)) (t ++ GivesBack number (length seat.reserve) ∷ [])) stage
+    stage = holds_of_untold (λ b t. HasEmptied number b (kept_of ((empty_move number seat).told found)) (t ++ GivesBack number (length seat.reserve) ∷ [])) stage
         (record { kept_is = refl; gives = gives_some number (length seat.reserve) (λ none. absurd (omega (arith, none, here.hand.2))) });
   }
 
   -- the seat has left
-  pub part_leads : PlaceLeads tells (places.Leaving Parting)
-  part_leads heap number before seat told here stage found tell =
+  pub place_leads_at_parting : PlaceLeads tells (places.Leaving Parting)
+  place_leads_at_parting heap number before seat told here stage found tell =
       let last = kept_of ((leave_move number seat).told found) in
       let left : HasLeft before last = ap (λ (k : Kept). kept_replied seat.looks.seen (record k { registers = replicate register_count Nil; left = true })) stage.kept_is in
       record {

@@ -5,9 +5,9 @@ use Rattle.core_machine.proofs.Terms.{IsArrayCall, IsAtRest, FitsPlace, Fits, ga
 use Rattle.heap_model.specs.declared.command.Command.TheVariants as commands
 use Rattle.core_machine.specs.declared.place.Place.TheVariants as places
 use Rattle.core_machine.specs.seat.Handshake.{leave_place}
-use Rattle.core_machine.proofs.call_lemmas.Awaits.{goes_on_mine}
-use Rattle.core_machine.proofs.own_stages.Claiming.{gathers_none}
-use Rattle.core_machine.proofs.own_stages.Gather.{goes_on_same, goes_on}
+use Rattle.core_machine.proofs.call_lemmas.Awaits.{own_list_same_going_on}
+use Rattle.core_machine.proofs.own_stages.Claiming.{gathers_without_claim}
+use Rattle.core_machine.proofs.own_stages.Gather.{going_on_keeps_command, stage_stands_going_on}
 
 -- no entries more
 with_none : (seat : Seat) → with_entries seat [] ≡ seat
@@ -30,11 +30,11 @@ module _ (tells : Step → ℕ → Type 0) (heap : Heap) (number : ℕ) (old : S
       let rest : IsAtRest old = subst (FitsPlace heap old) idle fits.at_place in
       let next : Seat = record old { command = command } in
       record {
-        same = goes_on_same heap next;
-        mine = goes_on_mine heap next ∙ sym (append-nil old.mine);
+        same = going_on_keeps_command heap next;
+        mine = own_list_same_going_on heap next ∙ sym (append-nil old.mine);
         stage = subst (λ (s : Seat). StageAt tells heap number (kept_of old) s [] (gather_next heap next).place) (with_none (gather_next heap next))
-            (goes_on tells heap number next [] [] rest.none_given rest.none_stored
-            (gathers_none tells heap number command (kept_of old) old.hand old.tried [] (λ an_array. absurd (no_array an_array)) fits.own.small_reserve rest.empty_hand rest.none_tried refl));
+            (stage_stands_going_on tells heap number next [] [] rest.none_given rest.none_stored
+            (gathers_without_claim tells heap number command (kept_of old) old.hand old.tried [] (λ an_array. absurd (no_array an_array)) fits.own.small_reserve rest.empty_hand rest.none_tried refl));
       }
 
   -- a leave gives back a reserve first
@@ -47,16 +47,16 @@ module _ (tells : Step → ℕ → Type 0) (heap : Heap) (number : ℕ) (old : S
   leaves (fragment ∷ more) is = record { same = refl; mine = sym (append-nil old.mine); stage = first }
 
   -- the command is begun
-  pub begin_leads : (command : Command) → IsHeap heap → Fits heap old → MayBegin old command → OwnStage tells heap number command old (after_begin heap old command) []
-  begin_leads (commands.New d fields) limits fits may = gathers (commands.New d fields) fits may.idle (λ e. e)
-  begin_leads (commands.Array d cells) limits fits may = record { same = refl; mine = sym (append-nil old.mine); stage = first }
-  begin_leads (commands.Get d r i) limits fits may = opens (commands.Get d r i) (register_in old.registers r)
-  begin_leads (commands.Set r i v) limits fits may = opens (commands.Set r i v) (register_in old.registers r)
-  begin_leads (commands.Num d n) limits fits may = record { same = refl; mine = sym (append-nil old.mine); stage = first }
-  begin_leads (commands.Nil d) limits fits may = record { same = refl; mine = sym (append-nil old.mine); stage = first }
-  begin_leads (commands.Copy d r) limits fits may = record { same = refl; mine = sym (append-nil old.mine); stage = first }
-  begin_leads (commands.Same a b) limits fits may = record { same = refl; mine = sym (append-nil old.mine); stage = first }
-  begin_leads (commands.Len r) limits fits may = opens (commands.Len r) (register_in old.registers r)
-  begin_leads commands.Poll limits fits may = record { same = refl; mine = sym (append-nil old.mine); stage = (refl, first) }
-  begin_leads commands.Collect limits fits may = absurd may.served
-  begin_leads commands.Leave limits fits may = leaves old.reserve refl
+  pub own_stage_stands_at_begin : (command : Command) → IsHeap heap → Fits heap old → MayBegin old command → OwnStage tells heap number command old (after_begin heap old command) []
+  own_stage_stands_at_begin (commands.New d fields) limits fits may = gathers (commands.New d fields) fits may.idle (λ e. e)
+  own_stage_stands_at_begin (commands.Array d cells) limits fits may = record { same = refl; mine = sym (append-nil old.mine); stage = first }
+  own_stage_stands_at_begin (commands.Get d r i) limits fits may = opens (commands.Get d r i) (register_in old.registers r)
+  own_stage_stands_at_begin (commands.Set r i v) limits fits may = opens (commands.Set r i v) (register_in old.registers r)
+  own_stage_stands_at_begin (commands.Num d n) limits fits may = record { same = refl; mine = sym (append-nil old.mine); stage = first }
+  own_stage_stands_at_begin (commands.Nil d) limits fits may = record { same = refl; mine = sym (append-nil old.mine); stage = first }
+  own_stage_stands_at_begin (commands.Copy d r) limits fits may = record { same = refl; mine = sym (append-nil old.mine); stage = first }
+  own_stage_stands_at_begin (commands.Same a b) limits fits may = record { same = refl; mine = sym (append-nil old.mine); stage = first }
+  own_stage_stands_at_begin (commands.Len r) limits fits may = opens (commands.Len r) (register_in old.registers r)
+  own_stage_stands_at_begin commands.Poll limits fits may = record { same = refl; mine = sym (append-nil old.mine); stage = (refl, first) }
+  own_stage_stands_at_begin commands.Collect limits fits may = absurd may.served
+  own_stage_stands_at_begin commands.Leave limits fits may = leaves old.reserve refl

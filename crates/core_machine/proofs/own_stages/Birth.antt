@@ -18,12 +18,12 @@ use Rattle.core_machine.specs.declared.place.Place.TheVariants as places
 use Rattle.core_machine.specs.declared.step.MakingStep.TheVariants.{NewbornStore, LastBirth}
 use Rattle.core_machine.specs.declared.step.SpineStep.TheVariants.{SpineStore}
 use Rattle.core_machine.specs.declared.step.Step.TheVariants as steps
-use Rattle.core_machine.proofs.call_lemmas.Claiming.{taken_enough}
-use Rattle.core_machine.proofs.own_stages.Claiming.{takes_beside, first_of_object}
-use Rattle.core_machine.proofs.own_stages.Leading.{Leads, LeadsOn, PlaceLeads, quiet}
+use Rattle.core_machine.proofs.call_lemmas.Claiming.{claims_before_made}
+use Rattle.core_machine.proofs.own_stages.Claiming.{takes_beside, object_entries_come_first}
+use Rattle.core_machine.proofs.own_stages.Leading.{Leads, LeadsOn, PlaceLeads, holds_with_nothing_told}
 use Rattle.core_machine.proofs.seat_lemmas.Fitting.{listing_cases}
-use Rattle.core_machine.proofs.seat_lemmas.LastRun.{before_run-append-run_of, run_in, run_whole}
-use Rattle.core_machine.proofs.table_lemmas.Bits.{bool_tells}
+use Rattle.core_machine.proofs.seat_lemmas.LastRun.{before_run_and_run_make_all, run_is_of_last_group, run_is_whole_hand}
+use Rattle.core_machine.proofs.table_lemmas.Bits.{true_or_false}
 
 -- all words of an array's spine are listed
 listed_of_array : (command : Command) (spine : Spot) (listed : ℕ) → IsArrayCall command → SpineIsListed command spine listed → listed ≡ spine_need_of command
@@ -32,19 +32,19 @@ listed_of_array _ spine listed an_array is = absurd an_array
 
 module _ (tells : Step → ℕ → Type 0) where
   -- the spine got its place
-  pub placing_leads : PlaceLeads tells (places.Making Placing)
-  placing_leads heap number before seat told here stage found tell =
+  pub place_leads_at_placing : PlaceLeads tells (places.Making Placing)
+  place_leads_at_placing heap number before seat told here stage found tell =
       let none = here.hand.1.none_listed in
       record {
         kept = refl;
         same = refl;
-        stage = quiet (λ t. StageAt tells heap number before (with_entries (after_placing seat found) []) t (places.Making Listing)) told
+        stage = holds_with_nothing_told (λ t. StageAt tells heap number before (with_entries (after_placing seat found) []) t (places.Making Listing)) told
             (stage, record { word = found; told = tell; place_is = refl; lists = λ k below. absurd (omega (arith, none, below)) });
       }
 
   -- a word of the spine was stored
-  pub listing_leads : PlaceLeads tells (places.Making Listing)
-  listing_leads heap number before seat told here stage found tell =
+  pub place_leads_at_listing : PlaceLeads tells (places.Making Listing)
+  place_leads_at_listing heap number before seat told here stage found tell =
       let unstored = here.hand.0.2.none_stored in
       let spine : HasSpine tells seat.command seat.body seat.spine (seat.listed + 1) = record {
         word = stage.1.word;
@@ -56,14 +56,14 @@ module _ (tells : Step → ℕ → Type 0) where
         kept = refl;
         same = refl;
         stage = listing_cases (λ m. StageAt tells heap number before (with_entries (record (after_listing seat) { place = places.Making m }) []) (told ++ []) (places.Making m)) (seat.listed + 1) (spine_need seat)
-            (λ more. quiet (λ t. StageAt tells heap number before (with_entries (record (after_listing seat) { place = places.Making Listing }) []) t (places.Making Listing)) told (stage.0, spine))
-            (λ all. quiet (λ t. StageAt tells heap number before (with_entries (record (after_listing seat) { place = places.Making Storing }) []) t (places.Making Storing)) told
+            (λ more. holds_with_nothing_told (λ t. StageAt tells heap number before (with_entries (record (after_listing seat) { place = places.Making Listing }) []) t (places.Making Listing)) told (stage.0, spine))
+            (λ all. holds_with_nothing_told (λ t. StageAt tells heap number before (with_entries (record (after_listing seat) { place = places.Making Storing }) []) t (places.Making Storing)) told
             (stage.0, λ an_array. spine, λ k below. absurd (omega (arith, unstored, below))));
       }
 
   -- a word of the object was stored
-  pub store_leads : PlaceLeads tells (places.Making Storing)
-  store_leads heap number before seat told here stage found tell =
+  pub place_leads_at_storing : PlaceLeads tells (places.Making Storing)
+  place_leads_at_storing heap number before seat told here stage found tell =
       let made : seat.made ≡ before.made = ap (λ (k : Kept). k.made) stage.0.kept_is in
       let Stored : ℕ → ℕ → Type 0 = λ m k. WasMade tells (steps.Making (NewbornStore (get_or seat.body (k / 4) 0) (k % 4) (newborn_word seat.command (name_after number m) seat.spine seat.body (k / 4) (k % 4)))) in
       let stored : HasStored tells seat.command (name_after number before.made) seat.spine seat.body (seat.stored + 1) =
@@ -73,9 +73,9 @@ module _ (tells : Step → ℕ → Type 0) where
         kept = refl;
         same = refl;
         stage = elim (eqb_tells (seat.stored + 1) (4 * length seat.body)) as (λ _. StageAt tells heap number before (with_entries (after_store seat) []) (told ++ []) (places.Making (store_place (seat.stored + 1) seat.body))) [
-          | inl all ↦ rw all.0 (quiet (λ t. StageAt tells heap number before (with_entries (record next { place = places.Making Bearing }) []) t (places.Making Bearing)) told
+          | inl all ↦ rw all.0 (holds_with_nothing_told (λ t. StageAt tells heap number before (with_entries (record next { place = places.Making Bearing }) []) t (places.Making Bearing)) told
               (stage.0, stage.1, stored, record { births = []; are = sym here.hand.1 }))
-          | inr left ↦ rw left.0 (quiet (λ t. StageAt tells heap number before (with_entries (record next { place = places.Making Storing }) []) t (places.Making Storing)) told (stage.0, stage.1, stored))
+          | inr left ↦ rw left.0 (holds_with_nothing_told (λ t. StageAt tells heap number before (with_entries (record next { place = places.Making Storing }) []) t (places.Making Storing)) told (stage.0, stage.1, stored))
         ];
       }
 
@@ -87,15 +87,15 @@ module _ (tells : Step → ℕ → Type 0) where
         let born : HasBorn tells (before_run seat.hand) seat.body = record {
           births = run_of seat.hand ∷ stage.3.births;
           are = (
-            record { group = last_group_of seat.hand; black = bears_black_of seat; of_group = run_in seat.hand; made = (found, tell) },
-            subst (λ (hand : List ℕ). AreBorn tells hand seat.body stage.3.births) (sym (before_run-append-run_of seat.hand)) stage.3.are,
+            record { group = last_group_of seat.hand; black = bears_black_of seat; of_group = run_is_of_last_group seat.hand; made = (found, tell) },
+            subst (λ (hand : List ℕ). AreBorn tells hand seat.body stage.3.births) (sym (before_run_and_run_make_all seat.hand)) stage.3.are,
           );
         } in
         record {
           kept = refl;
           same = refl;
           stage = subst (StageAt tells heap number before (with_entries ((birth_move seat).told found) []) (told ++ [])) (sym here.placed)
-              (quiet (λ t. StageAt tells heap number before (with_entries ((birth_move seat).told found) []) t (places.Making Bearing)) told (stage.0, stage.1, stage.2, born));
+              (holds_with_nothing_told (λ t. StageAt tells heap number before (with_entries ((birth_move seat).told found) []) t (places.Making Bearing)) told (stage.0, stage.1, stage.2, born));
         }
 
     -- the last ones were born
@@ -103,9 +103,9 @@ module _ (tells : Step → ℕ → Type 0) where
     last_birth_leads last found tell =
         let object = stage.0 in
         let makes = here.hand.0.makes in
-        let whole = run_whole seat.hand last in
+        let whole = run_is_whole_hand seat.hand last in
         let id : Id = next_object_id number seat in
-        let comes = taken_enough number (length before.reserve) (need_of seat.command) object.claimed told id object.gathered.takes object.enough in
+        let comes = claims_before_made number (length before.reserve) (need_of seat.command) object.claimed told id object.gathered.takes object.enough in
         record {
           kept = refl;
           same = refl;
@@ -114,7 +114,7 @@ module _ (tells : Step → ℕ → Type 0) where
             first = told;
             last = refl;
             beside = subst (AllByRecursion (IsBeside number)) (sym comes.2) (takes_beside number comes.0);
-            comes = first_of_object number before seat.command (replies.Made id) told makes.an_object comes;
+            comes = object_entries_come_first number before seat.command (replies.Made id) told makes.an_object comes;
             stands = record {
               an_object = makes.an_object;
               id_is = ap (λ (k : Kept). Made number k.made) object.kept_is;
@@ -128,7 +128,7 @@ module _ (tells : Step → ℕ → Type 0) where
               born = stage.3;
               group = last_group_of seat.hand;
               black = bears_black_of seat;
-              last_of_group = subst (All (λ f. f / 16 ≡ last_group_of seat.hand)) whole (run_in seat.hand);
+              last_of_group = subst (All (λ f. f / 16 ≡ last_group_of seat.hand)) whole (run_is_of_last_group seat.hand);
               last_born = (found, subst (λ (part : List ℕ). tells (steps.Making (LastBirth (last_group_of seat.hand) (mask_of part) (bears_black_of seat))) found) whole tell);
               kept_is = ap (λ (k : Kept). kept_replied seat.looks.seen (record (kept_of seat) {
                 registers = set k.registers (target_of seat.command) (Object (get_or seat.body 0 0) id);
@@ -139,9 +139,9 @@ module _ (tells : Step → ℕ → Type 0) where
         }
 
   -- the fragments of a group were born
-  pub bearing_leads : PlaceLeads tells (places.Making Bearing)
-  bearing_leads heap number before seat told here stage =
-      elim (bool_tells (is_last_birth seat)) as (λ _. LeadsOn tells heap number before seat told (bearing_move number seat)) [
+  pub place_leads_at_bearing : PlaceLeads tells (places.Making Bearing)
+  place_leads_at_bearing heap number before seat told here stage =
+      elim (true_or_false (is_last_birth seat)) as (λ _. LeadsOn tells heap number before seat told (bearing_move number seat)) [
         | inl last ↦ rw last (last_birth_leads heap number before seat told here stage last)
         | inr more ↦ rw more (birth_leads heap number before seat told here stage)
       ]

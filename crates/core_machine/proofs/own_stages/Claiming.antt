@@ -12,10 +12,10 @@ use Rattle.core_machine.specs.calls.Claims.{AreOfTried, ClaimsGroup, IsGranted, 
 use Rattle.core_machine.specs.declared.step.Step.TheVariants.{Making}
 use Rattle.core_machine.specs.declared.step.MakingStep.TheVariants.{Claim}
 use Rattle.core_machine.specs.seat.MakingMoves.{takes_some}
-use Rattle.core_machine.proofs.call_lemmas.Claiming.{taken_none, taken_more}
-use Rattle.core_machine.proofs.call_lemmas.Restoring.{part_all, part_none}
-use Rattle.core_machine.proofs.own_stages.Turns.{same_turn}
-use Rattle.core_machine.proofs.table_lemmas.Owned.{clear_in-group}
+use Rattle.core_machine.proofs.call_lemmas.Claiming.{has_taken_none, has_taken_one_group_more}
+use Rattle.core_machine.proofs.call_lemmas.Restoring.{part_of_own_group_is_all, part_of_other_group_is_empty}
+use Rattle.core_machine.proofs.own_stages.Turns.{same_remainder_same_turn}
+use Rattle.core_machine.proofs.table_lemmas.Owned.{clear_is_of_group}
 
 -- takes, and takes with gives behind them, stand beside a reply
 pub takes_beside : (number : ℕ) (counts : List ℕ) → AllByRecursion (IsBeside number) (takes_of number counts)
@@ -28,17 +28,17 @@ gives_beside number [] (count ∷ given) = (refl, gives_beside number [] given)
 gives_beside number (count ∷ taken) given = (refl, gives_beside number taken given)
 
 -- what comes before the reply to a command that makes an object
-pub first_of_object : (number : ℕ) (before : Kept) (command : Command) (reply : Reply) (first : List Entry) → MakesObject command
+pub object_entries_come_first : (number : ℕ) (before : Kept) (command : Command) (reply : Reply) (first : List Entry) → MakesObject command
     → ClaimsBefore number (length before.reserve) (need_of command) reply first → ComesFirst number before command reply first
-first_of_object number before (New d fields) reply first makes claims = claims
-first_of_object number before (Array d cells) (replies.SpineFull shown used) first makes claims = absurd claims
-first_of_object number before (Array d cells) _ first makes claims = claims
-first_of_object number before _ reply first makes claims = absurd makes
+object_entries_come_first number before (New d fields) reply first makes claims = claims
+object_entries_come_first number before (Array d cells) (replies.SpineFull shown used) first makes claims = absurd claims
+object_entries_come_first number before (Array d cells) _ first makes claims = claims
+object_entries_come_first number before _ reply first makes claims = absurd makes
 
 -- nothing comes before the refusal of spine words
-pub first_of_withdrawal : (number : ℕ) (before : Kept) (command : Command) (shown used : ℕ) → IsArrayCall command → ComesFirst number before command (replies.SpineFull shown used) []
-first_of_withdrawal number before (Array d cells) shown used an_array = refl
-first_of_withdrawal number before _ shown used an_array = absurd an_array
+pub none_before_withdrawal : (number : ℕ) (before : Kept) (command : Command) (shown used : ℕ) → IsArrayCall command → ComesFirst number before command (replies.SpineFull shown used) []
+none_before_withdrawal number before (Array d cells) shown used an_array = refl
+none_before_withdrawal number before _ shown used an_array = absurd an_array
 
 module _ (groups cursor tried : ℕ) (few : tried < groups) where
   abbrev group : ℕ
@@ -46,7 +46,7 @@ module _ (groups cursor tried : ℕ) (few : tried < groups) where
 
   -- the group that comes next isn't one of those that were claimed
   another : (i : ℕ) → i < tried → group ≢ (cursor + i) % groups
-  another i below same = absurd (omega (arith, same_turn (cursor + i) (cursor + tried) groups (omega (arith, below)) (omega (arith, few)) (sym same), below))
+  another i below same = absurd (omega (arith, same_remainder_same_turn (cursor + i) (cursor + tried) groups (omega (arith, below)) (omega (arith, few)) (sym same), below))
 
   -- so the hand has nothing of it
   pub none_of_next : (hand : List ℕ) → AreOfTried groups cursor tried hand → part_in group hand ≡ []
@@ -62,7 +62,7 @@ module _ (groups cursor tried : ℕ) (few : tried < groups) where
       All-append (λ f. (i : ℕ) × (i < tried + 1) × (f / 16 ≡ (cursor + i) % groups)) hand (clear_in group word)
       (All-weaker (λ f. (i : ℕ) × (i < tried) × (f / 16 ≡ (cursor + i) % groups)) (λ f. (i : ℕ) × (i < tried + 1) × (f / 16 ≡ (cursor + i) % groups))
       (λ f is. (is.0, omega (arith, is.1), is.2)) hand of_tried)
-      (All-weaker (λ f. f / 16 ≡ group) (λ f. (i : ℕ) × (i < tried + 1) × (f / 16 ≡ (cursor + i) % groups)) (λ f is. (tried, omega arith, is)) (clear_in group word) (clear_in-group group word))
+      (All-weaker (λ f. f / 16 ≡ group) (λ f. (i : ℕ) × (i < tried + 1) × (f / 16 ≡ (cursor + i) % groups)) (λ f is. (tried, omega arith, is)) (clear_in group word) (clear_is_of_group group word))
 
   -- and the hand has of each of these what was clear
   pub claims_more : (tells : Step → ℕ → Type 0) (hand : List ℕ) (word : ℕ) → AreOfTried groups cursor tried hand → tells (Making (Claim group)) word
@@ -73,7 +73,7 @@ module _ (groups cursor tried : ℕ) (few : tried < groups) where
           word = word;
           told = told;
           got = filter-append (in_group group) hand (clear_in group word)
-              ∙ ap (λ (l : List ℕ). l ++ part_in group (clear_in group word)) (none_of_next hand of_tried) ∙ part_all group (clear_in group word) (clear_in-group group word);
+              ∙ ap (λ (l : List ℕ). l ++ part_in group (clear_in group word)) (none_of_next hand of_tried) ∙ part_of_own_group_is_all group (clear_in group word) (clear_is_of_group group word);
         })
         | inr earlier ↦
             let before : i < tried = omega (arith, earlier.1, below) in
@@ -82,33 +82,33 @@ module _ (groups cursor tried : ℕ) (few : tried < groups) where
               word = claim.word;
               told = claim.told;
               got = filter-append (in_group ((cursor + i) % groups)) hand (clear_in group word)
-                  ∙ ap (λ (l : List ℕ). part_in ((cursor + i) % groups) hand ++ l) (part_none group ((cursor + i) % groups) (clear_in group word) (another i before) (clear_in-group group word))
+                  ∙ ap (λ (l : List ℕ). part_in ((cursor + i) % groups) hand ++ l) (part_of_other_group_is_empty group ((cursor + i) % groups) (clear_in group word) (another i before) (clear_is_of_group group word))
                   ∙ append-nil (part_in ((cursor + i) % groups) hand) ∙ claim.got;
             }
       ]
 
 -- nothing was claimed yet
-pub gathers_none : (tells : Step → ℕ → Type 0) (heap : Heap) (number : ℕ) (command : Command) (before : Kept) (hand : List ℕ) (tried : ℕ) (told : List Entry)
+pub gathers_without_claim : (tells : Step → ℕ → Type 0) (heap : Heap) (number : ℕ) (command : Command) (before : Kept) (hand : List ℕ) (tried : ℕ) (told : List Entry)
     → (IsArrayCall command → IsGranted tells heap command) → length before.reserve ≤ 15 → hand ≡ [] → tried ≡ 0 → told ≡ [] → Gathers tells heap number command before hand tried told
-gathers_none tells heap number command before hand tried told granted small empty none silent =
+gathers_without_claim tells heap number command before hand tried told granted small empty none silent =
     subst (λ (h : List ℕ). Gathers tells heap number command before h tried told) (sym empty) (subst (λ (t : List Entry). Gathers tells heap number command before [] tried t) (sym silent) (record {
       granted = granted;
       few = omega (arith, none);
-      takes = taken_none number (length before.reserve) (need_of command) small;
+      takes = has_taken_none number (length before.reserve) (need_of command) small;
       of_tried = All-nil (λ f. (i : ℕ) × (i < tried) × (f / 16 ≡ (before.cursor + i) % heap.groups));
       claims = λ i below. absurd (omega (arith, below, none));
     }))
 
 -- one more group was claimed
-pub gathers_more : (tells : Step → ℕ → Type 0) (heap : Heap) (number : ℕ) (command : Command) (before : Kept) (hand : List ℕ) (tried word : ℕ) (told : List Entry)
+pub gathers_one_group_more : (tells : Step → ℕ → Type 0) (heap : Heap) (number : ℕ) (command : Command) (before : Kept) (hand : List ℕ) (tried word : ℕ) (told : List Entry)
     → tried < heap.groups → length before.reserve + length hand < need_of command → tells (Making (Claim ((before.cursor + tried) % heap.groups))) word
     → Gathers tells heap number command before hand tried told
     → let got = clear_in ((before.cursor + tried) % heap.groups) word in
     Gathers tells heap number command before (hand ++ got) (tried + 1) (told ++ takes_some number (length got))
-gathers_more tells heap number command before hand tried word told left lacks tell gathers = record {
+gathers_one_group_more tells heap number command before hand tried word told left lacks tell gathers = record {
   granted = gathers.granted;
   few = omega (arith, left);
-  takes = taken_more number (length before.reserve) (need_of command) hand told ((before.cursor + tried) % heap.groups) word gathers.takes lacks
+  takes = has_taken_one_group_more number (length before.reserve) (need_of command) hand told ((before.cursor + tried) % heap.groups) word gathers.takes lacks
       (inl (none_of_next heap.groups before.cursor tried left hand gathers.of_tried));
   of_tried = tried_more heap.groups before.cursor tried left hand word gathers.of_tried;
   claims = claims_more heap.groups before.cursor tried left tells hand word gathers.of_tried tell gathers.claims;

@@ -35,27 +35,27 @@ module _ (tells : Step → ℕ → Type 0) (heap : Heap) (number : ℕ) where
   counts_kept command old seat kept is made sets left =
       counts_alone command old seat (ap (λ (k : Kept). k.made) is ∙ made) (ap (λ (k : Kept). k.sets) is ∙ sets) (ap (λ (k : Kept). k.left) is ∙ left)
 
-  pub counts_by : (command : Command) (old seat : Seat) (first : List Entry) (reply : Reply) → StandsOn tells heap number command (kept_of old) (kept_of seat) first reply → CountsCall old seat command
-  counts_by commands.Leave old seat first replies.Done is =
+  pub call_counts_by_reply : (command : Command) (old seat : Seat) (first : List Entry) (reply : Reply) → StandsOn tells heap number command (kept_of old) (kept_of seat) first reply → CountsCall old seat command
+  call_counts_by_reply commands.Leave old seat first replies.Done is =
       counted commands.Leave old seat (omega (arith, ap (λ (k : Kept). k.made) is)) (omega (arith, ap (λ (k : Kept). k.sets) is)) (λ stays. absurd (stays refl))
-  counts_by _ old seat first replies.Done is = counts_kept _ old seat _ is.kept_is refl refl refl
-  counts_by command old seat first replies.Yes is = counts_kept command old seat _ is.kept_is refl refl refl
-  counts_by command old seat first replies.No is = counts_kept command old seat _ is.kept_is refl refl refl
-  counts_by command old seat first (replies.Made id) is =
+  call_counts_by_reply _ old seat first replies.Done is = counts_kept _ old seat _ is.kept_is refl refl refl
+  call_counts_by_reply command old seat first replies.Yes is = counts_kept command old seat _ is.kept_is refl refl refl
+  call_counts_by_reply command old seat first replies.No is = counts_kept command old seat _ is.kept_is refl refl refl
+  call_counts_by_reply command old seat first (replies.Made id) is =
       let between = is.has.kept_is in
       counted command old seat (omega (arith, ap (λ (k : Kept). k.made) is.kept_is))
       (omega (arith, ap (λ (k : Kept). k.sets) is.kept_is, ap (λ (k : Kept). k.sets) between)) (λ stays. ap (λ (k : Kept). k.left) is.kept_is ∙ ap (λ (k : Kept). k.left) between)
-  counts_by command old seat first (replies.Got value stamp) is = counts_kept command old seat _ is.kept_is refl refl refl
-  counts_by command old seat first (replies.Was stamp) is =
+  call_counts_by_reply command old seat first (replies.Got value stamp) is = counts_kept command old seat _ is.kept_is refl refl refl
+  call_counts_by_reply command old seat first (replies.Was stamp) is =
       counted command old seat (omega (arith, ap (λ (k : Kept). k.made) is.kept_is)) (omega (arith, ap (λ (k : Kept). k.sets) is.kept_is)) (λ stays. ap (λ (k : Kept). k.left) is.kept_is)
-  counts_by command old seat first (replies.Length n) is = counts_kept command old seat _ is.keeps refl refl refl
-  counts_by command old seat first (replies.Phase p) is = counts_kept command old seat _ is.kept_is refl refl refl
-  counts_by command old seat first (replies.Cycle j) is = absurd is
-  counts_by command old seat first (replies.Waits other answered phase) is = absurd is
-  counts_by command old seat first replies.NoObject is = counts_kept command old seat _ is.kept_is refl refl refl
-  counts_by command old seat first replies.NoField is = counts_kept command old seat _ is.keeps refl refl refl
-  counts_by command old seat first (replies.Full need found) is = counts_kept command old seat _ is.keeps refl refl refl
-  counts_by command old seat first (replies.SpineFull need used) is = counts_kept command old seat _ is.keeps refl refl refl
+  call_counts_by_reply command old seat first (replies.Length n) is = counts_kept command old seat _ is.keeps refl refl refl
+  call_counts_by_reply command old seat first (replies.Phase p) is = counts_kept command old seat _ is.kept_is refl refl refl
+  call_counts_by_reply command old seat first (replies.Cycle j) is = absurd is
+  call_counts_by_reply command old seat first (replies.Waits other answered phase) is = absurd is
+  call_counts_by_reply command old seat first replies.NoObject is = counts_kept command old seat _ is.kept_is refl refl refl
+  call_counts_by_reply command old seat first replies.NoField is = counts_kept command old seat _ is.keeps refl refl refl
+  call_counts_by_reply command old seat first (replies.Full need found) is = counts_kept command old seat _ is.keeps refl refl refl
+  call_counts_by_reply command old seat first (replies.SpineFull need used) is = counts_kept command old seat _ is.keeps refl refl refl
 
   -- the reply to a leave is that it is done
   leave_done : (before kept : Kept) (first : List Entry) (reply : Reply) → StandsOn tells heap number commands.Leave before kept first reply → reply ≡ replies.Done
@@ -81,8 +81,8 @@ module _ (tells : Step → ℕ → Type 0) (heap : Heap) (number : ℕ) where
   leave_done before kept first (replies.SpineFull need used) is = absurd is.an_array
 
   -- so its entries are those of a leave
-  pub leave_told : (before kept : Kept) (told : List Entry) → IsAnswered tells heap number commands.Leave before kept told → told ≡ leave_entries number (length before.reserve)
-  leave_told before kept told is =
+  pub told_is_leave_entries : (before kept : Kept) (told : List Entry) → IsAnswered tells heap number commands.Leave before kept told → told ≡ leave_entries number (length before.reserve)
+  told_is_leave_entries before kept told is =
       let comes : is.first ≡ last_gives number (length before.reserve) = is.comes in
       is.last ∙ ap (λ (r : Reply). is.first ++ Said number commands.Leave r ∷ []) (leave_done before kept is.first is.reply is.stands)
       ∙ ap (λ (l : List Entry). l ++ Said number commands.Leave replies.Done ∷ []) comes

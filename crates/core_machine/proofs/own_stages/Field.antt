@@ -11,9 +11,9 @@ use Rattle.core_machine.specs.declared.place.Place.TheVariants as places
 use Rattle.core_machine.specs.declared.step.AccessStep.TheVariants.{NameLoad, GetLoad}
 use Rattle.core_machine.specs.declared.step.Step.TheVariants as steps
 use Rattle.core_machine.specs.seat.AccessMoves.{got_reply, got_adds, loaded_head_of, name_move, swap_move}
-use Rattle.core_machine.proofs.call_lemmas.RepliesAlone.{get_alone, set_alone}
+use Rattle.core_machine.proofs.call_lemmas.RepliesAlone.{get_replies_alone, set_replies_alone}
 use Rattle.core_machine.proofs.moves.Standing.{IsAt}
-use Rattle.core_machine.proofs.own_stages.Leading.{PlaceLeads, quiet, from_untold, answered_alone}
+use Rattle.core_machine.proofs.own_stages.Leading.{PlaceLeads, holds_with_nothing_told, holds_of_untold, reply_alone_answers}
 
 module _ (tells : Step → ℕ → Type 0) where
   -- the register holds the object that was named
@@ -34,8 +34,8 @@ module _ (tells : Step → ℕ → Type 0) where
     got_leads None is = (
       refl,
       refl,
-      from_untold (λ b t. IsAnswered tells heap number seat.command b (kept_of (after_get seat found None)) (t ++ Said number seat.command (got_reply (plain_of found) found) ∷ [])) untold
-          (answered_alone tells heap number seat.command (kept_of seat) (kept_of (after_get seat found None)) (got_reply (plain_of found) found) (get_alone seat.command here.way.0.1) (record {
+      holds_of_untold (λ b t. IsAnswered tells heap number seat.command b (kept_of (after_get seat found None)) (t ++ Said number seat.command (got_reply (plain_of found) found) ∷ [])) untold
+          (reply_alone_answers tells heap number seat.command (kept_of seat) (kept_of (after_get seat found None)) (got_reply (plain_of found) found) (get_replies_alone seat.command here.way.0.1) (record {
             a_get = here.way.0.1;
             reached = seat.reached;
             part = seat.part;
@@ -49,24 +49,24 @@ module _ (tells : Step → ℕ → Type 0) where
             kept_is = refl;
           })),
     )
-    got_leads (Some head) is = (refl, refl, (quiet (IsUntold before (kept_of seat)) told untold, (reaches, tell)))
+    got_leads (Some head) is = (refl, refl, (holds_with_nothing_told (IsUntold before (kept_of seat)) told untold, (reaches, tell)))
 
   -- the field was loaded
-  pub get_leads : PlaceLeads tells (places.Access Getting)
-  get_leads heap number before seat told here stage found tell =
+  pub place_leads_at_getting : PlaceLeads tells (places.Access Getting)
+  place_leads_at_getting heap number before seat told here stage found tell =
       let got = got_leads heap number before seat told here stage.0 stage.1 found tell (head_of found) refl in
       record { kept = got.0; same = got.1; stage = got.2 }
 
   -- the name was loaded of what it refers to
-  pub name_leads : PlaceLeads tells (places.Access Naming)
-  name_leads heap number before seat told here stage found tell =
+  pub place_leads_at_naming : PlaceLeads tells (places.Access Naming)
+  place_leads_at_naming heap number before seat told here stage found tell =
       let last = kept_of ((name_move number seat).told found) in
       let reply = replies.Got (values.Object (id_of found)) (stamp_of seat.loaded) in
       record {
         kept = refl;
         same = refl;
-        stage = from_untold (λ b t. IsAnswered tells heap number seat.command b last (t ++ Said number seat.command reply ∷ [])) stage.0
-            (answered_alone tells heap number seat.command (kept_of seat) last reply (get_alone seat.command here.way.0.1) (record {
+        stage = holds_of_untold (λ b t. IsAnswered tells heap number seat.command b last (t ++ Said number seat.command reply ∷ [])) stage.0
+            (reply_alone_answers tells heap number seat.command (kept_of seat) last reply (get_replies_alone seat.command here.way.0.1) (record {
               a_get = here.way.0.1;
               reached = seat.reached;
               part = seat.part;
@@ -84,44 +84,44 @@ module _ (tells : Step → ℕ → Type 0) where
   -- the old value is dealt with
   old_leads_on : (heap : Heap) (number : ℕ) (before : Kept) (seat : Seat) (told : List Entry) (loaded : ℕ) → IsUntold before (kept_of seat) told → ReachesField tells seat.command before seat.reached seat.part
       → (new : Option ℕ) → StageAt tells heap number before (with_entries (at_access (record seat { loaded = loaded }) (new_place_of new)) []) (told ++ []) (places.Access (new_place_of new))
-  old_leads_on heap number before seat told loaded untold reaches None = (quiet (IsUntold before (kept_of seat)) told untold, reaches)
-  old_leads_on heap number before seat told loaded untold reaches (Some head) = (quiet (IsUntold before (kept_of seat)) told untold, reaches)
+  old_leads_on heap number before seat told loaded untold reaches None = (holds_with_nothing_told (IsUntold before (kept_of seat)) told untold, reaches)
+  old_leads_on heap number before seat told loaded untold reaches (Some head) = (holds_with_nothing_told (IsUntold before (kept_of seat)) told untold, reaches)
 
   old_found_leads : (heap : Heap) (number : ℕ) (before : Kept) (seat : Seat) (told : List Entry) (found : ℕ) → IsUntold before (kept_of seat) told → ReachesField tells seat.command before seat.reached seat.part
       → (head : Option ℕ) → ((after_old_load (record seat { loaded = found }) head).mine ≡ seat.mine) × ((after_old_load (record seat { loaded = found }) head).command ≡ seat.command)
       × StageAt tells heap number before (with_entries (after_old_load (record seat { loaded = found }) head) []) (told ++ []) (after_old_load (record seat { loaded = found }) head).place
   old_found_leads heap number before seat told found untold reaches None =
       (refl, refl, old_leads_on heap number before seat told found untold reaches (register_head (register_in seat.registers (source_of seat.command))))
-  old_found_leads heap number before seat told found untold reaches (Some head) = (refl, refl, (quiet (IsUntold before (kept_of seat)) told untold, reaches))
+  old_found_leads heap number before seat told found untold reaches (Some head) = (refl, refl, (holds_with_nothing_told (IsUntold before (kept_of seat)) told untold, reaches))
 
   -- it was loaded
-  pub old_leads : PlaceLeads tells (places.Access LoadingOld)
-  old_leads heap number before seat told here stage found tell =
+  pub place_leads_at_loading_old : PlaceLeads tells (places.Access LoadingOld)
+  place_leads_at_loading_old heap number before seat told here stage found tell =
       let old = old_found_leads heap number before seat told found stage.0 stage.1 (head_of found) in
       record { kept = old.0; same = old.1; stage = old.2 }
 
   -- it was shaded
-  pub shade_old_leads : PlaceLeads tells (places.Access ShadingOld)
-  shade_old_leads heap number before seat told here stage found tell = record {
+  pub place_leads_at_shading_old : PlaceLeads tells (places.Access ShadingOld)
+  place_leads_at_shading_old heap number before seat told here stage found tell = record {
     kept = refl;
     same = refl;
     stage = old_leads_on heap number before seat told seat.loaded stage.0 stage.1 (register_head (register_in seat.registers (source_of seat.command)));
   }
 
   -- the new value was shaded
-  pub shade_new_leads : PlaceLeads tells (places.Access ShadingNew)
-  shade_new_leads heap number before seat told here stage found tell =
-      record { kept = refl; same = refl; stage = (quiet (IsUntold before (kept_of seat)) told stage.0, stage.1) }
+  pub place_leads_at_shading_new : PlaceLeads tells (places.Access ShadingNew)
+  place_leads_at_shading_new heap number before seat told here stage found tell =
+      record { kept = refl; same = refl; stage = (holds_with_nothing_told (IsUntold before (kept_of seat)) told stage.0, stage.1) }
 
   -- the field got its new word
-  pub swap_leads : PlaceLeads tells (places.Access Swapping)
-  swap_leads heap number before seat told here stage found tell =
+  pub place_leads_at_swapping : PlaceLeads tells (places.Access Swapping)
+  place_leads_at_swapping heap number before seat told here stage found tell =
       let last = kept_of ((swap_move number seat).told found) in
       record {
         kept = refl;
         same = refl;
-        stage = from_untold (λ b t. IsAnswered tells heap number seat.command b last (t ++ Said number seat.command (replies.Was (stamp_of found)) ∷ [])) stage.0
-            (answered_alone tells heap number seat.command (kept_of seat) last (replies.Was (stamp_of found)) (set_alone seat.command here.way.0.1) (record {
+        stage = holds_of_untold (λ b t. IsAnswered tells heap number seat.command b last (t ++ Said number seat.command (replies.Was (stamp_of found)) ∷ [])) stage.0
+            (reply_alone_answers tells heap number seat.command (kept_of seat) last (replies.Was (stamp_of found)) (set_replies_alone seat.command here.way.0.1) (record {
               a_set = here.way.0.1;
               reached = seat.reached;
               part = seat.part;

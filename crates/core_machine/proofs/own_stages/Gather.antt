@@ -12,15 +12,15 @@ use Rattle.core_machine.specs.calls.Claims.{GivesBackAll, Gathers, GivesUp}
 use Rattle.core_machine.specs.calls.Making.{HasObject}
 use Rattle.core_machine.specs.declared.place.Place.TheVariants as places
 use Rattle.core_machine.specs.seat.Looks.{Looks, forgotten, seen_phase}
-use Rattle.core_machine.proofs.call_lemmas.Awaits.{goes_on_mine}
-use Rattle.core_machine.proofs.call_lemmas.Claiming.{gives_none, gives_more, gives_over}
-use Rattle.core_machine.proofs.own_stages.Claiming.{gives_beside, first_of_object, first_of_withdrawal, gathers_none, gathers_more}
-use Rattle.core_machine.proofs.own_stages.Leading.{PlaceLeads, from_untold}
+use Rattle.core_machine.proofs.call_lemmas.Awaits.{own_list_same_going_on}
+use Rattle.core_machine.proofs.call_lemmas.Claiming.{gives_back_none, gives_back_one_group_more, claims_before_refusal}
+use Rattle.core_machine.proofs.own_stages.Claiming.{gives_beside, object_entries_come_first, none_before_withdrawal, gathers_without_claim, gathers_one_group_more}
+use Rattle.core_machine.proofs.own_stages.Leading.{PlaceLeads, holds_of_untold}
 use Rattle.core_machine.proofs.seat_lemmas.Fitting.{goes_on_cases, returning_cases, budget_cases, settled_cases}
 
 -- going on leaves the command
-pub goes_on_same : (heap : Heap) (seat : Seat) → (gather_next heap seat).command ≡ seat.command
-goes_on_same heap seat = goes_on_cases (λ s. s.command ≡ seat.command) heap seat (λ enough. refl) (λ few left. refl) (λ few all. refl)
+pub going_on_keeps_command : (heap : Heap) (seat : Seat) → (gather_next heap seat).command ≡ seat.command
+going_on_keeps_command heap seat = goes_on_cases (λ s. s.command ≡ seat.command) heap seat (λ enough. refl) (λ few left. refl) (λ few all. refl)
 
 -- at a refusal at most another phase was seen
 refusal_seen : (command : Command) (found : ℕ) (looks : Looks) → refusal_looks command found looks ≡ seen_phase (refusal_looks command found looks).seen looks
@@ -33,9 +33,9 @@ told_beside number told counts is = subst (AllByRecursion (IsBeside number)) (sy
 
 module _ (tells : Step → ℕ → Type 0) where
   -- a seat that has gathered goes on
-  pub goes_on : (heap : Heap) (number : ℕ) (seat : Seat) (told more : List Entry) → seat.given ≡ 0 → seat.stored ≡ 0 → Gathers tells heap number seat.command (kept_of seat) seat.hand seat.tried told
+  pub stage_stands_going_on : (heap : Heap) (number : ℕ) (seat : Seat) (told more : List Entry) → seat.given ≡ 0 → seat.stored ≡ 0 → Gathers tells heap number seat.command (kept_of seat) seat.hand seat.tried told
       → StageAt tells heap number (kept_of seat) (with_entries (gather_next heap seat) more) told (gather_next heap seat).place
-  goes_on heap number seat told more none unstored gathers =
+  stage_stands_going_on heap number seat told more none unstored gathers =
       let long = length-append seat.reserve seat.hand in
       goes_on_cases (λ s. StageAt tells heap number (kept_of seat) (with_entries s more) told s.place) heap seat
       (λ enough.
@@ -58,37 +58,37 @@ module _ (tells : Step → ℕ → Type 0) where
         gathered = subst (λ (tried : ℕ). Gathers tells heap number seat.command (kept_of seat) seat.hand tried told) last gathers;
         too_few = omega (arith, lacks, long);
         all = omega (arith, none);
-        gives = subst (λ (given : ℕ). GivesBackAll number given seat.hand told) (sym none) (gives_none number (length seat.reserve) (need seat) seat.hand told gathers.takes);
+        gives = subst (λ (given : ℕ). GivesBackAll number given seat.hand told) (sym none) (gives_back_none number (length seat.reserve) (need seat) seat.hand told gathers.takes);
       } in
       returning_cases (λ m. StageAt tells heap number (kept_of seat) (with_entries (record seat { place = places.Making m }) more) told (places.Making m)) seat.hand
       (λ empty. (refl, gives)) (λ some. (refl, gives)))
 
   -- the spine words were asked for
-  pub grant_leads : PlaceLeads tells (places.Making Granting)
-  grant_leads heap number before seat told here stage found tell =
+  pub place_leads_at_granting : PlaceLeads tells (places.Making Granting)
+  place_leads_at_granting heap number before seat told here stage found tell =
       let rest = here.hand.0 in
       record {
-        kept = budget_cases (λ s. s.mine ≡ seat.mine) heap seat found (λ lacks. refl) (λ grants. goes_on_mine heap seat);
-        same = budget_cases (λ s. s.command ≡ seat.command) heap seat found (λ lacks. refl) (λ grants. goes_on_same heap seat);
-        stage = from_untold (λ b t. StageAt tells heap number b (with_entries ((grant_move heap number seat).told found) []) (t ++ []) ((grant_move heap number seat).told found).place) stage
+        kept = budget_cases (λ s. s.mine ≡ seat.mine) heap seat found (λ lacks. refl) (λ grants. own_list_same_going_on heap seat);
+        same = budget_cases (λ s. s.command ≡ seat.command) heap seat found (λ lacks. refl) (λ grants. going_on_keeps_command heap seat);
+        stage = holds_of_untold (λ b t. StageAt tells heap number b (with_entries ((grant_move heap number seat).told found) []) (t ++ []) ((grant_move heap number seat).told found).place) stage
             (budget_cases (λ s. StageAt tells heap number (kept_of seat) (with_entries s []) [] s.place) heap seat found
             (λ lacks. (record { kept_stays = refl; none_told = refl }, tell))
-            (λ grants. goes_on heap number seat [] [] rest.none_given rest.none_stored
-            (gathers_none tells heap number seat.command (kept_of seat) seat.hand seat.tried [] (λ an_array. record { word = found; told = tell; enough = omega (arith, grants) })
+            (λ grants. stage_stands_going_on heap number seat [] [] rest.none_given rest.none_stored
+            (gathers_without_claim tells heap number seat.command (kept_of seat) seat.hand seat.tried [] (λ an_array. record { word = found; told = tell; enough = omega (arith, grants) })
             here.fits.own.small_reserve rest.empty_hand rest.none_tried refl)));
       }
 
   -- they were taken back
-  pub withdraw_leads : PlaceLeads tells (places.Making Withdrawing)
-  withdraw_leads heap number before seat told here stage found tell = record {
+  pub place_leads_at_withdrawing : PlaceLeads tells (places.Making Withdrawing)
+  place_leads_at_withdrawing heap number before seat told here stage found tell = record {
     kept = refl;
     same = refl;
-    stage = from_untold (λ b t. IsAnswered tells heap number seat.command b (kept_of ((withdraw_move number seat).told found)) (t ++ (withdraw_move number seat).adds found)) stage.0 (record {
+    stage = holds_of_untold (λ b t. IsAnswered tells heap number seat.command b (kept_of ((withdraw_move number seat).told found)) (t ++ (withdraw_move number seat).adds found)) stage.0 (record {
       reply = replies.SpineFull (spine_need seat) (seat.used % 2 ^ 32);
       first = [];
       last = refl;
       beside = tt;
-      comes = first_of_withdrawal number (kept_of seat) seat.command (spine_need seat) (seat.used % 2 ^ 32) here.hand.an_array;
+      comes = none_before_withdrawal number (kept_of seat) seat.command (spine_need seat) (seat.used % 2 ^ 32) here.hand.an_array;
       stands = record {
         an_array = here.hand.an_array;
         shown_is = refl;
@@ -102,8 +102,8 @@ module _ (tells : Step → ℕ → Type 0) where
   }
 
   -- a group was claimed
-  pub claim_leads : PlaceLeads tells (places.Making Gathering)
-  claim_leads heap number before seat told here stage found tell =
+  pub place_leads_at_gathering : PlaceLeads tells (places.Making Gathering)
+  place_leads_at_gathering heap number before seat told here stage found tell =
       let is = here.hand in
       let got = clear_in (next_group_of heap seat) found in
       let next : Seat = record seat { hand = seat.hand ++ got; tried = seat.tried + 1 } in
@@ -111,16 +111,16 @@ module _ (tells : Step → ℕ → Type 0) where
       let gathers : Gathers tells heap number seat.command (kept_of seat) seat.hand seat.tried told =
       subst (λ (b : Kept). Gathers tells heap number seat.command b seat.hand seat.tried told) (sym stage.0) stage.1 in
       record {
-        kept = goes_on_mine heap next;
-        same = goes_on_same heap next;
+        kept = own_list_same_going_on heap next;
+        same = going_on_keeps_command heap next;
         stage = subst (λ (b : Kept). StageAt tells heap number b (with_entries (gather_next heap next) more) (told ++ more) (gather_next heap next).place) stage.0
-            (goes_on heap number next (told ++ more) more is.none_given is.none_stored
-            (gathers_more tells heap number seat.command (kept_of seat) seat.hand seat.tried found told is.groups_left (omega (arith, is.too_few)) tell gathers));
+            (stage_stands_going_on heap number next (told ++ more) more is.none_given is.none_stored
+            (gathers_one_group_more tells heap number seat.command (kept_of seat) seat.hand seat.tried found told is.groups_left (omega (arith, is.too_few)) tell gathers));
       }
 
   -- a group was given back
-  pub give_back_leads : PlaceLeads tells (places.Making GivingBack)
-  give_back_leads heap number before seat told here stage found tell =
+  pub place_leads_at_returning : PlaceLeads tells (places.Making GivingBack)
+  place_leads_at_returning heap number before seat told here stage found tell =
       let group = first_group_of seat.hand in
       let both = length-filter_both (in_group group) (out_of_group group) (λ f. refl) seat.hand in
       let entry = GivesBack number (length (part_in group seat.hand)) in
@@ -131,7 +131,7 @@ module _ (tells : Step → ℕ → Type 0) where
         gathered = up.gathered;
         too_few = up.too_few;
         all = omega (arith, both, up.all);
-        gives = gives_more number seat.given seat.hand told up.gives here.hand.1;
+        gives = gives_back_one_group_more number seat.given seat.hand told up.gives here.hand.1;
       } in
       record {
         kept = refl;
@@ -141,8 +141,8 @@ module _ (tells : Step → ℕ → Type 0) where
       }
 
   -- the refusal was told
-  pub refusal_leads : PlaceLeads tells (places.Making Refusing)
-  refusal_leads heap number before seat told here stage found tell =
+  pub place_leads_at_refusing : PlaceLeads tells (places.Making Refusing)
+  place_leads_at_refusing heap number before seat told here stage found tell =
       let is = here.hand.0 in
       let up : GivesUp tells heap number seat.command (kept_of seat) seat.hand seat.given told =
       subst (λ (b : Kept). GivesUp tells heap number seat.command b seat.hand seat.given told) (sym stage.0) stage.1 in
@@ -150,7 +150,7 @@ module _ (tells : Step → ℕ → Type 0) where
       let few : length seat.reserve + seat.given < need seat = omega (arith, is.too_few) in
       let all = up.all in
       let empty = ap (length {A = ℕ}) here.hand.1 in
-      let comes = gives_over number (length seat.reserve) (need seat) seat.given told gives few in
+      let comes = claims_before_refusal number (length seat.reserve) (need seat) seat.given told gives few in
       record {
         kept = refl;
         same = refl;
@@ -159,7 +159,7 @@ module _ (tells : Step → ℕ → Type 0) where
           first = told;
           last = refl;
           beside = told_beside number told comes.0 comes.3;
-          comes = first_of_object number (kept_of seat) seat.command (replies.Full (need seat) (length seat.reserve + seat.given)) told is.makes.an_object comes;
+          comes = object_entries_come_first number (kept_of seat) seat.command (replies.Full (need seat) (length seat.reserve + seat.given)) told is.makes.an_object comes;
           stands = record {
             an_object = is.makes.an_object;
             shown_is = refl;

@@ -11,21 +11,21 @@ use Rattle.core_machine.specs.declared.place.Place.TheVariants as places
 use Rattle.core_machine.specs.declared.place.Polling.{Polling}
 use Rattle.core_machine.specs.declared.place.Polling.TheVariants as polling
 use Rattle.core_machine.specs.seat.Collecting.{inner_place}
-use Rattle.core_machine.proofs.own_stages.InnerLooks.{Leads, LeadsOn, PlaceLeads, look_leads, asking_leads, comparing_leads, note_leads}
-use Rattle.core_machine.proofs.own_stages.InnerAnswer.{poll_leads, root_leads, answer_leads}
+use Rattle.core_machine.proofs.own_stages.InnerLooks.{Leads, LeadsOn, PlaceLeads, inner_leads_at_looking, inner_leads_at_look_asking, inner_leads_at_comparing, inner_leads_at_noting}
+use Rattle.core_machine.proofs.own_stages.InnerAnswer.{inner_leads_at_poll_asking, inner_leads_at_shading, inner_leads_at_answering}
 
 module _ (tells : Step → ℕ → Type 0) where
   -- each move of an inner call, by the place
   collecting_leads : (place : Collecting) → PlaceLeads tells (places.Collecting place)
-  collecting_leads Looking = look_leads tells
-  collecting_leads (Asking other) = asking_leads tells other
-  collecting_leads (Comparing other phase) = comparing_leads tells other phase
-  collecting_leads (Noting reply) = note_leads tells reply
+  collecting_leads Looking = inner_leads_at_looking tells
+  collecting_leads (Asking other) = inner_leads_at_look_asking tells other
+  collecting_leads (Comparing other phase) = inner_leads_at_comparing tells other phase
+  collecting_leads (Noting reply) = inner_leads_at_noting tells reply
 
   polling_leads : (place : Polling) → PlaceLeads tells (places.Polling place)
-  polling_leads polling.Asking = poll_leads tells
-  polling_leads polling.Shading = root_leads tells
-  polling_leads polling.Answering = answer_leads tells
+  polling_leads polling.Asking = inner_leads_at_poll_asking tells
+  polling_leads polling.Shading = inner_leads_at_shading tells
+  polling_leads polling.Answering = inner_leads_at_answering tells
 
   leads_at : (place : Place) → PlaceLeads tells place
   leads_at places.Idle = λ heap number inner before seat told here collects stage. tt
@@ -37,10 +37,10 @@ module _ (tells : Step → ℕ → Type 0) where
   leads_at (places.Leaving place) = λ heap number inner before seat told here collects stage. absurd stage
 
   -- an inner call that stands so goes on to stand so, whatever word its next step finds of which so much is told
-  pub inner_leads : (heap : Heap) (number : ℕ) (inner : Inner) (old seat : Seat) (told : List Entry) (move : Move) (found : ℕ) → IsHeap heap → number < 16 → Fits heap seat
+  pub own_inner_leads : (heap : Heap) (number : ℕ) (inner : Inner) (old seat : Seat) (told : List Entry) (move : Move) (found : ℕ) → IsHeap heap → number < 16 → Fits heap seat
       → next_move heap number seat ≡ Some move → tells move.step found → OwnInnerStage tells number inner old seat told
       → OwnInnerStage tells number inner old (seat_after move found) (told ++ move.adds found)
-  inner_leads heap number inner old seat told move found limits few fits next tell is =
+  own_inner_leads heap number inner old seat told move found limits few fits next tell is =
       let leads : Leads tells number inner (kept_of old) seat told move found =
       subst (λ (m : Option Move). IfSome m (LeadsOn tells number inner (kept_of old) seat told)) next
       (leads_at seat.place heap number inner (kept_of old) seat told
@@ -52,8 +52,8 @@ module _ (tells : Step → ℕ → Type 0) where
       }
 
   -- an inner call that has begun stands so, and has told nothing
-  pub inner_begins : (number : ℕ) (old : Seat) (inner : Inner) → OwnInnerStage tells number inner old (after_inner_begin old inner) []
-  inner_begins number old inner = record { same = refl; mine = sym (append-nil old.mine); stage = by inner } where
+  pub own_inner_begins : (number : ℕ) (old : Seat) (inner : Inner) → OwnInnerStage tells number inner old (after_inner_begin old inner) []
+  own_inner_begins number old inner = record { same = refl; mine = sym (append-nil old.mine); stage = by inner } where
     first : IsUntold (kept_of old) (kept_of old) []
     first = record { kept_stays = refl; none_told = refl }
 
@@ -64,6 +64,6 @@ module _ (tells : Step → ℕ → Type 0) where
     by (inners.Note reply) = (refl, first)
 
   -- without a place it is over
-  pub inner_ended : (number : ℕ) (inner : Inner) (old seat : Seat) (told : List Entry) → OwnInnerStage tells number inner old seat told → seat.place ≡ places.Idle
+  pub placeless_inner_is_over : (number : ℕ) (inner : Inner) (old seat : Seat) (told : List Entry) → OwnInnerStage tells number inner old seat told → seat.place ≡ places.Idle
       → IsInnerOver tells number (kept_of old) (kept_of seat) told inner
-  inner_ended number inner old seat told is idle = subst (InnerStageAt tells number inner (kept_of old) seat told) idle is.stage
+  placeless_inner_is_over number inner old seat told is idle = subst (InnerStageAt tells number inner (kept_of old) seat told) idle is.stage

@@ -10,9 +10,9 @@ use Rattle.core_machine.specs.declared.place.Place.TheVariants as places
 use Rattle.core_machine.specs.declared.place.Polling.TheVariants as polling
 use Rattle.core_machine.specs.seat.Handshake.{roots, answer_next, after_phase_load}
 use Rattle.core_machine.specs.seat.HandshakeMoves.{poll_adds}
-use Rattle.core_machine.proofs.own_stages.Leading.{quiet, from_untold}
-use Rattle.core_machine.proofs.seat_lemmas.PollingOver.{over_cases}
-use Rattle.core_machine.proofs.table_lemmas.Bits.{bool_tells}
+use Rattle.core_machine.proofs.own_stages.Leading.{holds_with_nothing_told, holds_of_untold}
+use Rattle.core_machine.proofs.seat_lemmas.PollingOver.{polling_over_cases}
+use Rattle.core_machine.proofs.table_lemmas.Bits.{true_or_false}
 use Rattle.core_machine.proofs.own_stages.InnerLooks.{PlaceLeads}
 
 module _ (tells : Step → ℕ → Type 0) where
@@ -20,31 +20,31 @@ module _ (tells : Step → ℕ → Type 0) where
   asked_stage : (number : ℕ) (inner : Inner) (before : Kept) (seat : Seat) (told : List Entry) → inner ≡ inners.Answer → HasAsked tells before (kept_of seat) seat.asked told
       → InnerStageAt tells number inner before (with_entries (answer_next seat) []) (told ++ []) (answer_next seat).place
   asked_stage number inner before seat told answers asked =
-      let still = quiet (HasAsked tells before (kept_of seat) seat.asked) told asked in
-      elim (bool_tells (nat_lt seat.shaded (length (roots seat)))) as (λ _. InnerStageAt tells number inner before (with_entries (answer_next seat) []) (told ++ []) (answer_next seat).place) [
+      let still = holds_with_nothing_told (HasAsked tells before (kept_of seat) seat.asked) told asked in
+      elim (true_or_false (nat_lt seat.shaded (length (roots seat)))) as (λ _. InnerStageAt tells number inner before (with_entries (answer_next seat) []) (told ++ []) (answer_next seat).place) [
         | inl more ↦ rw more (answers, still)
         | inr all ↦ rw all (answers, still)
       ]
 
   -- the phase was loaded that is to be answered
-  pub poll_leads : PlaceLeads tells (places.Polling polling.Asking)
-  poll_leads heap number inner before seat told here collects stage found tell = record {
+  pub inner_leads_at_poll_asking : PlaceLeads tells (places.Polling polling.Asking)
+  inner_leads_at_poll_asking heap number inner before seat told here collects stage found tell = record {
     kept = elim (eqb_tells found seat.answered) as (λ _. (after_phase_load seen found).mine ≡ seat.mine) [
-      | inl known ↦ rw known.0 (over_cases (λ s more. s.mine ≡ seat.mine) number seat.command seen found (λ ends. refl) (λ tells_. refl))
+      | inl known ↦ rw known.0 (polling_over_cases (λ s more. s.mine ≡ seat.mine) number seat.command seen found (λ ends. refl) (λ tells_. refl))
       | inr new ↦ rw new.0 refl
     ];
     same = elim (eqb_tells found seat.answered) as (λ _. (after_phase_load seen found).command ≡ seat.command) [
-      | inl known ↦ rw known.0 (over_cases (λ s more. s.command ≡ seat.command) number seat.command seen found (λ ends. refl) (λ tells_. refl))
+      | inl known ↦ rw known.0 (polling_over_cases (λ s more. s.command ≡ seat.command) number seat.command seen found (λ ends. refl) (λ tells_. refl))
       | inr new ↦ rw new.0 refl
     ];
     stage = elim (eqb_tells found seat.answered) as (λ _. InnerStageAt tells number inner before (with_entries (after_phase_load seen found) (poll_adds number seat found)) (told ++ poll_adds number seat found) (after_phase_load seen found).place) [
-      | inl known ↦ rw known.0 (over_cases (λ s more. InnerStageAt tells number inner before (with_entries s more) (told ++ more) s.place) number seat.command seen found
+      | inl known ↦ rw known.0 (polling_over_cases (λ s more. InnerStageAt tells number inner before (with_entries s more) (told ++ more) s.place) number seat.command seen found
           (λ ends. subst (IsInnerOver tells number before (kept_of seen) (told ++ [])) (sym stage.0)
-          (from_untold (λ b t. IsInnerOver tells number b (kept_of seen) (t ++ []) inners.Answer) stage.1
+          (holds_of_untold (λ b t. IsInnerOver tells number b (kept_of seen) (t ++ []) inners.Answer) stage.1
           (record { phase = found; found = tell; kept_is = ap (λ (p : ℕ). record (kept_of seen) { answered = p }) (sym known.1); told_is = inl (known.1, refl) })))
           (λ tells_. absurd (tells_ collects)))
       | inr new ↦ rw new.0 (asked_stage number inner before (record seen { asked = found }) told stage.0
-          (from_untold (λ b t. HasAsked tells b (kept_of seen) found t) stage.1 (record { told_of = tell; kept_is = refl; none_told = refl })))
+          (holds_of_untold (λ b t. HasAsked tells b (kept_of seen) found t) stage.1 (record { told_of = tell; kept_is = refl; none_told = refl })))
     ];
   }
     where
@@ -52,21 +52,21 @@ module _ (tells : Step → ℕ → Type 0) where
       seen = with_seen found seat
 
   -- a root was shaded
-  pub root_leads : PlaceLeads tells (places.Polling polling.Shading)
-  root_leads heap number inner before seat told here collects stage found tell =
+  pub inner_leads_at_shading : PlaceLeads tells (places.Polling polling.Shading)
+  inner_leads_at_shading heap number inner before seat told here collects stage found tell =
       record { kept = refl; same = refl; stage = asked_stage number inner before (record seat { shaded = seat.shaded + 1 }) told stage.0 stage.1 }
 
   -- the answer was stored
-  pub answer_leads : PlaceLeads tells (places.Polling polling.Answering)
-  answer_leads heap number inner before seat told here collects stage found tell =
+  pub inner_leads_at_answering : PlaceLeads tells (places.Polling polling.Answering)
+  inner_leads_at_answering heap number inner before seat told here collects stage found tell =
       let asked = stage.1 in
       let answer = Answers number seat.asked in
       let stored : Seat = record seat { answered = seat.asked } in
       let anew = subst (λ (n : ℕ). seat.asked ≢ n) (ap (λ (k : Kept). k.answered) asked.kept_is) here.answer.0.anew in
       record {
-        kept = over_cases (λ s more. s.mine ≡ seat.mine) number seat.command stored seat.asked (λ ends. refl) (λ tells_. refl);
-        same = over_cases (λ s more. s.command ≡ seat.command) number seat.command stored seat.asked (λ ends. refl) (λ tells_. refl);
-        stage = over_cases (λ s more. InnerStageAt tells number inner before (with_entries s (answer ∷ more)) (told ++ answer ∷ more) s.place) number seat.command stored seat.asked
+        kept = polling_over_cases (λ s more. s.mine ≡ seat.mine) number seat.command stored seat.asked (λ ends. refl) (λ tells_. refl);
+        same = polling_over_cases (λ s more. s.command ≡ seat.command) number seat.command stored seat.asked (λ ends. refl) (λ tells_. refl);
+        stage = polling_over_cases (λ s more. InnerStageAt tells number inner before (with_entries s (answer ∷ more)) (told ++ answer ∷ more) s.place) number seat.command stored seat.asked
             (λ ends. subst (IsInnerOver tells number before (kept_of stored) (told ++ answer ∷ [])) (sym stage.0) (record {
               phase = seat.asked;
               found = asked.told_of;

@@ -12,7 +12,7 @@ use Rattle.core_machine.specs.declared.place.Place.TheVariants as places
 use Rattle.core_machine.specs.seat.Collecting.{look_move, comparing_move, note_move}
 use Rattle.core_machine.specs.seat.Looks.{compared, noted_reply}
 use Rattle.core_machine.proofs.moves.Standing.{IsAt}
-use Rattle.core_machine.proofs.own_stages.Leading.{from_untold}
+use Rattle.core_machine.proofs.own_stages.Leading.{holds_of_untold}
 
 module _ (tells : Step → ℕ → Type 0) where
   -- the inner call goes on
@@ -30,27 +30,27 @@ module _ (tells : Step → ℕ → Type 0) where
       → InnerStageAt tells number inner before seat told place → IfSome (move_at heap number seat place) (LeadsOn number inner before seat told)
 
   -- the phase was looked at
-  pub look_leads : PlaceLeads (places.Collecting Looking)
-  look_leads heap number inner before seat told here collects stage found tell =
+  pub inner_leads_at_looking : PlaceLeads (places.Collecting Looking)
+  inner_leads_at_looking heap number inner before seat told here collects stage found tell =
       let last = kept_of ((look_move seat).told found) in
       record {
         kept = refl;
         same = refl;
         stage = subst (IsInnerOver tells number before last (told ++ [])) (sym stage.0)
-            (from_untold (λ b t. IsInnerOver tells number b last (t ++ []) inners.Look) stage.1 (record { phase = found; found = tell; kept_is = refl; none_told = refl }));
+            (holds_of_untold (λ b t. IsInnerOver tells number b last (t ++ []) inners.Look) stage.1 (record { phase = found; found = tell; kept_is = refl; none_told = refl }));
       }
 
   -- the phase was loaded that is to be compared
-  pub asking_leads : (other : ℕ) → PlaceLeads (places.Collecting (Asking other))
-  asking_leads other heap number inner before seat told here collects stage found tell = record {
+  pub inner_leads_at_look_asking : (other : ℕ) → PlaceLeads (places.Collecting (Asking other))
+  inner_leads_at_look_asking other heap number inner before seat told here collects stage found tell = record {
     kept = refl;
     same = refl;
-    stage = (stage.0, from_untold (λ b t. HasAsked tells b (kept_of (with_seen found seat)) found (t ++ [])) stage.1 (record { told_of = tell; kept_is = refl; none_told = refl }));
+    stage = (stage.0, holds_of_untold (λ b t. HasAsked tells b (kept_of (with_seen found seat)) found (t ++ [])) stage.1 (record { told_of = tell; kept_is = refl; none_told = refl }));
   }
 
   -- the other seat's word was loaded
-  pub comparing_leads : (other phase : ℕ) → PlaceLeads (places.Collecting (Comparing other phase))
-  comparing_leads other phase heap number inner before seat told here collects stage found tell =
+  pub inner_leads_at_comparing : (other phase : ℕ) → PlaceLeads (places.Collecting (Comparing other phase))
+  inner_leads_at_comparing other phase heap number inner before seat told here collects stage found tell =
       let last = kept_of ((comparing_move seat other phase).told found) in
       let asked = stage.1 in
       record {
@@ -67,14 +67,14 @@ module _ (tells : Step → ℕ → Type 0) where
       }
 
   -- the reply was noted
-  pub note_leads : (reply : CollectReply) → PlaceLeads (places.Collecting (Noting reply))
-  note_leads reply heap number inner before seat told here collects stage found tell =
+  pub inner_leads_at_noting : (reply : CollectReply) → PlaceLeads (places.Collecting (Noting reply))
+  inner_leads_at_noting reply heap number inner before seat told here collects stage found tell =
       let last = kept_of ((note_move number seat reply).told found) in
       record {
         kept = refl;
         same = refl;
         stage = subst (IsInnerOver tells number before last (told ++ Said number seat.command (noted_reply reply) ∷ [])) (sym stage.0)
-            (from_untold (λ b t. IsInnerOver tells number b last (t ++ Said number seat.command (noted_reply reply) ∷ []) (inners.Note reply)) stage.1 (record {
+            (holds_of_untold (λ b t. IsInnerOver tells number b last (t ++ Said number seat.command (noted_reply reply) ∷ []) (inners.Note reply)) stage.1 (record {
               allowed = here.hand.2;
               phase = found;
               found = tell;

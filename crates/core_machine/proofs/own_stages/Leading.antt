@@ -23,12 +23,12 @@ module _ (tells : Step → ℕ → Type 0) where
       → IfSome (move_at heap number seat place) (LeadsOn heap number before seat told)
 
 -- nothing more is told
-pub quiet : (P : List Entry → Type 0) (told : List Entry) → P told → P (told ++ [])
-quiet P told is = subst P (sym (append-nil told)) is
+pub holds_with_nothing_told : (P : List Entry → Type 0) (told : List Entry) → P told → P (told ++ [])
+holds_with_nothing_told P told is = subst P (sym (append-nil told)) is
 
 -- what is true of a seat that has told nothing is true of one that has changed nothing and told nothing
-pub from_untold : (P : Kept → List Entry → Type 0) {before kept : Kept} {told : List Entry} → IsUntold before kept told → P kept [] → P before told
-from_untold P {before} {kept} {told} is holds = subst (λ (b : Kept). P b told) is.kept_stays (subst (λ (t : List Entry). P kept t) (sym is.none_told) holds)
+pub holds_of_untold : (P : Kept → List Entry → Type 0) {before kept : Kept} {told : List Entry} → IsUntold before kept told → P kept [] → P before told
+holds_of_untold P {before} {kept} {told} is holds = subst (λ (b : Kept). P b told) is.kept_stays (subst (λ (t : List Entry). P kept t) (sym is.none_told) holds)
 
 -- nothing comes before the reply of a call that tells it alone
 alone_first : (number : ℕ) (before : Kept) (command : Command) (reply : Reply) → RepliesAlone command → ComesFirst number before command reply []
@@ -40,9 +40,9 @@ alone_first number before commands.Leave reply alone = absurd alone
 alone_first number before _ reply alone = refl
 
 -- such a call was answered
-pub answered_alone : (tells : Step → ℕ → Type 0) (heap : Heap) (number : ℕ) (command : Command) (before kept : Kept) (reply : Reply) → RepliesAlone command
+pub reply_alone_answers : (tells : Step → ℕ → Type 0) (heap : Heap) (number : ℕ) (command : Command) (before kept : Kept) (reply : Reply) → RepliesAlone command
     → StandsOn tells heap number command before kept [] reply → IsAnswered tells heap number command before kept (Said number command reply ∷ [])
-answered_alone tells heap number command before kept reply alone stands = record {
+reply_alone_answers tells heap number command before kept reply alone stands = record {
   reply = reply;
   first = [];
   last = refl;

@@ -54,22 +54,22 @@ module _ (tells : Step → ℕ → Type 0) (heap : Heap) (number : ℕ) (command
   reached_held reached part (inr is) none = opened_held is.head is.located.way.meta is.located.way.opened none
 
   -- without an object the reply says so
-  pub none_refused : (reply : Reply) → StandsOn tells heap number command before kept first reply → held_head before command ≡ None → reply ≡ replies.NoObject
-  none_refused replies.Done is none = (done_locally before kept command names is).reply_is ∙ none_replied before.registers command names
-  none_refused replies.Yes is none = is.reply_is ∙ none_replied before.registers command names
-  none_refused replies.No is none = is.reply_is ∙ none_replied before.registers command names
-  none_refused (replies.Made id) is none = absurd (no_maker command names is.an_object)
-  none_refused (replies.Got value stamp) is none = reached_held is.reached is.part is.field none
-  none_refused (replies.Was stamp) is none = reached_held is.reached is.part is.field none
-  none_refused (replies.Length n) is none = opened_held is.head is.meta is.opened none
-  none_refused (replies.Phase p) is none = absurd (no_poll command names is.a_poll)
-  none_refused (replies.Cycle j) is none = absurd is
-  none_refused (replies.Waits other answered phase) is none = absurd is
-  none_refused replies.NoObject is none = refl
-  none_refused replies.NoField is none = opened_held is.head is.meta is.opened none
-  none_refused (replies.Full need found) is none = absurd (no_maker command names is.an_object)
-  none_refused (replies.SpineFull need used) is none = absurd (no_array command names is.an_array)
+  pub reply_is_no_object : (reply : Reply) → StandsOn tells heap number command before kept first reply → held_head before command ≡ None → reply ≡ replies.NoObject
+  reply_is_no_object replies.Done is none = (done_locally before kept command names is).reply_is ∙ none_replied before.registers command names
+  reply_is_no_object replies.Yes is none = is.reply_is ∙ none_replied before.registers command names
+  reply_is_no_object replies.No is none = is.reply_is ∙ none_replied before.registers command names
+  reply_is_no_object (replies.Made id) is none = absurd (no_maker command names is.an_object)
+  reply_is_no_object (replies.Got value stamp) is none = reached_held is.reached is.part is.field none
+  reply_is_no_object (replies.Was stamp) is none = reached_held is.reached is.part is.field none
+  reply_is_no_object (replies.Length n) is none = opened_held is.head is.meta is.opened none
+  reply_is_no_object (replies.Phase p) is none = absurd (no_poll command names is.a_poll)
+  reply_is_no_object (replies.Cycle j) is none = absurd is
+  reply_is_no_object (replies.Waits other answered phase) is none = absurd is
+  reply_is_no_object replies.NoObject is none = refl
+  reply_is_no_object replies.NoField is none = opened_held is.head is.meta is.opened none
+  reply_is_no_object (replies.Full need found) is none = absurd (no_maker command names is.an_object)
+  reply_is_no_object (replies.SpineFull need used) is none = absurd (no_array command names is.an_array)
 
   -- and a reply that says so is without one
-  pub refused_none : StandsOn tells heap number command before kept first replies.NoObject → held_head before command ≡ None
-  refused_none is = none_held before command names is.local
+  pub no_object_is_held : StandsOn tells heap number command before kept first replies.NoObject → held_head before command ≡ None
+  no_object_is_held is = none_held before command names is.local

@@ -3,8 +3,8 @@ use Rattle.std.proofs.Common.{◌≡◌, ℕ, suc, ◌+◌, ◌*◌, ◌/◌, �
 use Rattle.std.proofs.lemmas.Bool.Decides.{leb_tells}
 
 -- where they leave the same remainder they are the same
-pub same_turn : (a b n : ℕ) → a ≤ b → b < a + n → a % n ≡ b % n → a ≡ b
-same_turn a b n le lt same =
+pub same_remainder_same_turn : (a b n : ℕ) → a ≤ b → b < a + n → a % n ≡ b % n → a ≡ b
+same_remainder_same_turn a b n le lt same =
     let whole_a = div-add-mod' a n in
     let whole_b = div-add-mod' b n in
     elim (leb_tells (b / n) (a / n)) as (λ _. a ≡ b) [

@@ -11,11 +11,11 @@ use Rattle.core_machine.specs.declared.place.Place.TheVariants as places
 use Rattle.core_machine.specs.declared.step.AccessStep.TheVariants.{WalkLoad}
 use Rattle.core_machine.specs.declared.step.Step.TheVariants as steps
 use Rattle.core_machine.specs.seat.AccessMoves.{reply_entries_if}
-use Rattle.core_machine.proofs.call_lemmas.RepliesAlone.{object_alone}
+use Rattle.core_machine.proofs.call_lemmas.RepliesAlone.{object_replies_alone}
 use Rattle.core_machine.proofs.moves.Standing.{IsAt}
-use Rattle.core_machine.proofs.moves.Walk.{onward_mine}
-use Rattle.core_machine.proofs.own_stages.Leading.{PlaceLeads, quiet, from_untold, answered_alone}
-use Rattle.core_machine.proofs.seat_lemmas.FieldPlaces.{field_cases}
+use Rattle.core_machine.proofs.moves.Walk.{onward_keeps_list}
+use Rattle.core_machine.proofs.own_stages.Leading.{PlaceLeads, holds_with_nothing_told, holds_of_untold, reply_alone_answers}
+use Rattle.core_machine.proofs.seat_lemmas.FieldPlaces.{field_place_cases}
 
 -- where the meta refuses no field, there is one
 field_within : (field found : ℕ) → field_reply_of field found ≡ None → field < length_of found
@@ -68,7 +68,7 @@ module _ (tells : Step → ℕ → Type 0) where
 
   -- the field was reached
   field_stage : (before : Kept) (seat s : Seat) (command : Command) → ReachesField tells s.command before s.reached s.part → AccessStage tells before s (field_place_of seat command)
-  field_stage before seat s command reaches = field_cases (AccessStage tells before s) seat command reaches (λ on. reaches) (λ off. reaches)
+  field_stage before seat s command reaches = field_place_cases (AccessStage tells before s) seat command reaches (λ on. reaches) (λ off. reaches)
 
   -- the way goes on by links, or was gone
   way_stage : (before : Kept) (seat s : Seat) → s.links ≡ seat.links → GoesByLinks tells s.command before s.reached s.links s.part → AccessStage tells before s (way_place_of seat)
@@ -81,7 +81,7 @@ module _ (tells : Step → ℕ → Type 0) where
   onward : (heap : Heap) (number : ℕ) (before : Kept) (seat : Seat) (told : List Entry) (found : ℕ) → IsUntold before (kept_of seat) told → GoesByLinks tells seat.command before seat.reached seat.links seat.part
       → tells (steps.Access (WalkLoad seat.reached)) found → StageAt tells heap number before (with_entries (after_walk seat found) []) (told ++ []) (after_walk seat found).place
   onward heap number before seat told found untold goes tell =
-      let still = quiet (IsUntold before (kept_of seat)) told untold in
+      let still = holds_with_nothing_told (IsUntold before (kept_of seat)) told untold in
       elim (eqb_tells seat.links 0) as (λ _. StageAt tells heap number before (with_entries (after_walk seat found) []) (told ++ []) (after_walk seat found).place) [
         | inl none ↦
             let stage : StageAt tells heap number before (with_entries (at_access seat (way_place_of seat)) []) (told ++ []) (places.Access (way_place_of seat)) =
@@ -104,9 +104,9 @@ module _ (tells : Step → ℕ → Type 0) where
       ]
 
   -- a link was loaded
-  pub walk_leads : PlaceLeads tells (places.Access Walking)
-  walk_leads heap number before seat told here stage found tell =
-      record { kept = onward_mine seat found; same = onward_same seat found; stage = onward heap number before seat told found stage.0 stage.1 tell }
+  pub place_leads_at_walking : PlaceLeads tells (places.Access Walking)
+  place_leads_at_walking heap number before seat told here stage found tell =
+      record { kept = onward_keeps_list seat found; same = onward_same seat found; stage = onward heap number before seat told found stage.0 stage.1 tell }
 
   module _ (heap : Heap) (number : ℕ) (before : Kept) (seat : Seat) (told : List Entry) (here : IsAt heap number seat (places.Access LoadingMeta)) (untold : IsUntold before (kept_of seat) told)
       (found : ℕ) (tell : tells (steps.Access (WalkLoad seat.reached)) found) where
@@ -118,9 +118,9 @@ module _ (tells : Step → ℕ → Type 0) where
         → ((after_length seat found cells).mine ≡ seat.mine) × ((after_length seat found cells).command ≡ seat.command)
         × StageAt tells heap number before (with_entries (after_length seat found cells) []) (told ++ []) (after_length seat found cells).place
     length_leads None is within = (
-      onward_mine (with_field_place seat) found,
+      onward_keeps_list (with_field_place seat) found,
       onward_same (with_field_place seat) found,
-      from_untold (λ b t. StageAt tells heap number b (with_entries (after_length seat found None) []) (t ++ []) (after_length seat found None).place) untold
+      holds_of_untold (λ b t. StageAt tells heap number b (with_entries (after_length seat found None) []) (t ++ []) (after_length seat found None).place) untold
           (onward heap number (kept_of seat) (with_field_place seat) [] found (record { kept_stays = refl; none_told = refl }) (record {
             head = seat.reached;
             meta = found;
@@ -136,7 +136,7 @@ module _ (tells : Step → ℕ → Type 0) where
     length_leads (Some cells) is within = (
       refl,
       refl,
-      from_untold (λ b t. StageAt tells heap number b (with_entries (after_length seat found (Some cells)) []) (t ++ []) (places.Access LoadingSpot)) untold (
+      holds_of_untold (λ b t. StageAt tells heap number b (with_entries (after_length seat found (Some cells)) []) (t ++ []) (places.Access LoadingSpot)) untold (
         record { kept_stays = refl; none_told = refl },
         record { meta = found; cells = cells; opened = opened; an_array = is; within = within; part_is = refl },
       ),
@@ -149,32 +149,32 @@ module _ (tells : Step → ℕ → Type 0) where
     met_leads (Some reply) is = (
       refl,
       refl,
-      from_untold (λ b t. IsAnswered tells heap number seat.command b (kept_of (after_meta seat found (Some reply))) (t ++ Said number seat.command reply ∷ [])) untold
-          (answered_alone tells heap number seat.command (kept_of seat) (kept_of (after_meta seat found (Some reply))) reply (object_alone seat.command here.way.names)
+      holds_of_untold (λ b t. IsAnswered tells heap number seat.command b (kept_of (after_meta seat found (Some reply))) (t ++ Said number seat.command reply ∷ [])) untold
+          (reply_alone_answers tells heap number seat.command (kept_of seat) (kept_of (after_meta seat found (Some reply))) reply (object_replies_alone seat.command here.way.names)
           (met_stands heap number seat.command (kept_of seat) (kept_of (after_meta seat found (Some reply))) seat.reached found reply here.way.names opened refl is)),
     )
 
   -- the meta was loaded
-  pub open_leads : PlaceLeads tells (places.Access LoadingMeta)
-  open_leads heap number before seat told here stage found tell =
+  pub place_leads_at_loading_meta : PlaceLeads tells (places.Access LoadingMeta)
+  place_leads_at_loading_meta heap number before seat told here stage found tell =
       let met = met_leads heap number before seat told here stage.0 found tell (meta_reply_of seat.command found) refl in
       record { kept = met.0; same = met.1; stage = met.2 }
 
   -- the place of the spine was loaded
-  pub locate_leads : PlaceLeads tells (places.Access LoadingSpot)
-  locate_leads heap number before seat told here stage found tell = record {
+  pub place_leads_at_locating : PlaceLeads tells (places.Access LoadingSpot)
+  place_leads_at_locating heap number before seat told here stage found tell = record {
     kept = refl;
     same = refl;
-    stage = (quiet (IsUntold before (kept_of seat)) told stage.0, record { way = stage.1; word = found; told = tell; address_is = refl });
+    stage = (holds_with_nothing_told (IsUntold before (kept_of seat)) told stage.0, record { way = stage.1; word = found; told = tell; address_is = refl });
   }
 
   -- the spine word was loaded
-  pub index_leads : PlaceLeads tells (places.Access Indexing)
-  index_leads heap number before seat told here stage found tell = record {
+  pub place_leads_at_indexing : PlaceLeads tells (places.Access Indexing)
+  place_leads_at_indexing heap number before seat told here stage found tell = record {
     kept = refl;
     same = refl;
     stage = (
-      quiet (IsUntold before (kept_of seat)) told stage.0,
+      holds_with_nothing_told (IsUntold before (kept_of seat)) told stage.0,
       field_stage before (at_payload seat found) (with_entries (after_index seat found) []) seat.command
           (inr (record { head = seat.reached; address = seat.address; located = stage.1; word = found; told = tell; reached_is = refl })),
     );

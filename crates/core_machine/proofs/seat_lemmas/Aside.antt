@@ -23,22 +23,22 @@ abbrev pub IsAside : Heap → Seat → Type 0
 IsAside heap seat = StandsAside heap seat.registers seat.reached seat.links seat.part seat.address seat.loaded seat.asked seat.shaded seat.left
 
 -- who hasn't left isn't gone
-pub gone_aside : {G : Type 0} {left : Bool} → left ≡ false → left ≡ true → G
-gone_aside present gone = let not : false ≡ true = sym present ∙ gone in absurd (differ not)
+pub left_aside_is_absurd : {G : Type 0} {left : Bool} → left ≡ false → left ≡ true → G
+left_aside_is_absurd present gone = let not : false ≡ true = sym present ∙ gone in absurd (differ not)
   where
     differ : false ≡ true → ⊥
     differ e = cc
 
 -- a seat with a call in flight hasn't left
-pub present_busy : (heap : Heap) (seat : Seat) (place : Place) → Fits heap seat → seat.place ≡ place → (place ≡ places.Idle → ⊥) → seat.left ≡ false
-present_busy heap seat place fits here busy = by seat.left (λ gone. busy (sym here ∙ (fits.gone gone).idle)) where
+pub busy_has_not_left : (heap : Heap) (seat : Seat) (place : Place) → Fits heap seat → seat.place ≡ place → (place ≡ places.Idle → ⊥) → seat.left ≡ false
+busy_has_not_left heap seat place fits here busy = by seat.left (λ gone. busy (sym here ∙ (fits.gone gone).idle)) where
   by : (left : Bool) → (left ≡ true → ⊥) → left ≡ false
   by false no_ = refl
   by true no_ = absurd (no_ refl)
 
 -- while no call is in flight
-pub aside_idle : (heap : Heap) (seat : Seat) → Fits heap seat → seat.place ≡ places.Idle → seat.left ≡ false → IsAside heap seat
-aside_idle heap seat fits here present = record {
+pub idle_is_aside : (heap : Heap) (seat : Seat) → Fits heap seat → seat.place ≡ places.Idle → seat.left ≡ false → IsAside heap seat
+idle_is_aside heap seat fits here present = record {
   registers_fit = fits.own.registers_fit;
   reached_within = fits.way.reached_within;
   address_within = fits.way.address_within;
@@ -66,27 +66,27 @@ fits_parts heap seat hand stored tried given used spine listed place fits aside 
   at_place = at_place;
   way_at_place = way;
   answer_at_place = answer;
-  gone = gone_aside aside.present;
+  gone = left_aside_is_absurd aside.present;
 }
 
 -- with another hand alone
 abbrev pub with_hand : Seat → List ℕ → ℕ → ℕ → ℕ → Place → Seat
 with_hand seat hand stored tried given place = record seat { hand = hand; stored = stored; tried = tried; given = given; place = place }
 
-pub fits_hand : (heap : Heap) (seat : Seat) (hand : List ℕ) (stored tried given : ℕ) (place : Place) → Fits heap seat → IsAside heap seat → AreFragments heap hand
+pub fits_with_hand : (heap : Heap) (seat : Seat) (hand : List ℕ) (stored tried given : ℕ) (place : Place) → Fits heap seat → IsAside heap seat → AreFragments heap hand
     → FitsPlace heap (with_hand seat hand stored tried given place) place → FitsWay (with_hand seat hand stored tried given place) place
     → FitsAnswer (with_hand seat hand stored tried given place) place → Fits heap (with_hand seat hand stored tried given place)
-fits_hand heap seat hand stored tried given place fits aside within at_place way answer =
+fits_with_hand heap seat hand stored tried given place fits aside within at_place way answer =
     fits_parts heap seat hand stored tried given seat.used seat.spine seat.listed place fits aside within fits.hand.spine_within at_place way answer
 
 -- with another place of its spine alone, and with other counts of spine words
 abbrev pub with_spine : Seat → ℕ → Spot → ℕ → Place → Seat
 with_spine seat used spine listed place = record seat { used = used; spine = spine; listed = listed; place = place }
 
-pub fits_spine : (heap : Heap) (seat : Seat) (used : ℕ) (spine : Spot) (listed : ℕ) (place : Place) → Fits heap seat → IsAside heap seat → FitsSpot spine
+pub fits_with_spine : (heap : Heap) (seat : Seat) (used : ℕ) (spine : Spot) (listed : ℕ) (place : Place) → Fits heap seat → IsAside heap seat → FitsSpot spine
     → FitsPlace heap (with_spine seat used spine listed place) place → FitsWay (with_spine seat used spine listed place) place
     → FitsAnswer (with_spine seat used spine listed place) place → Fits heap (with_spine seat used spine listed place)
-fits_spine heap seat used spine listed place fits aside within at_place way answer =
+fits_with_spine heap seat used spine listed place fits aside within at_place way answer =
     fits_parts heap seat seat.hand seat.stored seat.tried seat.given used spine listed place fits aside fits.hand.hand_within within at_place way answer
 
 -- the spot at no spine is one
@@ -94,22 +94,22 @@ pub no_spot_fits : FitsSpot no_spot
 no_spot_fits = record { half_within = omega arith; offset_within = omega arith }
 
 -- nothing is in a hand that fits
-pub no_hand_fits : (heap : Heap) → HandFits heap [] [] no_spot
-no_hand_fits heap =
+pub empty_hand_fits : (heap : Heap) → HandFits heap [] [] no_spot
+empty_hand_fits heap =
     record { hand_within = All-nil (λ fragment. fragment < 16 * heap.groups); body_within = All-nil (λ fragment. fragment < 16 * heap.groups); spine_within = no_spot_fits }
 
 -- nor is anything reached or loaded
-pub no_way_fits : (heap : Heap) → 0 < heap.groups → WayFits heap 0 no_spot 0
-no_way_fits heap some = record { reached_within = omega (arith, some); address_within = no_spot_fits; loaded_within = tt }
+pub empty_way_fits : (heap : Heap) → 0 < heap.groups → WayFits heap 0 no_spot 0
+empty_way_fits heap some = record { reached_within = omega (arith, some); address_within = no_spot_fits; loaded_within = tt }
 
 -- what a seat has reached and loaded is within the heap
-pub aside_way : (heap : Heap) (seat : Seat) → IsAside heap seat → WayFits heap seat.reached seat.address seat.loaded
-aside_way heap seat aside = record { reached_within = aside.reached_within; address_within = aside.address_within; loaded_within = aside.loaded_within }
+pub aside_way_fits : (heap : Heap) (seat : Seat) → IsAside heap seat → WayFits heap seat.reached seat.address seat.loaded
+aside_way_fits heap seat aside = record { reached_within = aside.reached_within; address_within = aside.address_within; loaded_within = aside.loaded_within }
 
 -- the call is over: of the seat's own data its registers, its reserve and its cursor matter alone
-pub fits_over : (heap : Heap) (seat : Seat) → length seat.registers ≡ 16 → All (FitsRegister heap) seat.registers → seat.cursor < heap.groups → length seat.reserve ≤ 15
+pub fits_after_call : (heap : Heap) (seat : Seat) → length seat.registers ≡ 16 → All (FitsRegister heap) seat.registers → seat.cursor < heap.groups → length seat.reserve ≤ 15
     → All (λ fragment. fragment / 16 ≡ seat.cursor) seat.reserve → (seat.left ≡ true → seat.reserve ≡ []) → Fits heap (after_call seat)
-fits_over heap seat whole fit cursor small of_cursor gone = record {
+fits_after_call heap seat whole fit cursor small of_cursor gone = record {
   own = record {
     registers_whole = whole;
     registers_fit = fit;
@@ -117,8 +117,8 @@ fits_over heap seat whole fit cursor small of_cursor gone = record {
     small_reserve = small;
     reserve_of_cursor = of_cursor;
   };
-  hand = no_hand_fits heap;
-  way = no_way_fits heap (omega (arith, cursor));
+  hand = empty_hand_fits heap;
+  way = empty_way_fits heap (omega (arith, cursor));
   asked_small = omega arith;
   at_place = record { empty_hand = refl; no_body = refl; none_stored = refl; none_tried = refl; none_given = refl; no_spine = record { none_used = refl; no_place = refl; none_listed = refl } };
   way_at_place = record { none_reached = refl; no_links = refl; no_part = refl; no_address = refl; none_loaded = refl };
@@ -127,8 +127,8 @@ fits_over heap seat whole fit cursor small of_cursor gone = record {
 }
 
 -- so it is where the call ends without a reply
-pub fits_ended : (heap : Heap) (seat : Seat) → Fits heap (after_call seat) → Fits heap (call_over seat)
-fits_ended heap seat fits = record {
+pub fits_when_over : (heap : Heap) (seat : Seat) → Fits heap (after_call seat) → Fits heap (call_over seat)
+fits_when_over heap seat fits = record {
   own = fits.own;
   hand = fits.hand;
   way = fits.way;
@@ -145,15 +145,15 @@ rest_over seat here rest nowhere silent =
     rw (here, rest.empty_hand, rest.no_body, rest.none_stored, rest.none_tried, rest.none_given, rest.no_spine.none_used, rest.no_spine.no_place, rest.no_spine.none_listed, nowhere.none_reached, nowhere.no_links, nowhere.no_part, nowhere.no_address, nowhere.none_loaded, silent.none_asked, silent.none_shaded) refl
 
 -- a seat without a call in flight has nothing of one
-pub over_idle : (heap : Heap) (seat : Seat) → Fits heap seat → seat.place ≡ places.Idle → call_over seat ≡ seat
-over_idle heap seat fits here =
+pub idle_call_over_same : (heap : Heap) (seat : Seat) → Fits heap seat → seat.place ≡ places.Idle → call_over seat ≡ seat
+idle_call_over_same heap seat fits here =
     let rest : IsAtRest seat = subst (FitsPlace heap seat) here fits.at_place in
     let nowhere : IsNowhere seat = subst (FitsWay seat) here fits.way_at_place in
     let silent : IsSilent seat = subst (FitsAnswer seat) here fits.answer_at_place in
     rest_over seat here rest nowhere silent
 
 -- a seat that makes nothing and answers no phase has its way alone of a call
-pub over_way : (seat : Seat) → IsAtRest seat → IsSilent seat → after_call seat ≡ record seat { reached = 0; links = 0; part = 0; address = no_spot; loaded = 0; place = places.Idle; looks = forgotten seat.looks }
-over_way seat rest silent = by where
+pub call_over_clears_way : (seat : Seat) → IsAtRest seat → IsSilent seat → after_call seat ≡ record seat { reached = 0; links = 0; part = 0; address = no_spot; loaded = 0; place = places.Idle; looks = forgotten seat.looks }
+call_over_clears_way seat rest silent = by where
   by : after_call seat ≡ record seat { hand = seat.hand; body = seat.body; stored = seat.stored; tried = seat.tried; given = seat.given; used = seat.used; spine = seat.spine; listed = seat.listed; reached = 0; links = 0; part = 0; address = no_spot; loaded = 0; place = places.Idle; asked = seat.asked; shaded = seat.shaded; looks = forgotten seat.looks }
   by = rw (rest.empty_hand, rest.no_body, rest.none_stored, rest.none_tried, rest.none_given, rest.no_spine.none_used, rest.no_spine.no_place, rest.no_spine.none_listed, silent.none_asked, silent.none_shaded) refl

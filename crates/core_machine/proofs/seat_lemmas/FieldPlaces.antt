@@ -2,10 +2,10 @@
 use Rattle.std.proofs.Common.{◌≡◌, true, false, inl, inr}
 use Rattle.core_machine.proofs.Terms.{Command, Set, Getting, LoadingOld, Swapping, Seat, has_barrier_of, field_place_of}
 use Rattle.core_machine.specs.declared.place.Access.{Access}
-use Rattle.core_machine.proofs.table_lemmas.Bits.{bool_tells}
+use Rattle.core_machine.proofs.table_lemmas.Bits.{true_or_false}
 
-pub field_cases : (P : Access → Type 0) (seat : Seat) (command : Command) → P Getting → (has_barrier_of seat ≡ true → P LoadingOld) → (has_barrier_of seat ≡ false → P Swapping)
+pub field_place_cases : (P : Access → Type 0) (seat : Seat) (command : Command) → P Getting → (has_barrier_of seat ≡ true → P LoadingOld) → (has_barrier_of seat ≡ false → P Swapping)
     → P (field_place_of seat command)
-field_cases P seat (Set r i v) gets loads swaps =
-    elim (bool_tells (has_barrier_of seat)) as (λ _. P (field_place_of seat (Set r i v))) [ inl on ↦ rw on (loads on) | inr off ↦ rw off (swaps off) ]
-field_cases P seat _ gets loads swaps = gets
+field_place_cases P seat (Set r i v) gets loads swaps =
+    elim (true_or_false (has_barrier_of seat)) as (λ _. P (field_place_of seat (Set r i v))) [ inl on ↦ rw on (loads on) | inr off ↦ rw off (swaps off) ]
+field_place_cases P seat _ gets loads swaps = gets

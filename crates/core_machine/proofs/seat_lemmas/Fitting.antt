@@ -12,34 +12,34 @@ use Rattle.heap_model.specs.Command.{IsCommand}
 use Rattle.heap_model.specs.account.Space.{need_of}
 use Rattle.core_machine.specs.declared.place.Place.TheVariants as places
 use Rattle.core_machine.specs.declared.place.Making.{Making}
-use Rattle.core_machine.proofs.seat_lemmas.Aside.{IsAside, gone_aside, no_spot_fits, aside_way}
-use Rattle.core_machine.proofs.table_lemmas.Owned.{within_group}
+use Rattle.core_machine.proofs.seat_lemmas.Aside.{IsAside, left_aside_is_absurd, no_spot_fits, aside_way_fits}
+use Rattle.core_machine.proofs.table_lemmas.Owned.{group_fragments_within_heap}
 
 -- an object has at least one fragment, and at most one and 1024
-pub need_of_object : (command : Command) → MakesObject command → IsCommand command → (1 ≤ need_of command) × (need_of command ≤ 1025)
-need_of_object (New d fields) makes range = (omega arith, omega (arith, range.1.1))
-need_of_object (Array d cells) makes range = (omega arith, omega (arith, range.1.1))
-need_of_object _ makes range = absurd makes
+pub object_need_within_limits : (command : Command) → MakesObject command → IsCommand command → (1 ≤ need_of command) × (need_of command ≤ 1025)
+object_need_within_limits (New d fields) makes range = (omega arith, omega (arith, range.1.1))
+object_need_within_limits (Array d cells) makes range = (omega arith, omega (arith, range.1.1))
+object_need_within_limits _ makes range = absurd makes
 
 -- an array has at least one spine word and at most 1024, and one fragment more than spine words
-pub words_of_array : (command : Command) → IsArrayCall command → IsCommand command
+pub array_words_within_limits : (command : Command) → IsArrayCall command → IsCommand command
     → (1 ≤ spine_need_of command) × (spine_need_of command ≤ 1024) × (need_of command ≡ 1 + spine_need_of command)
-words_of_array (Array d cells) an_array range = (omega (arith, range.1.0), omega (arith, range.1.1), refl)
-words_of_array _ an_array range = absurd an_array
+array_words_within_limits (Array d cells) an_array range = (omega (arith, range.1.0), omega (arith, range.1.1), refl)
+array_words_within_limits _ an_array range = absurd an_array
 
 -- an array is an object, and so is a record
-pub array_makes : (command : Command) → IsArrayCall command → MakesObject command
-array_makes (Array d cells) an_array = tt
-array_makes _ an_array = absurd an_array
+pub array_makes_object : (command : Command) → IsArrayCall command → MakesObject command
+array_makes_object (Array d cells) an_array = tt
+array_makes_object _ an_array = absurd an_array
 
-pub record_makes : (command : Command) → IsRecordCall command → MakesObject command
-record_makes (New d fields) a_record = tt
-record_makes _ a_record = absurd a_record
+pub record_makes_object : (command : Command) → IsRecordCall command → MakesObject command
+record_makes_object (New d fields) a_record = tt
+record_makes_object _ a_record = absurd a_record
 
 -- all words of an array's spine are stored when as many were stored as it needs
-pub listed_all : (command : Command) (spine : Spot) (listed : ℕ) → IsArrayCall command → listed ≡ spine_need_of command → SpineIsListed command spine listed
-listed_all (Array d cells) spine listed an_array all = all
-listed_all _ spine listed an_array all = absurd an_array
+pub spine_is_all_listed : (command : Command) (spine : Spot) (listed : ℕ) → IsArrayCall command → listed ≡ spine_need_of command → SpineIsListed command spine listed
+spine_is_all_listed (Array d cells) spine listed an_array all = all
+spine_is_all_listed _ spine listed an_array all = absurd an_array
 
 -- a seat goes on in one of three ways
 pub goes_on_cases : (P : Seat → Type 0) (heap : Heap) (seat : Seat) → (need seat ≤ length (fragments_gathered seat) → P (after_gather heap seat))
@@ -114,10 +114,10 @@ fits_settled_place heap seat body unstored some none =
 
 fits_settled : (heap : Heap) (seat : Seat) → IsGathered heap seat → need seat ≤ length (fragments_gathered seat) → Fits heap (after_gather heap seat)
 fits_settled heap seat is enough =
-    let some = need_of_object seat.command is.makes.an_object is.makes.in_range in
+    let some = object_need_within_limits seat.command is.makes.an_object is.makes.in_range in
     let all : AreFragments heap (fragments_gathered seat) =
     All-append (λ fragment. fragment < 16 * heap.groups) seat.reserve seat.hand
-    (within_group heap seat.cursor seat.reserve is.cursor_within is.reserve_of_cursor) is.hand_within in
+    (group_fragments_within_heap heap seat.cursor seat.reserve is.cursor_within is.reserve_of_cursor) is.hand_within in
     let used : AreFragments heap (take (need seat) (fragments_gathered seat)) =
     All-take (λ fragment. fragment < 16 * heap.groups) (need seat) (fragments_gathered seat) all in
     let long = length-append seat.reserve seat.hand in
@@ -135,21 +135,21 @@ fits_settled heap seat is enough =
         body_within = used;
         spine_within = no_spine_fits seat.used seat.spine seat.listed is.no_spine;
       };
-      way = aside_way heap seat is.aside;
+      way = aside_way_fits heap seat is.aside;
       asked_small = is.aside.asked_small;
       way_at_place = is.aside.nowhere;
       answer_at_place = is.aside.silent;
-      gone = gone_aside is.aside.present;
+      gone = left_aside_is_absurd is.aside.present;
       at_place = fits_settled_place heap (after_gather heap seat)
           (record { makes = is.makes; whole = whole; none_tried = refl; none_given = is.none_given; none_used = is.no_spine.none_used })
           (record { all_unborn = refl; none_stored = is.none_stored }) (omega (arith, some.0, whole)) is.no_spine;
     }
 
 -- the place of a refusal tells whether anything is to be given back
-pub fits_returning : (heap : Heap) (seat : Seat) (hand : List ℕ) → SeatIsRefusing heap seat → seat.hand ≡ hand
+pub refusal_place_fits : (heap : Heap) (seat : Seat) (hand : List ℕ) → SeatIsRefusing heap seat → seat.hand ≡ hand
     → FitsMaking heap seat (refusal_place hand)
-fits_returning heap seat [] refuses is = (refuses, is)
-fits_returning heap seat (fragment ∷ more) refuses is = (refuses, rw is (omega arith))
+refusal_place_fits heap seat [] refuses is = (refuses, is)
+refusal_place_fits heap seat (fragment ∷ more) refuses is = (refuses, rw is (omega arith))
 
 -- what is gathered goes on to a place of making that it fits
 fits_gathered : (heap : Heap) (seat : Seat) (place : Making) → IsGathered heap seat → FitsMaking heap (record seat { place = places.Making place }) place
@@ -167,12 +167,12 @@ fits_gathered heap seat place is at_place = record {
     body_within = rw is.no_body (All-nil (λ fragment. fragment < 16 * heap.groups));
     spine_within = no_spine_fits seat.used seat.spine seat.listed is.no_spine;
   };
-  way = aside_way heap seat is.aside;
+  way = aside_way_fits heap seat is.aside;
   asked_small = is.aside.asked_small;
   at_place = at_place;
   way_at_place = is.aside.nowhere;
   answer_at_place = is.aside.silent;
-  gone = gone_aside is.aside.present;
+  gone = left_aside_is_absurd is.aside.present;
 }
 
 fits_gathering : (heap : Heap) (seat : Seat) → IsGathered heap seat → seat.tried < heap.groups
@@ -183,18 +183,18 @@ fits_gathering heap seat is left few = fits_gathered heap seat Gathering is
 fits_refused : (heap : Heap) (seat : Seat) → IsGathered heap seat → seat.tried ≡ heap.groups
     → length seat.reserve + length seat.hand < need seat → Fits heap (after_shortage seat)
 fits_refused heap seat is all few = fits_gathered heap seat (refusal_place seat.hand) is
-    (fits_returning heap (after_shortage seat) seat.hand
+    (refusal_place_fits heap (after_shortage seat) seat.hand
     (record { makes = is.makes; no_spine = is.no_spine; no_body = is.no_body; none_stored = is.none_stored; all_tried = all; too_few = omega (arith, is.none_given) }) refl)
 
-pub fits_goes_on : (heap : Heap) (seat : Seat) → IsGathered heap seat → Fits heap (gather_next heap seat)
-fits_goes_on heap seat is =
+pub fits_going_on : (heap : Heap) (seat : Seat) → IsGathered heap seat → Fits heap (gather_next heap seat)
+fits_going_on heap seat is =
     let long = length-append seat.reserve seat.hand in
     goes_on_cases (Fits heap) heap seat (λ enough. fits_settled heap seat is enough) (λ few left. fits_gathering heap seat is left (omega arith))
     (λ few all. fits_refused heap seat is (omega (arith, is.tried_within)) (omega arith))
 
 -- a seat with nothing in its hand that makes an object
-pub gathers_at_rest : (heap : Heap) (seat : Seat) → OwnFits heap seat.registers seat.reserve seat.cursor → IsAside heap seat → IsAtRest seat → MakesNext seat.command seat.made → IsGathered heap seat
-gathers_at_rest heap seat own aside rest makes = record {
+pub gathered_at_rest : (heap : Heap) (seat : Seat) → OwnFits heap seat.registers seat.reserve seat.cursor → IsAside heap seat → IsAtRest seat → MakesNext seat.command seat.made → IsGathered heap seat
+gathered_at_rest heap seat own aside rest makes = record {
   registers_whole = own.registers_whole;
   cursor_within = own.cursor_within;
   small_reserve = own.small_reserve;
@@ -212,5 +212,5 @@ gathers_at_rest heap seat own aside rest makes = record {
 }
 
 -- the group that is claimed next
-pub next_within : (heap : Heap) (seat : Seat) → seat.cursor < heap.groups → next_group_of heap seat < heap.groups
-next_within heap seat within = omega arith
+pub next_group_within_heap : (heap : Heap) (seat : Seat) → seat.cursor < heap.groups → next_group_of heap seat < heap.groups
+next_group_within_heap heap seat within = omega arith

@@ -8,7 +8,7 @@ use Rattle.core_machine.proofs.Terms.{Heap, Register, target_of, head_of, IsWith
 use Rattle.core_machine.proofs.Terms.{IsSilent, Fits}
 use Rattle.core_machine.specs.declared.place.Place.TheVariants as places
 use Rattle.core_machine.specs.declared.place.Access.{Access}
-use Rattle.core_machine.proofs.seat_lemmas.Aside.{gone_aside, fits_over}
+use Rattle.core_machine.proofs.seat_lemmas.Aside.{left_aside_is_absurd, fits_after_call}
 
 -- what a call that makes nothing leaves alone
 pub record Rests (heap : Heap) (seat : Seat) : Type 0 where
@@ -30,33 +30,33 @@ fits_way heap seat reached links part address loaded place rests within there le
   at_place = rests.rest;
   way_at_place = way;
   answer_at_place = rests.silent;
-  gone = gone_aside rests.present;
+  gone = left_aside_is_absurd rests.present;
 }
 
 -- the seat at another place of reaching
-pub fits_access : (heap : Heap) (seat : Seat) (reached links part loaded : ℕ) (place : Access) → Rests heap seat → reached < 16 * heap.groups
+pub fits_at_access : (heap : Heap) (seat : Seat) (reached links part loaded : ℕ) (place : Access) → Rests heap seat → reached < 16 * heap.groups
     → IsWithinHeap heap (head_of loaded)
     → FitsAccess (record seat { reached = reached; links = links; part = part; loaded = loaded; place = places.Access place }) place
     → Fits heap (record seat { reached = reached; links = links; part = part; loaded = loaded; place = places.Access place })
-fits_access heap seat reached links part loaded place rests within led way =
+fits_at_access heap seat reached links part loaded place rests within led way =
     fits_way heap seat reached links part seat.address loaded place rests within rests.fits.way.address_within led way
 
 -- the seat knows where the spine stands of the array that its way is in
-pub fits_addressed : (heap : Heap) (seat : Seat) (address : Spot) (place : Access) → Rests heap seat → FitsSpot address → FitsAccess (record seat { address = address; place = places.Access place }) place
+pub fits_with_address : (heap : Heap) (seat : Seat) (address : Spot) (place : Access) → Rests heap seat → FitsSpot address → FitsAccess (record seat { address = address; place = places.Access place }) place
     → Fits heap (record seat { address = address; place = places.Access place })
-fits_addressed heap seat address place rests there way =
+fits_with_address heap seat address place rests there way =
     fits_way heap seat seat.reached seat.links seat.part address seat.loaded place rests rests.fits.way.reached_within there rests.fits.way.loaded_within way
 
 -- the call is over, with these registers and so many sets
-pub fits_closed : (heap : Heap) (seat : Seat) (registers : List Register) (sets : ℕ) → Rests heap seat → length registers ≡ 16
+pub fits_after_sets : (heap : Heap) (seat : Seat) (registers : List Register) (sets : ℕ) → Rests heap seat → length registers ≡ 16
     → All (FitsRegister heap) registers → Fits heap (after_call (record seat { registers = registers; sets = sets }))
-fits_closed heap seat registers sets rests whole fit =
+fits_after_sets heap seat registers sets rests whole fit =
     let fits = rests.fits in
-    fits_over heap (record seat { registers = registers; sets = sets }) whole fit fits.own.cursor_within fits.own.small_reserve fits.own.reserve_of_cursor (gone_aside rests.present)
+    fits_after_call heap (record seat { registers = registers; sets = sets }) whole fit fits.own.cursor_within fits.own.small_reserve fits.own.reserve_of_cursor (left_aside_is_absurd rests.present)
 
 -- a register got another value, and the call is over
-pub fits_filled : (heap : Heap) (seat : Seat) (register : Register) → Rests heap seat → FitsRegister heap register → Fits heap (with_register_filled seat register)
-fits_filled heap seat register rests fit =
-    fits_closed heap seat (set seat.registers (target_of seat.command) register) seat.sets rests
+pub fits_with_register : (heap : Heap) (seat : Seat) (register : Register) → Rests heap seat → FitsRegister heap register → Fits heap (with_register_filled seat register)
+fits_with_register heap seat register rests fit =
+    fits_after_sets heap seat (set seat.registers (target_of seat.command) register) seat.sets rests
     (length-set seat.registers (target_of seat.command) register ∙ rests.fits.own.registers_whole)
     (All-set (FitsRegister heap) seat.registers (target_of seat.command) register fit rests.fits.own.registers_fit)

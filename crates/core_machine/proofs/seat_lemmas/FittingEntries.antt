@@ -3,8 +3,8 @@ use Rattle.std.proofs.Common.{List}
 use Rattle.core_machine.proofs.Terms.{Heap, Entry, Seat, with_entries, Fits}
 
 -- the entries don't matter
-pub fits_entries : (heap : Heap) (seat : Seat) (more : List Entry) → Fits heap seat → Fits heap (with_entries seat more)
-fits_entries heap seat more fits = record {
+pub fits_with_entries : (heap : Heap) (seat : Seat) (more : List Entry) → Fits heap seat → Fits heap (with_entries seat more)
+fits_with_entries heap seat more fits = record {
   own = fits.own;
   hand = fits.hand;
   way = fits.way;

@@ -15,9 +15,9 @@ written_over xs ws same =
     ap (λ l. take (length xs) (ws ++ l)) (drop_of_length-le xs {i = length ws} (omega (arith, same))) ∙ ap (take (length xs)) (append-nil ws) ∙ take_all (length xs) ws (omega (arith, same))
 
 -- so what was appended, and turned to the front, stands before the rest
-pub turned_front : (held kept appended turned_ : List ℕ) → appended ≡ held ++ kept → length turned_ ≡ length appended
+pub refilled_is_kept_and_held : (held kept appended turned_ : List ℕ) → appended ≡ held ++ kept → length turned_ ≡ length appended
     → turned_ ≡ drop (length appended - length kept) appended ++ take (length appended - length kept) appended → refill (length appended) appended turned_ ≡ kept ++ held
-turned_front held kept appended turned_ is same turns =
+refilled_is_kept_and_held held kept appended turned_ is same turns =
     written_over appended turned_ same ∙ turns
     ∙ ap (λ l. drop (length appended - length kept) l ++ take (length appended - length kept) l) is
     ∙ turned held kept (length appended - length kept) (omega (arith, ap (λ (l : List ℕ). length l) is, length-append held kept))

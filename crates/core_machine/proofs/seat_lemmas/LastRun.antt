@@ -14,8 +14,8 @@ module _ (fragments : List ℕ) where
   last_run-le = suffix_len-le-length (in_group (last_group_of fragments)) fragments
 
   -- they and those before them are all
-  pub before_run-append-run_of : before_run fragments ++ run_of fragments ≡ fragments
-  before_run-append-run_of = take-append-drop (length fragments - last_run fragments) fragments
+  pub before_run_and_run_make_all : before_run fragments ++ run_of fragments ≡ fragments
+  before_run_and_run_make_all = take-append-drop (length fragments - last_run fragments) fragments
 
   -- one of them, by its place among all
   of_run : (i : ℕ) → length fragments - last_run fragments ≤ i → i < length fragments → in_group (last_group_of fragments) (get_or fragments i 0) ≡ true
@@ -27,8 +27,8 @@ module _ (fragments : List ℕ) where
       ∙ prefix_len_passes (in_group (last_group_of fragments)) (reverse fragments) (length fragments - 1 - i) 0 (omega arith)
 
   -- all of them are of the last one's group
-  pub run_in : All (λ fragment. fragment / 16 ≡ last_group_of fragments) (run_of fragments)
-  run_in =
+  pub run_is_of_last_group : All (λ fragment. fragment / 16 ≡ last_group_of fragments) (run_of fragments)
+  run_is_of_last_group =
       let few = last_run-le in
       All-from_get_or (λ fragment. fragment / 16 ≡ last_group_of fragments) (run_of fragments) 0 (λ i within.
       let long = length-drop (length fragments - last_run fragments) fragments in
@@ -55,8 +55,8 @@ module _ (fragments : List ℕ) where
       differ e = cc
 
   -- fewer are before them than there are
-  pub before_shorter : 0 < length fragments → length (before_run fragments) < length fragments
-  before_shorter some =
+  pub before_run_is_shorter : 0 < length fragments → length (before_run fragments) < length fragments
+  before_run_is_shorter some =
       let run = some_run some in
       let long = length-take (length fragments - last_run fragments) fragments in
       omega arith
@@ -68,14 +68,14 @@ module _ (fragments : List ℕ) where
       let whole = suffix_len_is (in_group (last_group_of fragments)) fragments 0 0 (omega arith) (λ k least within. each k 0 within) (λ some. absurd (omega (arith, some))) in
       omega (arith, whole)
 
-  pub run_whole : list_all (in_group (last_group_of fragments)) fragments ≡ true → run_of fragments ≡ fragments
-  run_whole all =
+  pub run_is_whole_hand : list_all (in_group (last_group_of fragments)) fragments ≡ true → run_of fragments ≡ fragments
+  run_is_whole_hand all =
       let none : length fragments - last_run fragments ≡ 0 = omega (arith, last_run-whole all) in
       ap (λ (n : ℕ). drop n fragments) none
 
   -- where they aren't, some are before them
-  pub before_some : list_all (in_group (last_group_of fragments)) fragments ≡ false → 0 < length (before_run fragments)
-  before_some more =
+  pub before_run_is_some : list_all (in_group (last_group_of fragments)) fragments ≡ false → 0 < length (before_run fragments)
+  before_run_is_some more =
       let long = length-take (length fragments - last_run fragments) fragments in
       elim (leb_tells (length fragments) (last_run fragments)) as (λ _. 0 < length (before_run fragments)) [
         | inl all ↦

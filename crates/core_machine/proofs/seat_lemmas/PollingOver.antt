@@ -7,7 +7,7 @@ use Rattle.core_machine.specs.seat.Handshake.{polling_over}
 use Rattle.core_machine.specs.seat.HandshakeMoves.{phase_told}
 
 -- the two ways in which it ends
-pub over_cases : (P : Seat → List Entry → Type 0) (number : ℕ) (command : Command) (seat : Seat) (p : ℕ) → (command ≡ commands.Collect → P (call_over seat) [])
+pub polling_over_cases : (P : Seat → List Entry → Type 0) (number : ℕ) (command : Command) (seat : Seat) (p : ℕ) → (command ≡ commands.Collect → P (call_over seat) [])
     → (command ≢ commands.Collect → P (after_call seat) (Said number command (replies.Phase p) ∷ [])) → P (polling_over command seat) (phase_told number command p)
-over_cases P number commands.Collect seat p ends tells = ends refl
-over_cases P number _ seat p ends tells = tells (λ e. cc)
+polling_over_cases P number commands.Collect seat p ends tells = ends refl
+polling_over_cases P number _ seat p ends tells = tells (λ e. cc)

@@ -63,64 +63,64 @@ at-put_same heap words a word whole within =
     get_or-set_same words (index_of heap a) word 0 (omega arith)
 
 -- a word written back changes nothing
-pub put-at : (heap : Heap) (words : List ℕ) (a : Address) → put heap words a (at heap words a) ≡ words
+pub put_of_read_changes_nothing : (heap : Heap) (words : List ℕ) (a : Address) → put heap words a (at heap words a) ≡ words
 unfolding at put
-put-at heap words a = set-get_or words (index_of heap a) 0
+put_of_read_changes_nothing heap words a = set-get_or words (index_of heap a) 0
 
 -- no two words of the table stand in one place
-pub index_apart : (heap : Heap) (a b : Address) → InTable heap a → InTable heap b → index_of heap a ≡ index_of heap b → a ≡ b
-index_apart heap Phase Phase here there same = refl
-index_apart heap Phase (Answer seat') here there same = absurd (omega arith)
-index_apart heap Phase Budget here there same = absurd (omega arith)
-index_apart heap Phase Spot here there same = absurd (omega arith)
-index_apart heap Phase (Control group') here there same = absurd (omega arith)
-index_apart heap Phase (Word fragment' part') here there same = absurd (omega arith)
-index_apart heap Phase (Spine half' offset') here there same = absurd (omega arith)
-index_apart heap (Answer seat) Phase here there same = absurd (omega arith)
-index_apart heap (Answer seat) (Answer seat') here there same = let e : seat ≡ seat' = omega arith in cc
-index_apart heap (Answer seat) Budget here there same = absurd (omega arith)
-index_apart heap (Answer seat) Spot here there same = absurd (omega arith)
-index_apart heap (Answer seat) (Control group') here there same = absurd (omega arith)
-index_apart heap (Answer seat) (Word fragment' part') here there same = absurd (omega arith)
-index_apart heap (Answer seat) (Spine half' offset') here there same = absurd (omega arith)
-index_apart heap Budget Phase here there same = absurd (omega arith)
-index_apart heap Budget (Answer seat') here there same = absurd (omega arith)
-index_apart heap Budget Budget here there same = refl
-index_apart heap Budget Spot here there same = absurd (omega arith)
-index_apart heap Budget (Control group') here there same = absurd (omega arith)
-index_apart heap Budget (Word fragment' part') here there same = absurd (omega arith)
-index_apart heap Budget (Spine half' offset') here there same = absurd (omega arith)
-index_apart heap Spot Phase here there same = absurd (omega arith)
-index_apart heap Spot (Answer seat') here there same = absurd (omega arith)
-index_apart heap Spot Budget here there same = absurd (omega arith)
-index_apart heap Spot Spot here there same = refl
-index_apart heap Spot (Control group') here there same = absurd (omega arith)
-index_apart heap Spot (Word fragment' part') here there same = absurd (omega arith)
-index_apart heap Spot (Spine half' offset') here there same = absurd (omega arith)
-index_apart heap (Control group) Phase here there same = absurd (omega arith)
-index_apart heap (Control group) (Answer seat') here there same = absurd (omega arith)
-index_apart heap (Control group) Budget here there same = absurd (omega arith)
-index_apart heap (Control group) Spot here there same = absurd (omega arith)
-index_apart heap (Control group) (Control group') here there same = let e : group ≡ group' = omega arith in cc
-index_apart heap (Control group) (Word fragment' part') here there same = absurd (omega arith)
-index_apart heap (Control group) (Spine half' offset') here there same = absurd (omega arith)
-index_apart heap (Word fragment part) Phase here there same = absurd (omega arith)
-index_apart heap (Word fragment part) (Answer seat') here there same = absurd (omega arith)
-index_apart heap (Word fragment part) Budget here there same = absurd (omega arith)
-index_apart heap (Word fragment part) Spot here there same = absurd (omega arith)
-index_apart heap (Word fragment part) (Control group') here there same = absurd (omega arith)
-index_apart heap (Word fragment part) (Word fragment' part') here there same =
+pub equal_index_equal_address : (heap : Heap) (a b : Address) → InTable heap a → InTable heap b → index_of heap a ≡ index_of heap b → a ≡ b
+equal_index_equal_address heap Phase Phase here there same = refl
+equal_index_equal_address heap Phase (Answer seat') here there same = absurd (omega arith)
+equal_index_equal_address heap Phase Budget here there same = absurd (omega arith)
+equal_index_equal_address heap Phase Spot here there same = absurd (omega arith)
+equal_index_equal_address heap Phase (Control group') here there same = absurd (omega arith)
+equal_index_equal_address heap Phase (Word fragment' part') here there same = absurd (omega arith)
+equal_index_equal_address heap Phase (Spine half' offset') here there same = absurd (omega arith)
+equal_index_equal_address heap (Answer seat) Phase here there same = absurd (omega arith)
+equal_index_equal_address heap (Answer seat) (Answer seat') here there same = let e : seat ≡ seat' = omega arith in cc
+equal_index_equal_address heap (Answer seat) Budget here there same = absurd (omega arith)
+equal_index_equal_address heap (Answer seat) Spot here there same = absurd (omega arith)
+equal_index_equal_address heap (Answer seat) (Control group') here there same = absurd (omega arith)
+equal_index_equal_address heap (Answer seat) (Word fragment' part') here there same = absurd (omega arith)
+equal_index_equal_address heap (Answer seat) (Spine half' offset') here there same = absurd (omega arith)
+equal_index_equal_address heap Budget Phase here there same = absurd (omega arith)
+equal_index_equal_address heap Budget (Answer seat') here there same = absurd (omega arith)
+equal_index_equal_address heap Budget Budget here there same = refl
+equal_index_equal_address heap Budget Spot here there same = absurd (omega arith)
+equal_index_equal_address heap Budget (Control group') here there same = absurd (omega arith)
+equal_index_equal_address heap Budget (Word fragment' part') here there same = absurd (omega arith)
+equal_index_equal_address heap Budget (Spine half' offset') here there same = absurd (omega arith)
+equal_index_equal_address heap Spot Phase here there same = absurd (omega arith)
+equal_index_equal_address heap Spot (Answer seat') here there same = absurd (omega arith)
+equal_index_equal_address heap Spot Budget here there same = absurd (omega arith)
+equal_index_equal_address heap Spot Spot here there same = refl
+equal_index_equal_address heap Spot (Control group') here there same = absurd (omega arith)
+equal_index_equal_address heap Spot (Word fragment' part') here there same = absurd (omega arith)
+equal_index_equal_address heap Spot (Spine half' offset') here there same = absurd (omega arith)
+equal_index_equal_address heap (Control group) Phase here there same = absurd (omega arith)
+equal_index_equal_address heap (Control group) (Answer seat') here there same = absurd (omega arith)
+equal_index_equal_address heap (Control group) Budget here there same = absurd (omega arith)
+equal_index_equal_address heap (Control group) Spot here there same = absurd (omega arith)
+equal_index_equal_address heap (Control group) (Control group') here there same = let e : group ≡ group' = omega arith in cc
+equal_index_equal_address heap (Control group) (Word fragment' part') here there same = absurd (omega arith)
+equal_index_equal_address heap (Control group) (Spine half' offset') here there same = absurd (omega arith)
+equal_index_equal_address heap (Word fragment part) Phase here there same = absurd (omega arith)
+equal_index_equal_address heap (Word fragment part) (Answer seat') here there same = absurd (omega arith)
+equal_index_equal_address heap (Word fragment part) Budget here there same = absurd (omega arith)
+equal_index_equal_address heap (Word fragment part) Spot here there same = absurd (omega arith)
+equal_index_equal_address heap (Word fragment part) (Control group') here there same = absurd (omega arith)
+equal_index_equal_address heap (Word fragment part) (Word fragment' part') here there same =
     let e : fragment ≡ fragment' = omega arith in
     let f : part ≡ part' = omega arith in
     cc
-index_apart heap (Word fragment part) (Spine half' offset') here there same = absurd (omega arith)
-index_apart heap (Spine half offset) Phase here there same = absurd (omega arith)
-index_apart heap (Spine half offset) (Answer seat') here there same = absurd (omega arith)
-index_apart heap (Spine half offset) Budget here there same = absurd (omega arith)
-index_apart heap (Spine half offset) Spot here there same = absurd (omega arith)
-index_apart heap (Spine half offset) (Control group') here there same = absurd (omega arith)
-index_apart heap (Spine half offset) (Word fragment' part') here there same = absurd (omega arith)
-index_apart heap (Spine half offset) (Spine half' offset') here there same =
+equal_index_equal_address heap (Word fragment part) (Spine half' offset') here there same = absurd (omega arith)
+equal_index_equal_address heap (Spine half offset) Phase here there same = absurd (omega arith)
+equal_index_equal_address heap (Spine half offset) (Answer seat') here there same = absurd (omega arith)
+equal_index_equal_address heap (Spine half offset) Budget here there same = absurd (omega arith)
+equal_index_equal_address heap (Spine half offset) Spot here there same = absurd (omega arith)
+equal_index_equal_address heap (Spine half offset) (Control group') here there same = absurd (omega arith)
+equal_index_equal_address heap (Spine half offset) (Word fragment' part') here there same = absurd (omega arith)
+equal_index_equal_address heap (Spine half offset) (Spine half' offset') here there same =
     let e = spine_apart heap.spine half half' offset offset' here there (omega arith) in
     cc
 
@@ -129,13 +129,13 @@ pub at-put_other : (heap : Heap) (words : List ℕ) (a b : Address) (word : ℕ)
     → at heap (put heap words a word) b ≡ at heap words b
 unfolding at put
 at-put_other heap words a b word here there other =
-    get_or-set_other words (index_of heap a) (index_of heap b) word 0 (λ same. other (sym (index_apart heap a b here there (sym same))))
+    get_or-set_other words (index_of heap a) (index_of heap b) word 0 (λ same. other (sym (equal_index_equal_address heap a b here there (sym same))))
 
 -- what is true of a word and of the one that it takes the place of is true of the word at the address, also past the end of the table
-pub put-tells : (P : ℕ → Type 0) (heap : Heap) (words : List ℕ) (a : Address) (word : ℕ) → P word → P (at heap words a)
+pub put_word_cases : (P : ℕ → Type 0) (heap : Heap) (words : List ℕ) (a : Address) (word : ℕ) → P word → P (at heap words a)
     → P (at heap (put heap words a word) a)
 unfolding at put
-put-tells P heap words a word now before =
+put_word_cases P heap words a word now before =
     elim (leb_tells (suc (index_of heap a)) (length words)) as (λ _. P (get_or (set words (index_of heap a) word) (index_of heap a) 0)) [
       | inl within ↦ subst P (sym (get_or-set_same words (index_of heap a) word 0 within.1)) now
       | inr past ↦ subst (λ (l : List ℕ). P (get_or l (index_of heap a) 0)) (sym (set_past words (index_of heap a) word (omega (arith, past.1)))) before
@@ -147,9 +147,9 @@ unfolding put
 All-put heap words a word wide all = All-set (λ w. w < 2 ^ 64) words (index_of heap a) word wide all
 
 -- a word that is read has 64 bits, where all have
-pub at-lt : (heap : Heap) (words : List ℕ) (a : Address) → All (λ w. w < 2 ^ 64) words → at heap words a < 2 ^ 64
+pub read_word_is_small : (heap : Heap) (words : List ℕ) (a : Address) → All (λ w. w < 2 ^ 64) words → at heap words a < 2 ^ 64
 unfolding at
-at-lt heap words a all =
+read_word_is_small heap words a all =
     elim (leb_tells (suc (index_of heap a)) (length words)) as (λ _. get_or words (index_of heap a) 0 < 2 ^ 64) [
       | inl within ↦ all (index_of heap a) 0 within.1
       | inr past ↦ rw (get_or_past words (index_of heap a) 0 (omega (arith, past.1))) (omega arith)

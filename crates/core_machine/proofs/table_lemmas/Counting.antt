@@ -93,15 +93,15 @@ clear_among-zeros group word (suc count) few =
     rw e (long ∙ omega arith)
 
 -- the fragments of a group whose taken bit isn't set are as many as the zeros of its taken bits
-pub clear_zeros : (group word : ℕ) → length (clear_in group word) ≡ count_zeros w16 (word % 2 ^ 16)
-clear_zeros group word =
+pub clear_count_is_zero_count : (group word : ℕ) → length (clear_in group word) ≡ count_zeros w16 (word % 2 ^ 16)
+clear_count_is_zero_count group word =
     clear_among-zeros group word 16 (omega arith) ∙ sym (count_ones-in 16 (bit_not w16 (word % 2 ^ 16)) (omega arith))
 
 -- and no more than sixteen
 pub few_zeros : (word : ℕ) → count_zeros w16 (word % 2 ^ 16) ≤ 16
-few_zeros word = let zeros = clear_zeros 0 word in let few = length-clear_among 0 word 16 in omega arith
+few_zeros word = let zeros = clear_count_is_zero_count 0 word in let few = length-clear_among 0 word 16 in omega arith
 
 -- a group has at most sixteen taken fragments
-pub taken_few : (word : ℕ) → count_ones (word % 2 ^ 16) ≤ 16
+pub taken_count_within_group : (word : ℕ) → count_ones (word % 2 ^ 16) ≤ 16
 unfolding count_ones
-taken_few word = ones-le 16 (word % 2 ^ 16) (omega arith)
+taken_count_within_group word = ones-le 16 (word % 2 ^ 16) (omega arith)

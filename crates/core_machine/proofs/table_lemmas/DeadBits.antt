@@ -8,22 +8,22 @@ use Rattle.std.proofs.lemmas.Bool.Decides.{leb_tells}
 use Rattle.std.proofs.lemmas.Nat.{and_le_l}
 use Rattle.std.proofs.lemmas.Nat.Bits.{bit_at_and, bit_at_not, bit_at-lt}
 use Rattle.heap_words.specs.Control.{dead_bits_of, next_place_of}
-use Rattle.heap_words.proofs.Grey.{part_bit}
-use Rattle.core_machine.proofs.table_lemmas.FindLemmas.{find_within, find_from, found_passes, none_passes}
+use Rattle.heap_words.proofs.Grey.{bit_of_part_is_words}
+use Rattle.core_machine.proofs.table_lemmas.FindLemmas.{found_is_within, found_is_not_before, found_number_passes, none_found_none_passes}
 
 -- they are among sixteen
-pub dead_few : (word : ℕ) → dead_bits_of word < 2 ^ 16
-dead_few word = omega (arith, and_le_l (word / 2 ^ 16 % 2 ^ 16) (2 ^ 16 - 1 - word / 2 ^ 32 % 2 ^ 16))
+pub dead_bits_within_group : (word : ℕ) → dead_bits_of word < 2 ^ 16
+dead_bits_within_group word = omega (arith, and_le_l (word / 2 ^ 16 % 2 ^ 16) (2 ^ 16 - 1 - word / 2 ^ 32 % 2 ^ 16))
 
 dead_bit : (word j : ℕ) → j < 16 → bit_at (dead_bits_of word) j ≡ min (bit_at word (16 + j)) (1 - bit_at word (32 + j))
 dead_bit word j within =
     let and_ = bit_at_and (word / 2 ^ 16 % 2 ^ 16) (2 ^ 16 - 1 - word / 2 ^ 32 % 2 ^ 16) j in
     let not_ = bit_at_not w16 (word / 2 ^ 32 % 2 ^ 16) j (omega arith) within in
-    omega (arith, part_bit word 16 j within, part_bit word 32 j within)
+    omega (arith, bit_of_part_is_words word 16 j within, bit_of_part_is_words word 32 j within)
 
 -- a fragment is dead exactly where it is born and not marked
-pub dead_tells : (word j : ℕ) → j < 16 → (bit_at (dead_bits_of word) j ≡ 1) ↔ ((bit_at word (16 + j) ≡ 1) × (bit_at word (32 + j) ≡ 0))
-dead_tells word j within =
+pub dead_is_born_unmarked : (word j : ℕ) → j < 16 → (bit_at (dead_bits_of word) j ≡ 1) ↔ ((bit_at word (16 + j) ≡ 1) × (bit_at word (32 + j) ≡ 0))
+dead_is_born_unmarked word j within =
     let bit = dead_bit word j within in
     let born = bit_at-lt word (16 + j) in
     let marked = bit_at-lt word (32 + j) in
@@ -35,28 +35,28 @@ next_place_within bits from =
     elim (leb_tells from 16) as (λ _. IfSome (next_place_of bits from) (λ i. i < 16)) [
       | inl few ↦
           let all : from + (16 - from) ≡ 16 = omega (arith, few.1) in
-          subst (λ n. IfSome (next_place_of bits from) (λ i. i < n)) all (find_within (λ place. eqb (bit_at bits place) 1) from (16 - from))
+          subst (λ n. IfSome (next_place_of bits from) (λ i. i < n)) all (found_is_within (λ place. eqb (bit_at bits place) 1) from (16 - from))
       | inr past ↦ let none : 16 - from ≡ 0 = omega (arith, past.1) in rw none tt
     ]
 
 -- the place that is found has a set bit
-pub place_found : (bits from place : ℕ) → next_place_of bits from ≡ Some place → (place < 16) × (bit_at bits place ≡ 1)
-place_found bits from place is =
-    (rw is at (next_place_within bits from), eqb-true (bit_at bits place) 1 (found_passes (λ i. eqb (bit_at bits i) 1) (range_with_len from (16 - from)) place is))
+pub found_place_has_bit : (bits from place : ℕ) → next_place_of bits from ≡ Some place → (place < 16) × (bit_at bits place ≡ 1)
+found_place_has_bit bits from place is =
+    (rw is at (next_place_within bits from), eqb-true (bit_at bits place) 1 (found_number_passes (λ i. eqb (bit_at bits i) 1) (range_with_len from (16 - from)) place is))
 
 -- where none is found no bit from there on is set
-pub place_none : (bits from i : ℕ) → next_place_of bits from ≡ None → from ≤ i → i < 16 → bit_at bits i ≡ 0
-place_none bits from i none after within =
-    let unset = eqb-false (bit_at bits i) 1 (none_passes (λ place. eqb (bit_at bits place) 1) from (16 - from) i none after (omega arith)) in
+pub no_place_no_bit : (bits from i : ℕ) → next_place_of bits from ≡ None → from ≤ i → i < 16 → bit_at bits i ≡ 0
+no_place_no_bit bits from i none after within =
+    let unset = eqb-false (bit_at bits i) 1 (none_found_none_passes (λ place. eqb (bit_at bits place) 1) from (16 - from) i none after (omega arith)) in
     omega (arith, unset, bit_at-lt bits i)
 
-pub place_stands : (bits from : ℕ) → IfSome (next_place_of bits from) (λ i. (i < 16) × (bit_at bits i ≡ 1))
-place_stands bits from = on (next_place_of bits from) refl
+pub next_place_has_bit : (bits from : ℕ) → IfSome (next_place_of bits from) (λ i. (i < 16) × (bit_at bits i ≡ 1))
+next_place_has_bit bits from = on (next_place_of bits from) refl
   where
     on : (o : Option ℕ) → next_place_of bits from ≡ o → IfSome o (λ i. (i < 16) × (bit_at bits i ≡ 1))
     on None is = tt
-    on (Some i) is = place_found bits from i is
+    on (Some i) is = found_place_has_bit bits from i is
 
 -- and no place before the one from which it was looked for
-pub place_from : (bits from : ℕ) → IfSome (next_place_of bits from) (λ i. from ≤ i)
-place_from bits from = find_from (λ place. eqb (bit_at bits place) 1) from (16 - from)
+pub next_place_not_before : (bits from : ℕ) → IfSome (next_place_of bits from) (λ i. from ≤ i)
+next_place_not_before bits from = found_is_not_before (λ place. eqb (bit_at bits place) 1) from (16 - from)

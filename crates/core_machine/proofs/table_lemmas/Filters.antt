@@ -9,15 +9,15 @@ length-filter_le p [] = omega arith
 length-filter_le p (x ∷ xs) = let rest = length-filter_le p xs in grind arith
 
 -- without the group of one of them, the fragments are fewer
-pub out_shorter : (group : ℕ) (fragments : List ℕ) (i : ℕ) → i < length fragments → get_or fragments i 0 / 16 ≡ group
+pub part_out_is_shorter : (group : ℕ) (fragments : List ℕ) (i : ℕ) → i < length fragments → get_or fragments i 0 / 16 ≡ group
     → length (part_out group fragments) < length fragments
-out_shorter group [] i within is = absurd (omega arith)
-out_shorter group (fragment ∷ more) zero within is =
+part_out_is_shorter group [] i within is = absurd (omega arith)
+part_out_is_shorter group (fragment ∷ more) zero within is =
     let in_ : eqb (fragment / 16) group ≡ true = eq-eqb (fragment / 16) group is in
     let few = length-filter_le (out_of_group group) more in
     rw in_ (omega arith)
-out_shorter group (fragment ∷ more) (suc i) within is =
-    let rest = out_shorter group more i (omega arith) is in
+part_out_is_shorter group (fragment ∷ more) (suc i) within is =
+    let rest = part_out_is_shorter group more i (omega arith) is in
     elim (eqb_tells (fragment / 16) group) as (λ _. length (part_out group (fragment ∷ more)) < suc (length more)) [
       | inl here ↦ rw here.0 (omega arith)
       | inr there ↦ rw there.0 (omega arith)

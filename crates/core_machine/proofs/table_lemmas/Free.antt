@@ -11,37 +11,37 @@ use Rattle.core_machine.specs.machine.Sums.{sum_upto}
 use Rattle.core_machine.proofs.table_lemmas.Addresses.{at-put_same, at-put_other}
 
 -- sums of functions that are the same below the bound
-pub sum_same : (n : ℕ) (f g : ℕ → ℕ) → ((i : ℕ) → i < n → f i ≡ g i) → sum_upto n f ≡ sum_upto n g
+pub sum_of_same_functions : (n : ℕ) (f g : ℕ → ℕ) → ((i : ℕ) → i < n → f i ≡ g i) → sum_upto n f ≡ sum_upto n g
 unfolding sum_upto
-sum_same zero f g same = refl
-sum_same (suc n) f g same =
-    let rest = sum_same n f g (λ i within. same i (omega arith)) in
+sum_of_same_functions zero f g same = refl
+sum_of_same_functions (suc n) f g same =
+    let rest = sum_of_same_functions n f g (λ i within. same i (omega arith)) in
     let last = same n (omega arith) in
     omega arith
 
 -- two functions that are the same but at one number below the bound
-pub sum_but_one : (n : ℕ) (f g : ℕ → ℕ) (at_ : ℕ) → at_ < n → ((i : ℕ) → i < n → i ≢ at_ → f i ≡ g i) → sum_upto n f + g at_ ≡ sum_upto n g + f at_
+pub sum_but_one_number : (n : ℕ) (f g : ℕ → ℕ) (at_ : ℕ) → at_ < n → ((i : ℕ) → i < n → i ≢ at_ → f i ≡ g i) → sum_upto n f + g at_ ≡ sum_upto n g + f at_
 unfolding sum_upto
-sum_but_one zero f g at_ within same = absurd (omega arith)
-sum_but_one (suc n) f g at_ within same =
+sum_but_one_number zero f g at_ within same = absurd (omega arith)
+sum_but_one_number (suc n) f g at_ within same =
     elim (eqb_tells at_ n) as (λ _. sum_upto n f + f n + g at_ ≡ sum_upto n g + g n + f at_) [
       | inl here ↦
-          let rest = sum_same n f g (λ i below. same i (omega arith) (λ e. absurd (omega (arith, here.1)))) in
+          let rest = sum_of_same_functions n f g (λ i below. same i (omega arith) (λ e. absurd (omega (arith, here.1)))) in
           let f_ = ap f here.1 in
           let g_ = ap g here.1 in
           omega arith
       | inr there ↦
-          let rest = sum_but_one n f g at_ (omega (arith, there.1)) (λ i below other. same i (omega arith) other) in
+          let rest = sum_but_one_number n f g at_ (omega (arith, there.1)) (λ i below other. same i (omega arith) other) in
           let last = same n (omega arith) (λ e. there.1 (sym e)) in
           omega arith
     ]
 
 -- nothing below the bound
-pub sum_zero : (n : ℕ) (f : ℕ → ℕ) → ((i : ℕ) → i < n → f i ≡ 0) → sum_upto n f ≡ 0
+pub sum_of_nothing_is_zero : (n : ℕ) (f : ℕ → ℕ) → ((i : ℕ) → i < n → f i ≡ 0) → sum_upto n f ≡ 0
 unfolding sum_upto
-sum_zero zero f none = refl
-sum_zero (suc n) f none =
-    let rest = sum_zero n f (λ i within. none i (omega arith)) in
+sum_of_nothing_is_zero zero f none = refl
+sum_of_nothing_is_zero (suc n) f none =
+    let rest = sum_of_nothing_is_zero n f (λ i within. none i (omega arith)) in
     let last = none n (omega arith) in
     omega arith
 
@@ -51,9 +51,9 @@ filter_none p [] none = refl
 filter_none p (x ∷ xs) none = rw (none x) (filter_none p xs none)
 
 -- a claimed group has no clear fragment
-pub clear_in-claimed : (group word : ℕ) → clear_in group (bit_or word all_taken) ≡ []
+pub claimed_group_has_none_clear : (group word : ℕ) → clear_in group (bit_or word all_taken) ≡ []
 unfolding clear_among
-clear_in-claimed group word = filter_none (is_clear (bit_or word all_taken)) (range_with_len (16 * group) 16) (claimed_taken word)
+claimed_group_has_none_clear group word = filter_none (is_clear (bit_or word all_taken)) (range_with_len (16 * group) 16) (claimed_taken word)
   where
     claimed_taken : (word fragment : ℕ) → is_clear (bit_or word all_taken) fragment ≡ false
     claimed_taken word fragment =
@@ -63,14 +63,14 @@ clear_in-claimed group word = filter_none (is_clear (bit_or word all_taken)) (ra
         ne_eqb (bit_at (bit_or word all_taken) (taken_at fragment)) 0 (λ e. absurd (omega arith))
 
 -- a claim takes what was clear in its group
-pub free-claimed : (heap : Heap) (words : List ℕ) (group : ℕ) → length words ≡ table_length heap → group < heap.groups
+pub free_count_after_claim : (heap : Heap) (words : List ℕ) (group : ℕ) → length words ≡ table_length heap → group < heap.groups
     → free_count heap (put heap words (Control group) (bit_or (at heap words (Control group)) all_taken)) + length (clear_in group (at heap words (Control group)))
     ≡ free_count heap words
-free-claimed heap words group table within =
+free_count_after_claim heap words group table within =
     let now = put heap words (Control group) (bit_or (at heap words (Control group)) all_taken) in
     let here : length (clear_in group (at heap now (Control group))) ≡ 0 =
-    rw (at-put_same heap words (Control group) (bit_or (at heap words (Control group)) all_taken) table within) (ap length (clear_in-claimed group (at heap words (Control group)))) in
-    let change = sum_but_one heap.groups (λ g. length (clear_in g (at heap now (Control g)))) (λ g. length (clear_in g (at heap words (Control g)))) group within
+    rw (at-put_same heap words (Control group) (bit_or (at heap words (Control group)) all_taken) table within) (ap length (claimed_group_has_none_clear group (at heap words (Control group)))) in
+    let change = sum_but_one_number heap.groups (λ g. length (clear_in g (at heap now (Control g)))) (λ g. length (clear_in g (at heap words (Control g)))) group within
     (λ g below other. ap (λ (w : ℕ). length (clear_in g w)) (at-put_other heap words (Control group) (Control g) (bit_or (at heap words (Control group)) all_taken) within below (λ e. other (cc e)))) in
     omega arith
 

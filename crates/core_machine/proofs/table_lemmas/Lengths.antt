@@ -16,12 +16,12 @@ length_told kinds.Nil cell = tt
 length_told kinds.Number cell = tt
 length_told kinds.Reference cell = tt
 
-pub length_few : (word : ℕ) → IfSome (array_length_of word) (λ cells. cells < 2 ^ 13)
-length_few word = length_told (cell_of word).kind (cell_of word)
+pub array_length_is_small : (word : ℕ) → IfSome (array_length_of word) (λ cells. cells < 2 ^ 13)
+array_length_is_small word = length_told (cell_of word).kind (cell_of word)
 
 -- so its spine has at most 2,048 words
-pub spine_words_few : (word : ℕ) → spine_words_in word ≤ 2048
-spine_words_few word = on (array_length_of word) (length_few word)
+pub spine_words_within_limit : (word : ℕ) → spine_words_in word ≤ 2048
+spine_words_within_limit word = on (array_length_of word) (array_length_is_small word)
   where
     on : (length : Option ℕ) → IfSome length (λ cells. cells < 2 ^ 13) → option_map_or array_words length 0 ≤ 2048
     on None few = omega arith

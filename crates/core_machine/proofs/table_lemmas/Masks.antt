@@ -53,9 +53,9 @@ mask_from-lt bits [] small = small
 mask_from-lt bits (fragment ∷ more) small = mask_from-lt (bit_or bits (2 ^ (fragment % 16))) more (or_lt 16 bits (2 ^ (fragment % 16)) small (pow-lt {i = fragment % 16} {j = 16} (omega arith)))
 
 -- a mask has sixteen bits
-pub mask-lt : (fragments : List ℕ) → mask_of fragments < 2 ^ 16
+pub mask_is_small : (fragments : List ℕ) → mask_of fragments < 2 ^ 16
 unfolding mask_of
-mask-lt fragments = mask_from-lt 0 fragments (omega arith)
+mask_is_small fragments = mask_from-lt 0 fragments (omega arith)
 
 -- the last of the fragments that were looked at
 last_at : (group word count i : ℕ) → count < 16
@@ -98,8 +98,8 @@ some_at-clear group word (suc count) i few within =
     ])
 
 -- a group without a clear fragment is as if claimed
-pub or_full : (group word : ℕ) → clear_in group word ≡ [] → bit_or word all_taken ≡ word
-or_full group word none = same_from_bits (bit_or word all_taken) word (full group word none)
+pub full_group_stays_when_claimed : (group word : ℕ) → clear_in group word ≡ [] → bit_or word all_taken ≡ word
+full_group_stays_when_claimed group word none = same_from_bits (bit_or word all_taken) word (full group word none)
   where
     full : (group word : ℕ) → clear_in group word ≡ [] → (i : ℕ) → bit_at (bit_or word all_taken) i ≡ bit_at word i
     full group word none i =
@@ -115,8 +115,8 @@ or_full group word none = same_from_bits (bit_or word all_taken) word (full grou
         ]
 
 -- to give back what was claimed leaves the word as it was
-pub untaken-claimed : (group word : ℕ) → word < 2 ^ 64 → word_without_taken (mask_of (clear_in group word)) (bit_or word all_taken) ≡ word
-untaken-claimed group word fits =
+pub give_back_undoes_claim : (group word : ℕ) → word < 2 ^ 64 → word_without_taken (mask_of (clear_in group word)) (bit_or word all_taken) ≡ word
+give_back_undoes_claim group word fits =
     same_from_bits_below 64 (word_without_taken (mask_of (clear_in group word)) (bit_or word all_taken)) word
     (omega (arith, and_le_r (bit_or word all_taken) (2 ^ 64 - 1 - mask_of (clear_in group word)))) fits (bits_same group word)
   where
@@ -125,7 +125,7 @@ untaken-claimed group word fits =
         let and_ = bit_at_and (bit_or word all_taken) (2 ^ 64 - 1 - mask_of (clear_in group word)) i in
         let or_ = bit_at_or word all_taken i in
         let small = bit_at-lt word i in
-        let lt = mask-lt (clear_in group word) in
+        let lt = mask_is_small (clear_in group word) in
         let not_ = bit_at_not w64 (mask_of (clear_in group word)) i (omega arith) within in
         let one = mask-bit (clear_in group word) i in
         elim (leb_tells 16 i) as (λ _. bit_at (word_without_taken (mask_of (clear_in group word)) (bit_or word all_taken)) i ≡ bit_at word i) [

@@ -6,9 +6,9 @@ use Rattle.std.proofs.lemmas.List.FromFn.{get_or-range_with_len, length-range_wi
 use Rattle.core_machine.proofs.Terms.{Heap, is_clear, clear_among, clear_in, AreFragments}
 
 -- all clear fragments of a group are of this group
-pub clear_in-group : (group word : ℕ) → All (λ fragment. fragment / 16 ≡ group) (clear_in group word)
+pub clear_is_of_group : (group word : ℕ) → All (λ fragment. fragment / 16 ≡ group) (clear_in group word)
 unfolding clear_among
-clear_in-group group word =
+clear_is_of_group group word =
     All-filter (is_clear word) (λ fragment. fragment / 16 ≡ group) (range_with_len (16 * group) 16)
     (All-from_get_or (λ fragment. fragment / 16 ≡ group) (range_with_len (16 * group) 16) 0
     (λ i within. of_range group i (subst (λ (n : ℕ). i < n) (length-range_with_len (16 * group) 16) within)))
@@ -17,13 +17,13 @@ clear_in-group group word =
     of_range group i within = rw (get_or-range_with_len (16 * group) 16 i 0 within) (omega arith)
 
 -- fragments of a group of the heap are fragments of the heap
-pub within_group : (heap : Heap) (group : ℕ) (fragments : List ℕ) → group < heap.groups
+pub group_fragments_within_heap : (heap : Heap) (group : ℕ) (fragments : List ℕ) → group < heap.groups
     → All (λ fragment. fragment / 16 ≡ group) fragments → AreFragments heap fragments
-within_group heap group fragments within each =
+group_fragments_within_heap heap group fragments within each =
     All-weaker (λ fragment. fragment / 16 ≡ group) (λ fragment. fragment < 16 * heap.groups) (λ fragment of_group. omega arith) fragments each
 
 -- a group that a fragment of the heap is in
-pub group_within : (heap : Heap) (fragments : List ℕ) (i : ℕ) → i < length fragments → AreFragments heap fragments
+pub fragments_group_within_heap : (heap : Heap) (fragments : List ℕ) (i : ℕ) → i < length fragments → AreFragments heap fragments
     → get_or fragments i 0 / 16 < heap.groups
-group_within heap fragments i within each =
+fragments_group_within_heap heap fragments i within each =
     let one : get_or fragments i 0 < 16 * heap.groups = each i 0 within in omega arith

@@ -7,7 +7,7 @@ use Rattle.core_machine.specs.declared.step.AccessStep.TheVariants.{Shade}
 use Rattle.core_machine.specs.declared.step.SpineStep.TheVariants.{BudgetAdd, BudgetTakeBack, SpotClaim, SpineStore}
 use Rattle.core_machine.specs.declared.step.Step.TheVariants.{Access, Spine}
 use Rattle.core_machine.proofs.table_lemmas.CellWords.{payload_in-spine_word}
-use Rattle.core_machine.proofs.table_lemmas.Wide.{shade_wide}
+use Rattle.core_machine.proofs.table_lemmas.Wide.{shade_word_fits_bits}
 
 pub record StepStands (heap : Heap) (step : Step) : Type 0 where
   -- it touches a word of the table
@@ -18,30 +18,30 @@ pub record StepStands (heap : Heap) (step : Step) : Type 0 where
   pub leads : (found : ℕ) → FoundPointsWithin heap (address_of step) found → FoundPointsWithin heap (address_of step) (word_after step found)
 
 -- a load leaves the word that it found
-pub load_stands : (heap : Heap) (step : Step) → operation_of step ≡ Load → InTable heap (address_of step) → StepStands heap step
-load_stands heap step loads there = record {
+pub load_step_stands : (heap : Heap) (step : Step) → operation_of step ≡ Load → InTable heap (address_of step) → StepStands heap step
+load_step_stands heap step loads there = record {
   in_table = there;
   wide = λ found small. subst (λ (o : Operation). operation_result o found < 2 ^ 64) (sym loads) small;
   leads = λ found led. subst (λ (o : Operation). FoundPointsWithin heap (address_of step) (operation_result o found)) (sym loads) led;
 }
 
 -- a shade of a fragment of the heap
-pub shade_stands : (heap : Heap) (fragment : ℕ) → fragment < 16 * heap.groups → StepStands heap (Access (Shade fragment))
-shade_stands heap fragment within = record { in_table = omega (arith, within); wide = λ found small. shade_wide fragment found small; leads = λ found led. tt }
+pub shade_step_stands : (heap : Heap) (fragment : ℕ) → fragment < 16 * heap.groups → StepStands heap (Access (Shade fragment))
+shade_step_stands heap fragment within = record { in_table = omega (arith, within); wide = λ found small. shade_word_fits_bits fragment found small; leads = λ found led. tt }
 
 -- a word that grows or falls modulo 2^64 has 64 bits, and leads nowhere
-pub add_stands : (heap : Heap) (words : ℕ) → StepStands heap (Spine (BudgetAdd words))
-add_stands heap words = record { in_table = tt; wide = λ found small. omega arith; leads = λ found led. tt }
+pub budget_add_step_stands : (heap : Heap) (words : ℕ) → StepStands heap (Spine (BudgetAdd words))
+budget_add_step_stands heap words = record { in_table = tt; wide = λ found small. omega arith; leads = λ found led. tt }
 
-pub take_back_stands : (heap : Heap) (words : ℕ) → StepStands heap (Spine (BudgetTakeBack words))
-take_back_stands heap words = record { in_table = tt; wide = λ found small. omega arith; leads = λ found led. tt }
+pub take_back_step_stands : (heap : Heap) (words : ℕ) → StepStands heap (Spine (BudgetTakeBack words))
+take_back_step_stands heap words = record { in_table = tt; wide = λ found small. omega arith; leads = λ found led. tt }
 
-pub spot_stands : (heap : Heap) (words : ℕ) → StepStands heap (Spine (SpotClaim words))
-spot_stands heap words = record { in_table = tt; wide = λ found small. omega arith; leads = λ found led. tt }
+pub spot_claim_step_stands : (heap : Heap) (words : ℕ) → StepStands heap (Spine (SpotClaim words))
+spot_claim_step_stands heap words = record { in_table = tt; wide = λ found small. omega arith; leads = λ found led. tt }
 
 -- a spine word that is stored names a fragment of the heap
-pub spine_store_stands : (heap : Heap) (half offset fragment : ℕ) → half < 2 → 16 * heap.groups ≤ 2 ^ 16 → fragment < 16 * heap.groups → StepStands heap (Spine (SpineStore half offset fragment))
-spine_store_stands heap half offset fragment there few within = record {
+pub spine_store_step_stands : (heap : Heap) (half offset fragment : ℕ) → half < 2 → 16 * heap.groups ≤ 2 ^ 16 → fragment < 16 * heap.groups → StepStands heap (Spine (SpineStore half offset fragment))
+spine_store_step_stands heap half offset fragment there few within = record {
   in_table = there;
   wide = λ found small. omega (arith, within);
   leads = λ found led. subst (λ (f : ℕ). f < 16 * heap.groups) (sym (payload_in-spine_word fragment (omega (arith, within)))) within;

@@ -21,23 +21,23 @@ first_leads heap kinds.Reference cell led = led
 first_leads heap kinds.Fixed cell led = tt
 
 -- a field leads where it refers to, in whichever word of its fragment it stands
-pub head_leads : (heap : Heap) (part found : ℕ) → IsWithinHeap heap (pointer_in part found) → IsWithinHeap heap (head_of found)
-head_leads heap part found led =
+pub head_leads_within_heap : (heap : Heap) (part found : ℕ) → IsWithinHeap heap (pointer_in part found) → IsWithinHeap heap (head_of found)
+head_leads_within_heap heap part found led =
     elim (eqb_tells part 0) as (λ _. IsWithinHeap heap (head_of found)) [
       | inl first ↦ first_leads heap (cell_of found).kind (cell_of found) (rw first.0 at led)
       | inr later ↦ rw later.0 at led
     ]
 
 -- what is there is within
-pub some_within : (heap : Heap) (fragment : Option ℕ) → IsSome fragment → IsWithinHeap heap fragment → unwrap_or fragment 0 < 16 * heap.groups
-some_within heap None some led = cc
-some_within heap (Some f) some led = led
+pub some_fragment_within_heap : (heap : Heap) (fragment : Option ℕ) → IsSome fragment → IsWithinHeap heap fragment → unwrap_or fragment 0 < 16 * heap.groups
+some_fragment_within_heap heap None some led = cc
+some_fragment_within_heap heap (Some f) some led = led
 
 -- so is a register's object
-pub head_within : (heap : Heap) (register : Register) → IsSome (register_head register) → FitsRegister heap register → unwrap_or (register_head register) 0 < 16 * heap.groups
-head_within heap Nil some fit = cc
-head_within heap (Number n) some fit = cc
-head_within heap (Object head id) some fit = fit
+pub register_head_within_heap : (heap : Heap) (register : Register) → IsSome (register_head register) → FitsRegister heap register → unwrap_or (register_head register) 0 < 16 * heap.groups
+register_head_within_heap heap Nil some fit = cc
+register_head_within_heap heap (Number n) some fit = cc
+register_head_within_heap heap (Object head id) some fit = fit
 
 -- and each object of the registers
 heads_within : (heap : Heap) (registers : List Register) (i : ℕ) → All (FitsRegister heap) registers → i < length (heads_of registers)
@@ -48,8 +48,8 @@ heads_within heap (Number n ∷ more) i fit within = heads_within heap more i (�
 heads_within heap (Object head id ∷ more) zero fit within = fit 0 Nil (omega arith)
 heads_within heap (Object head id ∷ more) (suc i) fit within = heads_within heap more i (λ j d l. fit (suc j) d (omega arith)) (omega arith)
 
-pub roots_within : (heap : Heap) (seat : Seat) (i : ℕ) → Fits heap seat → i < length (roots seat) → get_or (roots seat) i 0 < 16 * heap.groups
-roots_within heap seat i fits within =
+pub roots_within_heap : (heap : Heap) (seat : Seat) (i : ℕ) → Fits heap seat → i < length (roots seat) → get_or (roots seat) i 0 < 16 * heap.groups
+roots_within_heap heap seat i fits within =
     elim (eqb_tells (seat.asked % cycle_phases) marking_phase) as (λ _. i < length (roots seat) → get_or (roots seat) i 0 < 16 * heap.groups) [
       | inl third ↦ rw third.0 (λ l. heads_within heap seat.registers i fits.own.registers_fit l)
       | inr other ↦ rw other.0 (λ l. absurd (omega arith))
@@ -62,14 +62,14 @@ few_heads (Nil ∷ more) = let rest = few_heads more in omega arith
 few_heads (Number n ∷ more) = let rest = few_heads more in omega arith
 few_heads (Object head id ∷ more) = let rest = few_heads more in omega arith
 
-pub few_roots : (seat : Seat) → length (roots seat) ≤ length seat.registers
-few_roots seat =
+pub roots_within_register_count : (seat : Seat) → length (roots seat) ≤ length seat.registers
+roots_within_register_count seat =
     let few = few_heads seat.registers in
     elim (eqb_tells (seat.asked % cycle_phases) marking_phase) as (λ _. length (roots seat) ≤ length seat.registers) [ inl third ↦ rw third.0 few | inr other ↦ rw other.0 (omega arith) ]
 
 -- one of the registers
-pub register_fits : (heap : Heap) (registers : List Register) (r : ℕ) → All (FitsRegister heap) registers → FitsRegister heap (register_in registers r)
-register_fits heap registers r fit =
+pub each_register_fits : (heap : Heap) (registers : List Register) (r : ℕ) → All (FitsRegister heap) registers → FitsRegister heap (register_in registers r)
+each_register_fits heap registers r fit =
     elim (leb_tells (suc r) (length registers)) as (λ _. FitsRegister heap (register_in registers r)) [
       | inl within ↦ fit r Nil within.1
       | inr past ↦ subst (FitsRegister heap) (sym (get_or_past registers r Nil (omega (arith, past.1)))) tt

@@ -38,7 +38,7 @@ fn free_in(words: &[u64], heap: &Heap) -> usize
 }
 
 /// How many fragments of a group have no taken bit in its control word.
-#[tactic(auto, using(crate::proofs::table_lemmas::Counting::clear_zeros, crate::proofs::table_lemmas::Counting::few_zeros))]
+#[tactic(auto, using(crate::proofs::table_lemmas::Counting::clear_count_is_zero_count, crate::proofs::table_lemmas::Counting::few_zeros))]
 fn count_clear(word: u64) -> usize
     ensures count { (group : ℕ) → result ≡ length (clear_in group word) }
     ensures few { result ≤ group_fragments }

@@ -118,7 +118,7 @@ impl<L: Entries> SeatParty<L> {
     }
 
     /// Shaded an object of the registers.
-    #[tactic(auto, using(crate::proofs::table_lemmas::WithinHeap::few_roots))]
+    #[tactic(auto, using(crate::proofs::table_lemmas::WithinHeap::roots_within_register_count))]
     pub(crate) fn learn_root(&mut self)
         requires registers { length self.old.seat.registers ≡ register_count }
         requires more { self.old.seat.shaded < length (roots self.old.seat) }

@@ -6,7 +6,7 @@ use Rattle.core_machine.specs.declared.collector.stage.Scan.{Scan}
 use Rattle.core_machine.specs.declared.collector.stage.SpineScan.{SpineScan}
 use Rattle.core_machine.specs.declared.collector.stage.Stage.TheVariants as stages
 use Rattle.core_machine.specs.declared.place.Place.TheVariants as places
-use Rattle.core_rule.proofs.colours.ShadeColours.{with_mark, mark_away}
+use Rattle.core_rule.proofs.colours.ShadeColours.{with_mark, mark_keeps_other_colour}
 use Rattle.core_rule.proofs.book.Going.{stays, OwnersGoOn, MadeGoesOn}
 use Rattle.core_rule.proofs.ways.LoadedObjects.{RefersTo}
 
@@ -28,30 +28,30 @@ pub record BookGoesOn (heap : Heap) (state : State) (book now : Book) : Type 0 w
   pub marked : ColoursGoOn heap state book now.owner now.colour
 
 -- whose fragments are stays so
-pub owners_stay : (made : ℕ) (owner : ℕ → Owner) → OwnersGoOn made owner owner
-owners_stay made owner = record { each = λ f. stays (owner f); one_way = inl (λ f. omega arith) }
+pub same_owners_go_on : (made : ℕ) (owner : ℕ → Owner) → OwnersGoOn made owner owner
+same_owners_go_on made owner = record { each = λ f. stays (owner f); one_way = inl (λ f. omega arith) }
 
 module _ (heap : Heap) (state : State) (book : Book) where
   -- where whose they are goes on, with the colours that there were
-  pub owners_go : (history : List Entry) (begun : ℕ → ℕ) (owner : ℕ → Owner) → OwnersGoOn (length book.made) book.owner owner
+  pub book_goes_on_with_owners : (history : List Entry) (begun : ℕ → ℕ) (owner : ℕ → Owner) → OwnersGoOn (length book.made) book.owner owner
       → BookGoesOn heap state book (record book { history = history; begun = begun; owner = owner })
-  owners_go history begun owner owners = record { made = λ i below. refl; owners = owners; marked = λ f i k owned below marked. inl marked }
+  book_goes_on_with_owners history begun owner owners = record { made = λ i below. refl; owners = owners; marked = λ f i k owned below marked. inl marked }
 
   -- where nothing of the book changes but for what was told
-  pub book_stays : (history : List Entry) (begun : ℕ → ℕ) → BookGoesOn heap state book (record book { history = history; begun = begun })
-  book_stays history begun = owners_go history begun book.owner (owners_stay (length book.made) book.owner)
+  pub book_goes_on_with_history : (history : List Entry) (begun : ℕ → ℕ) → BookGoesOn heap state book (record book { history = history; begun = begun })
+  book_goes_on_with_history history begun = book_goes_on_with_owners history begun book.owner (same_owners_go_on (length book.made) book.owner)
 
   -- where spine words get other owners alone
-  pub spines_go : (spine_owner : ℕ → ℕ → SpineOwner) → BookGoesOn heap state book (record book { spine_owner = spine_owner })
-  spines_go spine_owner = record { made = λ i below. refl; owners = owners_stay (length book.made) book.owner; marked = λ f i k owned below marked. inl marked }
+  pub book_goes_on_with_spine_owners : (spine_owner : ℕ → ℕ → SpineOwner) → BookGoesOn heap state book (record book { spine_owner = spine_owner })
+  book_goes_on_with_spine_owners spine_owner = record { made = λ i below. refl; owners = same_owners_go_on (length book.made) book.owner; marked = λ f i k owned below marked. inl marked }
 
   -- where the colours go on, and whose the fragments are stays so
-  pub colours_go : (colour : ℕ → Colour) → ColoursGoOn heap state book book.owner colour → BookGoesOn heap state book (record book { colour = colour })
-  colours_go colour marked = record { made = λ i below. refl; owners = owners_stay (length book.made) book.owner; marked = marked }
+  pub book_goes_on_with_colours : (colour : ℕ → Colour) → ColoursGoOn heap state book book.owner colour → BookGoesOn heap state book (record book { colour = colour })
+  book_goes_on_with_colours colour marked = record { made = λ i below. refl; owners = same_owners_go_on (length book.made) book.owner; marked = marked }
 
   -- where a fragment that was named is marked
-  pub mark_goes : (f : ℕ) → IsNamed heap state book f → BookGoesOn heap state book (record book { colour = with_mark book.colour f })
-  mark_goes f named = colours_go (with_mark book.colour f) (λ x i k owned below marked. elim (eqb_tells x f) as (λ _. IsMarked book.colour x ⊎ IsNamed heap state book x) [
+  pub book_goes_on_with_mark : (f : ℕ) → IsNamed heap state book f → BookGoesOn heap state book (record book { colour = with_mark book.colour f })
+  book_goes_on_with_mark f named = book_goes_on_with_colours (with_mark book.colour f) (λ x i k owned below marked. elim (eqb_tells x f) as (λ _. IsMarked book.colour x ⊎ IsNamed heap state book x) [
     | inl same ↦ inr (subst (IsNamed heap state book) (sym same.1) named)
-    | inr other ↦ inl (λ white. marked (mark_away book.colour f x other.1 ∙ white))
+    | inr other ↦ inl (λ white. marked (mark_keeps_other_colour book.colour f x other.1 ∙ white))
   ])

@@ -9,8 +9,8 @@ use Rattle.heap_words.specs.declared.spot.Spot.{Spot}
 use Rattle.heap_model.specs.account.Sweep.{HasSwung}
 use Rattle.heap_model.proofs.Histories.{total-more}
 use Rattle.core_machine.specs.declared.collector.stage.Stage.TheVariants as stages
-use Rattle.core_machine.proofs.table_lemmas.Free.{sum_same, sum_but_one}
-use Rattle.core_rule.proofs.graph.SameNodes.{SameShape, shape_words, shape_same}
+use Rattle.core_machine.proofs.table_lemmas.Free.{sum_of_same_functions, sum_but_one_number}
+use Rattle.core_rule.proofs.graph.SameNodes.{SameShape, same_shape_same_words, same_shape_of_equal}
 use Rattle.core_rule.proofs.objects.ObjectFrames.{SameKept}
 use Rattle.core_rule.proofs.budgets.NoneMade.{SameWeights}
 use Rattle.core_rule.proofs.spines.OtherWords.{LeavesSpines}
@@ -20,27 +20,27 @@ abbrev pub stepped : State → ℕ → List ℕ → Seat → State
 stepped state number words seat = record state { words = words; seats = slice_set state.seats number seat }
 
 -- a sum over seats changes by what the seat that steps has more
-pub seats_change : (heap : Heap) (state : State) (number : ℕ) (words : List ℕ) (seat : Seat) (weight : Seat → Place → ℕ) → number < heap.seats → length state.seats ≡ heap.seats
+pub seat_sum_after_step : (heap : Heap) (state : State) (number : ℕ) (words : List ℕ) (seat : Seat) (weight : Seat → Place → ℕ) → number < heap.seats → length state.seats ≡ heap.seats
     → of_seats heap (stepped state number words seat) weight + weight (seat_at state number) (seat_at state number).place ≡ of_seats heap state weight + weight seat seat.place
-seats_change heap state number words seat weight here seated =
+seat_sum_after_step heap state number words seat weight here seated =
     let of : Seat → ℕ = λ s. weight s s.place in
     let now : seat_at (stepped state number words seat) number ≡ seat = get_or-set_same state.seats number seat absent_seat (omega (arith, here, seated)) in
     subst (λ s. of_seats heap (stepped state number words seat) weight + of (seat_at state number) ≡ of_seats heap state weight + of s) now
-    (sum_but_one heap.seats (λ r. of (seat_at (stepped state number words seat) r)) (λ r. of (seat_at state r)) number here
+    (sum_but_one_number heap.seats (λ r. of (seat_at (stepped state number words seat) r)) (λ r. of (seat_at state r)) number here
     (λ r below apart. ap of (get_or-set_other state.seats number r seat absent_seat apart)))
 
 -- so it stays where the seat has as much as before
 seats_stay : (heap : Heap) (state : State) (number : ℕ) (words : List ℕ) (seat : Seat) (weight : Seat → Place → ℕ) → number < heap.seats → length state.seats ≡ heap.seats
     → weight seat seat.place ≡ weight (seat_at state number) (seat_at state number).place → of_seats heap (stepped state number words seat) weight ≡ of_seats heap state weight
-seats_stay heap state number words seat weight here seated same = omega (arith, seats_change heap state number words seat weight here seated, same)
+seats_stay heap state number words seat weight here seated same = omega (arith, seat_sum_after_step heap state number words seat weight here seated, same)
 
 -- what is to be freed then was so before, and is so then where it was
 pub record SameDead (owner now : ℕ → Owner) : Type 0 where
   pub stays : (f i k : ℕ) → owner f ≡ Dead i k → now f ≡ Dead i k
   pub was : (f i k : ℕ) → now f ≡ Dead i k → owner f ≡ Dead i k
 
-pub same_dead : (owner : ℕ → Owner) → SameDead owner owner
-same_dead owner = record { stays = λ f i k is. is; was = λ f i k is. is }
+pub same_dead_of_itself : (owner : ℕ → Owner) → SameDead owner owner
+same_dead_of_itself owner = record { stays = λ f i k is. is; was = λ f i k is. is }
 
 module _ (weight now_weight : ℕ → ℕ) (same : (i : ℕ) → now_weight i ≡ weight i) where
   -- a fragment counts as before where it is kept as before
@@ -58,18 +58,18 @@ module _ (weight now_weight : ℕ → ℕ) (same : (i : ℕ) → now_weight i �
   -- so all that is kept weighs what it weighed
   pub kept_sum_stays : (heap : Heap) (owner now : ℕ → Owner) → SameKept owner now → kept_sum heap now_weight now ≡ kept_sum heap weight owner
   kept_sum_stays heap owner now kept =
-      sum_same (16 * heap.groups) (λ f. kept_weight now_weight (now f)) (λ f. kept_weight weight (owner f)) (λ f below. kept_weight_stays (owner f) (now f) (kept.stays f) (kept.was f))
+      sum_of_same_functions (16 * heap.groups) (λ f. kept_weight now_weight (now f)) (λ f. kept_weight weight (owner f)) (λ f below. kept_weight_stays (owner f) (now f) (kept.stays f) (kept.was f))
 
   pub dead_sum_stays : (heap : Heap) (owner now : ℕ → Owner) → SameDead owner now → dead_sum heap now_weight now ≡ dead_sum heap weight owner
   dead_sum_stays heap owner now dead =
-      sum_same (16 * heap.groups) (λ f. dead_weight now_weight (now f)) (λ f. dead_weight weight (owner f)) (λ f below. dead_weight_stays (owner f) (now f) (dead.stays f) (dead.was f))
+      sum_of_same_functions (16 * heap.groups) (λ f. dead_weight now_weight (now f)) (λ f. dead_weight weight (owner f)) (λ f below. dead_weight_stays (owner f) (now f) (dead.stays f) (dead.was f))
 
 -- an entry of this effect tells no spine words
-pub none_granted_by : (history : List Entry) (entry : Entry) → (effect_of entry).words ≡ 0 → words_granted (history ++ entry ∷ []) ≡ words_granted history
-none_granted_by history entry none = omega (arith, total-more (λ e. e.words) history entry, none)
+pub granted_words_stay : (history : List Entry) (entry : Entry) → (effect_of entry).words ≡ 0 → words_granted (history ++ entry ∷ []) ≡ words_granted history
+granted_words_stay history entry none = omega (arith, total-more (λ e. e.words) history entry, none)
 
-pub none_returned_by : (history : List Entry) (entry : Entry) → (effect_of entry).returned ≡ 0 → words_returned (history ++ entry ∷ []) ≡ words_returned history
-none_returned_by history entry none = omega (arith, total-more (λ e. e.returned) history entry, none)
+pub returned_words_stay : (history : List Entry) (entry : Entry) → (effect_of entry).returned ≡ 0 → words_returned (history ++ entry ∷ []) ≡ words_returned history
+returned_words_stay history entry none = omega (arith, total-more (λ e. e.returned) history entry, none)
 
 -- the history tells as many spine words, also of its last cycle, and no array has swung more
 pub record SameTold (history now : List Entry) : Type 0 where
@@ -78,8 +78,8 @@ pub record SameTold (history now : List Entry) : Type 0 where
   pub in_cycle : returned_in_cycle now ≡ returned_in_cycle history
   pub swung : (id : Id) → HasSwung id now → HasSwung id history
 
-pub same_told : (history : List Entry) → SameTold history history
-same_told history = record { granted = refl; returned = refl; in_cycle = refl; swung = λ id is. is }
+pub same_told_of_itself : (history : List Entry) → SameTold history history
+same_told_of_itself history = record { granted = refl; returned = refl; in_cycle = refl; swung = λ id is. is }
 
 pub told_on : (history middle now : List Entry) → SameTold history middle → SameTold middle now → SameTold history now
 told_on history middle now first second = record {
@@ -101,12 +101,12 @@ pub record SameGrants (heap : Heap) (book now : Book) : Type 0 where
   pub spine_owner : now.spine_owner ≡ book.spine_owner
 
 -- so it is of one that differs by its colours and begins alone
-pub grants_same : (heap : Heap) (book : Book) (colour : ℕ → Colour) (begun : ℕ → ℕ) → SameGrants heap book (record book { colour = colour; begun = begun })
-grants_same heap book colour begun = record {
-  told = same_told book.history;
+pub same_grants_recoloured : (heap : Heap) (book : Book) (colour : ℕ → Colour) (begun : ℕ → ℕ) → SameGrants heap book (record book { colour = colour; begun = begun })
+same_grants_recoloured heap book colour begun = record {
+  told = same_told_of_itself book.history;
   kept = record { stays = λ f i k is. is; was = λ f i k is. is };
-  dead = same_dead book.owner;
-  shapes = λ i. shape_same (nodes_in heap book i) (nodes_in heap book i) refl;
+  dead = same_dead_of_itself book.owner;
+  shapes = λ i. same_shape_of_equal (nodes_in heap book i) (nodes_in heap book i) refl;
   made = refl;
   fragments = refl;
   spines = refl;
@@ -114,8 +114,8 @@ grants_same heap book colour begun = record {
 }
 
 -- also where it went on twice
-pub grants_on : (heap : Heap) (book middle now : Book) → SameGrants heap book middle → SameGrants heap middle now → SameGrants heap book now
-grants_on heap book middle now first second = record {
+pub same_grants_twice : (heap : Heap) (book middle now : Book) → SameGrants heap book middle → SameGrants heap middle now → SameGrants heap book now
+same_grants_twice heap book middle now first second = record {
   told = told_on book.history middle.history now.history first.told second.told;
   kept = record { stays = λ f i k is. second.kept.stays f i k (first.kept.stays f i k is); was = λ f i k is. first.kept.was f i k (second.kept.was f i k is) };
   dead = record { stays = λ f i k is. second.dead.stays f i k (first.dead.stays f i k is); was = λ f i k is. first.dead.was f i k (second.dead.was f i k is) };
@@ -129,47 +129,47 @@ grants_on heap book middle now first second = record {
 module _ (heap : Heap) (book now : Book) (grants : SameGrants heap book now) where
   -- what is kept, what of it stands in a half, and what is to be freed has as many words
   words_same : (i : ℕ) → words_of_object (nodes_in heap now) i ≡ words_of_object (nodes_in heap book) i
-  words_same i = shape_words (nodes_in heap now i) (nodes_in heap book i) (grants.shapes i)
+  words_same i = same_shape_same_words (nodes_in heap now i) (nodes_in heap book i) (grants.shapes i)
 
-  pub kept_same : kept_sum heap (words_of_object (nodes_in heap now)) now.owner ≡ kept_sum heap (words_of_object (nodes_in heap book)) book.owner
-  kept_same = kept_sum_stays (words_of_object (nodes_in heap book)) (words_of_object (nodes_in heap now)) words_same heap book.owner now.owner grants.kept
+  pub kept_words_same : kept_sum heap (words_of_object (nodes_in heap now)) now.owner ≡ kept_sum heap (words_of_object (nodes_in heap book)) book.owner
+  kept_words_same = kept_sum_stays (words_of_object (nodes_in heap book)) (words_of_object (nodes_in heap now)) words_same heap book.owner now.owner grants.kept
 
-  pub dead_same : dead_sum heap (words_of_object (nodes_in heap now)) now.owner ≡ dead_sum heap (words_of_object (nodes_in heap book)) book.owner
-  dead_same = dead_sum_stays (words_of_object (nodes_in heap book)) (words_of_object (nodes_in heap now)) words_same heap book.owner now.owner grants.dead
+  pub dead_words_same : dead_sum heap (words_of_object (nodes_in heap now)) now.owner ≡ dead_sum heap (words_of_object (nodes_in heap book)) book.owner
+  dead_words_same = dead_sum_stays (words_of_object (nodes_in heap book)) (words_of_object (nodes_in heap now)) words_same heap book.owner now.owner grants.dead
 
-  pub here_same : (half : ℕ) → kept_sum heap (words_in_half half (nodes_in heap now) now.spines) now.owner ≡ kept_sum heap (words_in_half half (nodes_in heap book) book.spines) book.owner
-  here_same half = kept_sum_stays (words_in_half half (nodes_in heap book) book.spines) (words_in_half half (nodes_in heap now) now.spines)
+  pub kept_words_in_half_same : (half : ℕ) → kept_sum heap (words_in_half half (nodes_in heap now) now.spines) now.owner ≡ kept_sum heap (words_in_half half (nodes_in heap book) book.spines) book.owner
+  kept_words_in_half_same half = kept_sum_stays (words_in_half half (nodes_in heap book) book.spines) (words_in_half half (nodes_in heap now) now.spines)
       (λ i. ap (λ n. if (now.spines i).half == half then n else 0) (words_same i) ∙ ap (λ (spines : ℕ → Spot). words_in_half half (nodes_in heap book) spines i) grants.spines)
       heap book.owner now.owner grants.kept
 
   -- and the sweep has counted what it counted
   group_same : (group n : ℕ) → sum_upto n (λ j. dead_weight (words_of_object (nodes_in heap now)) (now.owner (16 * group + j))) ≡ sum_upto n (λ j. dead_weight (words_of_object (nodes_in heap book)) (book.owner (16 * group + j)))
-  group_same group n = sum_same n (λ j. dead_weight (words_of_object (nodes_in heap now)) (now.owner (16 * group + j))) (λ j. dead_weight (words_of_object (nodes_in heap book)) (book.owner (16 * group + j)))
+  group_same group n = sum_of_same_functions n (λ j. dead_weight (words_of_object (nodes_in heap now)) (now.owner (16 * group + j))) (λ j. dead_weight (words_of_object (nodes_in heap book)) (book.owner (16 * group + j)))
       (λ j below. dead_weight_stays (words_of_object (nodes_in heap book)) (words_of_object (nodes_in heap now)) words_same (book.owner (16 * group + j)) (now.owner (16 * group + j))
       (grants.dead.stays (16 * group + j)) (grants.dead.was (16 * group + j)))
 
-  pub counts_same : (stage : Stage) → SweepCounts (words_of_object (nodes_in heap book)) book.owner stage → SweepCounts (words_of_object (nodes_in heap now)) now.owner stage
-  counts_same (stages.Examining group dead place counted) is = is ∙ sym (group_same group place)
-  counts_same (stages.Freeing group dead counted) is = is ∙ sym (group_same group 16)
-  counts_same _ is = tt
+  pub sweep_counts_same : (stage : Stage) → SweepCounts (words_of_object (nodes_in heap book)) book.owner stage → SweepCounts (words_of_object (nodes_in heap now)) now.owner stage
+  sweep_counts_same (stages.Examining group dead place counted) is = is ∙ sym (group_same group place)
+  sweep_counts_same (stages.Freeing group dead counted) is = is ∙ sym (group_same group 16)
+  sweep_counts_same _ is = tt
 
 -- so the budget stands after a seat's step
-pub budgets_stay : (heap : Heap) (state : State) (book : Book) (number : ℕ) (words : List ℕ) (seat : Seat) (now : Book) → number < heap.seats → length state.seats ≡ heap.seats
+pub budgets_stand_after_step : (heap : Heap) (state : State) (book : Book) (number : ℕ) (words : List ℕ) (seat : Seat) (now : Book) → number < heap.seats → length state.seats ≡ heap.seats
     → LeavesSpines heap state.words words → SameWeights (seat_at state number) seat → SameGrants heap book now
     → BudgetsStand heap state book → BudgetsStand heap (stepped state number words seat) now
-budgets_stay heap state book number words seat now here seated leaves weights grants old =
+budgets_stand_after_step heap state book number words seat now here seated leaves weights grants old =
     let given = seats_stay heap state number words seat granted_at here seated weights.granted in
     let refused = seats_stay heap state number words seat refused_at here seated weights.refused in
     let placed : (half : ℕ) → of_seats heap (stepped state number words seat) (placed_at half) ≡ of_seats heap state (placed_at half) = λ half. seats_stay heap state number words seat (placed_at half) here seated (weights.placed half) in
-    let kept = kept_same heap book now grants in
-    let dead = dead_same heap book now grants in
+    let kept = kept_words_same heap book now grants in
+    let dead = dead_words_same heap book now grants in
     record {
-      level = rw leaves.spot (λ is. omega (arith, old.level is, placed (next_spine heap state.words).half, here_same heap book now grants (next_spine heap state.words).half, dead));
-      leaving = rw leaves.spot (λ is. omega (arith, old.leaving is, placed (next_spine heap state.words).half, here_same heap book now grants (next_spine heap state.words).half));
+      level = rw leaves.spot (λ is. omega (arith, old.level is, placed (next_spine heap state.words).half, kept_words_in_half_same heap book now grants (next_spine heap state.words).half, dead));
+      leaving = rw leaves.spot (λ is. omega (arith, old.leaving is, placed (next_spine heap state.words).half, kept_words_in_half_same heap book now grants (next_spine heap state.words).half));
       word = omega (arith, leaves.budget, old.word, given, refused, kept, dead);
       told = omega (arith, old.told, given, grants.told.granted, grants.told.returned, kept, dead);
       low = omega (arith, old.low, given, kept, dead);
       returned = omega (arith, old.returned, grants.told.in_cycle, dead);
       early = λ is. grants.told.in_cycle ∙ old.early is;
-      counts = counts_same heap book now grants state.collector.stage old.counts;
+      counts = sweep_counts_same heap book now grants state.collector.stage old.counts;
     }

@@ -11,23 +11,23 @@ MakesNone (places.Making place) = ⊥
 MakesNone _ = Unit {0}
 
 -- a seat there has no spine
-pub none_has_place : (seat : Seat) (place : Place) → MakesNone place → ¬ HasPlace seat place
-none_has_place seat (places.Making place) none has = none
-none_has_place seat _ none has = has
+pub no_place_where_none_made : (seat : Seat) (place : Place) → MakesNone place → ¬ HasPlace seat place
+no_place_where_none_made seat (places.Making place) none has = none
+no_place_where_none_made seat _ none has = has
 
 -- and has found no words to be in use
-pub none_used : (heap : Heap) (history : List Entry) (number : ℕ) (seat : Seat) (place : Place) → MakesNone place → UsedStands heap history number seat place
-none_used heap history number seat (places.Making place) none = absurd none
-none_used heap history number seat _ none = tt
+pub used_stands_where_none_made : (heap : Heap) (history : List Entry) (number : ℕ) (seat : Seat) (place : Place) → MakesNone place → UsedStands heap history number seat place
+used_stands_where_none_made heap history number seat (places.Making place) none = absurd none
+used_stands_where_none_made heap history number seat _ none = tt
 
 -- a reply that makes no object grants no words
-pub none_made_words : (command : Command) (reply : Reply) → made_by command reply ≡ 0 → words_by command reply ≡ 0
-none_made_words command (replies.Made id) none = no_need command none
+pub no_words_by_reply : (command : Command) (reply : Reply) → made_by command reply ≡ 0 → words_by command reply ≡ 0
+no_words_by_reply command (replies.Made id) none = no_need command none
   where
     no_need : (c : Command) → need_of c ≡ 0 → spine_need_of c ≡ 0
     no_need (commands.Array d cells) needs = absurd (omega (arith, needs))
     no_need _ needs = refl
-none_made_words command _ none = refl
+no_words_by_reply command _ none = refl
 
 -- where a seat has the place of a spine it had it, and its last answer is the one that it was
 pub record SameRange (old now : Seat) : Type 0 where
@@ -53,9 +53,9 @@ none_placed half seat _ none = refl
 -- a seat that makes no object has no range
 pub none_range : (old now : Seat) → MakesNone now.place → SameRange old now
 none_range old now after = record {
-  had = λ has. absurd (none_has_place now now.place after has);
-  spine = λ has. absurd (none_has_place now now.place after has);
-  answered = λ has. absurd (none_has_place now now.place after has);
+  had = λ has. absurd (no_place_where_none_made now now.place after has);
+  spine = λ has. absurd (no_place_where_none_made now now.place after has);
+  answered = λ has. absurd (no_place_where_none_made now now.place after has);
 }
 
 pub none_refused : (seat : Seat) (place : Place) → MakesNone place → refused_at seat place ≡ 0
@@ -63,8 +63,8 @@ none_refused seat (places.Making place) none = absurd none
 none_refused seat _ none = refl
 
 -- so it is where it makes no object before and after
-pub none_weights : (old now : Seat) → MakesNone old.place → MakesNone now.place → SameWeights old now
-none_weights old now before after = record {
+pub same_weights_where_none_made : (old now : Seat) → MakesNone old.place → MakesNone now.place → SameWeights old now
+same_weights_where_none_made old now before after = record {
   granted = none_granted now now.place after ∙ sym (none_granted old old.place before);
   placed = λ half. none_placed half now now.place after ∙ sym (none_placed half old old.place before);
   refused = none_refused now now.place after ∙ sym (none_refused old old.place before);

@@ -56,11 +56,11 @@ some_or_none true n = omega arith
 some_or_none false n = omega arith
 
 -- a call has no more words placed in a half than it has granted
-pub placed_few : (half : ℕ) (seat : Seat) (place : Place) → placed_at half seat place ≤ granted_at seat place
-placed_few half seat (places.Making Listing) = some_or_none (seat.spine.half == half) (spine_need seat)
-placed_few half seat (places.Making Storing) = some_or_none (seat.spine.half == half) (spine_need seat)
-placed_few half seat (places.Making Bearing) = some_or_none (seat.spine.half == half) (spine_need seat)
-placed_few half seat _ = omega arith
+pub placed_within_granted : (half : ℕ) (seat : Seat) (place : Place) → placed_at half seat place ≤ granted_at seat place
+placed_within_granted half seat (places.Making Listing) = some_or_none (seat.spine.half == half) (spine_need seat)
+placed_within_granted half seat (places.Making Storing) = some_or_none (seat.spine.half == half) (spine_need seat)
+placed_within_granted half seat (places.Making Bearing) = some_or_none (seat.spine.half == half) (spine_need seat)
+placed_within_granted half seat _ = omega arith
 
 module _ (nodes : ℕ → Node) (spines : ℕ → Spot) (half : ℕ) where
   -- so it is with what is kept
@@ -77,9 +77,9 @@ module _ (nodes : ℕ → Node) (spines : ℕ → Spot) (half : ℕ) where
     kept_in_half = sum_le (16 * heap.groups) (λ f. kept_weight (words_in_half half nodes spines) (owner f)) (λ f. kept_weight (words_of_object nodes) (owner f)) (λ f below. kept_few (owner f))
 
     -- an array that is copied has none of its words in this half
-    pub copy_within : (array : ArrayAt) (from : Spot) → IsToCopy nodes made owner colour spines half array from
+    pub copied_words_within_kept : (array : ArrayAt) (from : Spot) → IsToCopy nodes made owner colour spines half array from
         → kept_sum heap (words_in_half half nodes spines) owner + array.words ≤ kept_sum heap (words_of_object nodes) owner
-    copy_within array from copies =
+    copied_words_within_kept array from copies =
         let f : ℕ = sentinel_at array in
         let i : ℕ = copies.found.begins.index in
         let kept : owner f ≡ Kept i 0 = copies.found.begins.kept in
@@ -98,9 +98,9 @@ module _ (nodes : ℕ → Node) (spines : ℕ → Spot) (half : ℕ) where
     -- so it is with a copy in progress
     pub kept_beside_copy : (stage : Stage) → WhileCopying (CopyingStands nodes made owner colour fragments spines half) stage
         → kept_sum heap (words_in_half half nodes spines) owner + copying_words stage ≤ kept_sum heap (words_of_object nodes) owner
-    kept_beside_copy (stages.Copying (copying.Loading copy)) copies = copy_within copy.array copy.from copies.0
-    kept_beside_copy (stages.Copying (copying.Storing copy word)) copies = copy_within copy.array copy.from copies.0
-    kept_beside_copy (stages.Copying (copying.Swinging copy)) copies = copy_within copy.array copy.from copies.0
+    kept_beside_copy (stages.Copying (copying.Loading copy)) copies = copied_words_within_kept copy.array copy.from copies.0
+    kept_beside_copy (stages.Copying (copying.Storing copy word)) copies = copied_words_within_kept copy.array copy.from copies.0
+    kept_beside_copy (stages.Copying (copying.Swinging copy)) copies = copied_words_within_kept copy.array copy.from copies.0
     kept_beside_copy _ copies = omega (arith, kept_in_half)
 
 module _ (heap : Heap) (state : State) (book : Book) (bits : Bits heap state.words book.owner) (budgets : BudgetsStand heap state book) (halves : HalvesStand heap state book) where
@@ -108,11 +108,11 @@ module _ (heap : Heap) (state : State) (book : Book) (bits : Bits heap state.wor
   half = (next_spine heap state.words).half
 
   -- before the next spine there are no more words than are granted but for those that a seat has granted in another place or in none yet
-  pub offset_within : (number : ℕ) → number < heap.seats
+  pub offset_within_granted_and_placed : (number : ℕ) → number < heap.seats
       → (next_spine heap state.words).offset + granted_at (seat_at state number) (seat_at state number).place ≤ granted heap state book + placed_at half (seat_at state number) (seat_at state number).place
-  offset_within number here =
+  offset_within_granted_and_placed number here =
       let of : (Seat → Place → ℕ) → ℕ → ℕ = λ weight r. weight (seat_at state r) (seat_at state r).place in
-      let seats = sum_within heap.seats number (of (placed_at half)) (of granted_at) (λ r below. placed_few half (seat_at state r) (seat_at state r).place) here in
+      let seats = sum_within heap.seats number (of (placed_at half)) (of granted_at) (λ r below. placed_within_granted half (seat_at state r) (seat_at state r).place) here in
       let kept = kept_beside_copy (nodes_in heap book) book.spines half heap state.words book.made book.owner book.colour book.fragments bits state.collector.stage halves.copies in
       elim (leaving_or_not state.collector.phase state.collector.stage)
       as (λ _. (next_spine heap state.words).offset + granted_at (seat_at state number) (seat_at state number).place ≤ granted heap state book + placed_at half (seat_at state number) (seat_at state number).place) [
@@ -121,15 +121,15 @@ module _ (heap : Heap) (state : State) (book : Book) (bits : Bits heap state.wor
       ]
 
 -- by the rule the next spine's place isn't behind the words that are granted
-pub offset_low : (heap : Heap) (state : State) (book : Book) → Rule heap state book → (next_spine heap state.words).offset ≤ granted heap state book
-offset_low heap state book rule =
+pub offset_within_granted : (heap : Heap) (state : State) (book : Book) → Rule heap state book → (next_spine heap state.words).offset ≤ granted heap state book
+offset_within_granted heap state book rule =
     let some : 0 < heap.seats = rule.machine.limits.some_seat in
-    let less = offset_within heap state book rule.heap_stands.control_words rule.space.budgets rule.space.halves 0 some in
-    omega (arith, less, placed_few (next_spine heap state.words).half (seat_at state 0) (seat_at state 0).place)
+    let less = offset_within_granted_and_placed heap state book rule.heap_stands.control_words rule.space.budgets rule.space.halves 0 some in
+    omega (arith, less, placed_within_granted (next_spine heap state.words).half (seat_at state 0) (seat_at state 0).place)
 
 -- a spine word that is somebody's stands within the table
-pub word_inside : (heap : Heap) (state : State) (book : Book) → Rule heap state book → (half offset : ℕ) → book.spine_owner half offset ≢ Open → offset < 2 * heap.spine
-word_inside heap state book rule half offset some = elim (rule.space.halves.before half offset some) [
-  | inl here ↦ omega (arith, here.before, offset_low heap state book rule, rule.space.budgets.low)
+pub owned_offset_within_table : (heap : Heap) (state : State) (book : Book) → Rule heap state book → (half offset : ℕ) → book.spine_owner half offset ≢ Open → offset < 2 * heap.spine
+owned_offset_within_table heap state book rule half offset some = elim (rule.space.halves.before half offset some) [
+  | inl here ↦ omega (arith, here.before, offset_within_granted heap state book rule, rule.space.budgets.low)
   | inr behind ↦ omega (arith, behind.before)
 ]

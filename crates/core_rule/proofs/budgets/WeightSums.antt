@@ -11,20 +11,20 @@ use Rattle.core_machine.proofs.table_lemmas.Free.{sum_upto-none}
 use Rattle.core_rule.proofs.lists.SumLemmas.{sum-suc, sum_plus}
 
 -- a command asks for at most as many spine words as the largest array has
-pub need_few : (command : Command) → IsCommand command → spine_need_of command ≤ 1024
-need_few (commands.Array d cells) range = omega (arith, range.1.1)
-need_few _ range = omega arith
+pub spine_need_within_limit : (command : Command) → IsCommand command → spine_need_of command ≤ 1024
+spine_need_within_limit (commands.Array d cells) range = omega (arith, range.1.1)
+spine_need_within_limit _ range = omega arith
 
 -- what a call has granted, and refused, is no more than that
 weights_few : (heap : Heap) (seat : Seat) (place : Place) → FitsPlace heap seat place → granted_at seat place + refused_at seat place ≤ 1024
-weights_few heap seat (places.Making Withdrawing) fits = omega (arith, need_few seat.command fits.makes.in_range)
-weights_few heap seat (places.Making Gathering) fits = omega (arith, need_few seat.command fits.makes.in_range)
-weights_few heap seat (places.Making GivingBack) fits = omega (arith, need_few seat.command fits.0.makes.in_range)
-weights_few heap seat (places.Making Refusing) fits = omega (arith, need_few seat.command fits.0.makes.in_range)
-weights_few heap seat (places.Making Placing) fits = omega (arith, need_few seat.command fits.0.0.makes.in_range)
-weights_few heap seat (places.Making Listing) fits = omega (arith, need_few seat.command fits.0.0.makes.in_range)
-weights_few heap seat (places.Making Storing) fits = omega (arith, need_few seat.command fits.0.makes.in_range)
-weights_few heap seat (places.Making Bearing) fits = omega (arith, need_few seat.command fits.0.makes.in_range)
+weights_few heap seat (places.Making Withdrawing) fits = omega (arith, spine_need_within_limit seat.command fits.makes.in_range)
+weights_few heap seat (places.Making Gathering) fits = omega (arith, spine_need_within_limit seat.command fits.makes.in_range)
+weights_few heap seat (places.Making GivingBack) fits = omega (arith, spine_need_within_limit seat.command fits.0.makes.in_range)
+weights_few heap seat (places.Making Refusing) fits = omega (arith, spine_need_within_limit seat.command fits.0.makes.in_range)
+weights_few heap seat (places.Making Placing) fits = omega (arith, spine_need_within_limit seat.command fits.0.0.makes.in_range)
+weights_few heap seat (places.Making Listing) fits = omega (arith, spine_need_within_limit seat.command fits.0.0.makes.in_range)
+weights_few heap seat (places.Making Storing) fits = omega (arith, spine_need_within_limit seat.command fits.0.makes.in_range)
+weights_few heap seat (places.Making Bearing) fits = omega (arith, spine_need_within_limit seat.command fits.0.makes.in_range)
 weights_few heap seat _ fits = omega arith
 
 -- a sum of numbers of which each is few
@@ -56,10 +56,10 @@ module _ (heap : Heap) (state : State) (machine : IsMachine heap state) where
   all = sum_plus heap.seats both (λ r. granted_at (seat_at state r) (seat_at state r).place) (λ r. refused_at (seat_at state r) (seat_at state r).place) (λ r below. omega arith)
 
   -- all seats have at most so many granted and refused
-  pub seats_few : of_seats heap state granted_at + of_seats heap state refused_at ≤ 1024 * heap.seats
-  seats_few = omega (arith, all, sum_few heap.seats both few)
+  pub seat_sums_within_limit : of_seats heap state granted_at + of_seats heap state refused_at ≤ 1024 * heap.seats
+  seat_sums_within_limit = omega (arith, all, sum_few heap.seats both few)
 
   -- and the others of one that has none
-  pub others_few : (number : ℕ) → number < heap.seats → granted_at (seat_at state number) (seat_at state number).place ≡ 0 → refused_at (seat_at state number) (seat_at state number).place ≡ 0
+  pub other_seat_sums_within_limit : (number : ℕ) → number < heap.seats → granted_at (seat_at state number) (seat_at state number).place ≡ 0 → refused_at (seat_at state number) (seat_at state number).place ≡ 0
       → of_seats heap state granted_at + of_seats heap state refused_at + 1024 ≤ 1024 * heap.seats
-  others_few number here none wanted = omega (arith, all, sum_idle heap.seats number both here (omega (arith, none, wanted)) few)
+  other_seat_sums_within_limit number here none wanted = omega (arith, all, sum_idle heap.seats number both here (omega (arith, none, wanted)) few)

@@ -6,27 +6,27 @@ use Rattle.core_rule.proofs.Terms.{Heap, Word, HandFits, HasBody, part_in, part_
 use Rattle.core_rule.proofs.Terms.{next_name, Seat, spine_need, Colour, White, Black, fragment_at, WordPointsTo, IsMarked, Holding, IsSized, Owner, Borne, bears_bit}
 use Rattle.heap_model.specs.Heap.{IsHeap}
 use Rattle.core_rule.specs.hand.Together.{IsInOrder}
-use Rattle.core_rule.proofs.hand.Bodies.{body_borne, body_once}
+use Rattle.core_rule.proofs.hand.Bodies.{body_tally_is_hand_and_borne, body_has_each_once}
 use Rattle.core_rule.proofs.owners.Handed.{none_or_some}
-use Rattle.core_rule.proofs.hand.HandMoves.{hand_once}
-use Rattle.core_rule.proofs.lists.Members.{place_of, place_within, tally_at}
-use Rattle.core_rule.proofs.hand.MakingSeats.{made_sized, made_whole, made_some, newborn_fresh}
+use Rattle.core_rule.proofs.hand.HandMoves.{hand_has_each_once}
+use Rattle.core_rule.proofs.lists.Members.{place_of, element_stands_at_place, element_is_tallied}
+use Rattle.core_rule.proofs.hand.MakingSeats.{made_object_is_sized, made_body_is_whole, made_body_is_some, newborn_word_is_fresh}
 use Rattle.core_rule.proofs.colours.Births.{AreBorne}
-use Rattle.core_rule.proofs.colours.NewbornArrays.{array_leads}
-use Rattle.core_rule.proofs.colours.NewbornLeads.{newborn_leads}
-use Rattle.core_rule.proofs.colours.NoSpines.{newborn_no_spine}
-use Rattle.core_rule.proofs.colours.SourceCases.{lead_cases, no_spine_leads}
-use Rattle.core_rule.proofs.entries.MakingCommands.{makes_array, size_made, words_made}
-use Rattle.core_rule.proofs.lists.OrderedLists.{past_front}
-use Rattle.core_rule.proofs.lists.Parts.{parts_tally}
-use Rattle.core_rule.proofs.lists.Tallies.{one_at_some}
+use Rattle.core_rule.proofs.colours.NewbornArrays.{array_first_leads_to_payload}
+use Rattle.core_rule.proofs.colours.NewbornLeads.{newborn_leads_to_next}
+use Rattle.core_rule.proofs.colours.NoSpines.{newborn_tells_no_spine}
+use Rattle.core_rule.proofs.colours.SourceCases.{lead_cases, no_spine_word_leads}
+use Rattle.core_rule.proofs.entries.MakingCommands.{makes_array, size_made, spine_need_is_fresh_words}
+use Rattle.core_rule.proofs.lists.OrderedLists.{behind_front_not_in_front}
+use Rattle.core_rule.proofs.lists.Parts.{part_tallies_make_whole}
+use Rattle.core_rule.proofs.lists.Tallies.{one_at_some_is_same}
 use Rattle.core_rule.proofs.objects.Newborn.{fresh_word}
 use Rattle.core_rule.proofs.objects.ObjectsGrowth.{fresh_fragments, fresh_words}
 
 -- what a seat bears is its own
-pub is_borne : (number : ℕ) (o : Owner) → 1 ≤ bears_bit number o → o ≡ Borne number
-is_borne number (Borne r) some = ap Borne (one_at_some r number some)
-is_borne number _ some = absurd (omega (arith, some))
+pub owner_is_borne : (number : ℕ) (o : Owner) → 1 ≤ bears_bit number o → o ≡ Borne number
+owner_is_borne number (Borne r) some = ap Borne (one_at_some_is_same r number some)
+owner_is_borne number _ some = absurd (omega (arith, some))
 
 -- the fragment stands in the list behind the one at k
 pub record IsBehind (fragments : List ℕ) (k f : ℕ) : Type 0 where
@@ -43,12 +43,12 @@ by_kind : (heap : Heap) (words : List ℕ) (name : Name) (array : Bool) (cells :
     → (k source g : ℕ) → k < length body → WordPointsTo heap words (fragment_at body k) source g → IsBehind body k g
 by_kind heap words name false fields spine body owner count sized fits whole small stored listed k source g below leads =
     lead_cases heap words (fragment_at body k) (IsBehind body k g) source g
-    (λ first to. let next = newborn_leads body small name fields k source g owner count (omega (arith, sized.1)) (ap (pointer_in source) (sym (stored k source below first)) ∙ to) in
+    (λ first to. let next = newborn_leads_to_next body small name fields k source g owner count (omega (arith, sized.1)) (ap (pointer_in source) (sym (stored k source below first)) ∙ to) in
     record { place = k + 1; behind = omega arith; within = next.0; is = next.1 })
-    (λ behind to. absurd (no_spine_leads heap words (fragment_at body k)
-    (ap spine_words_in (stored k 0 below (omega arith)) ∙ newborn_no_spine body small name fields k (omega (arith, sized.1))) (source - 4) g to)) leads
+    (λ behind to. absurd (no_spine_word_leads heap words (fragment_at body k)
+    (ap spine_words_in (stored k 0 below (omega arith)) ∙ newborn_tells_no_spine body small name fields k (omega (arith, sized.1))) (source - 4) g to)) leads
 by_kind heap words name true cells spine body owner count sized fits whole small stored listed k source g below leads =
-    let next = array_leads heap words name cells spine body owner count sized.1 fits (omega (arith, whole)) small stored listed k source g below leads in
+    let next = array_first_leads_to_payload heap words name cells spine body owner count sized.1 fits (omega (arith, whole)) small stored listed k source g below leads in
     record { place = source - 4 + 1; behind = omega (arith, next.0); within = next.1; is = next.2 }
 
 -- a body's words are stored, and so are those of its spine; its fragments are those of the heap, and its hand is the front of it
@@ -57,20 +57,20 @@ module _ (heap : Heap) (words : List ℕ) (owner : ℕ → Owner) (number : ℕ)
     (stored : (k part : ℕ) → k < length seat.body → part < 4 → at heap words (Word (fragment_at seat.body k) part) ≡ newborn_word_of number seat k part)
     (listed : (j : ℕ) → j < spine_need seat → at heap words (spine_place seat.spine j) ≡ spine_word (fragment_at seat.body (j + 1))) where
   some : 1 ≤ length seat.body
-  some = made_some seat has
+  some = made_body_is_some seat has
 
   once : (f : ℕ) → tally f seat.body ≤ 1
-  once f = body_once owner number seat.reserve seat.hand seat.body holding some f
+  once f = body_has_each_once owner number seat.reserve seat.hand seat.body holding some f
 
   small : (i : ℕ) → i < length seat.body → get_or seat.body i 0 < 2 ^ 30
   small i less = let inside : get_or seat.body i 0 < 16 * heap.groups = fits.body_within i 0 less in omega (arith, inside, limits.groups_fit)
 
   -- a source of the body leads to a fragment of the body behind its own
-  pub body_leads : (k source g : ℕ) → k < length seat.body → WordPointsTo heap words (fragment_at seat.body k) source g → IsBehind seat.body k g
-  body_leads = by_kind heap words (next_name number seat) (makes_array seat.command) (size_made seat.command) seat.spine seat.body
-      (omega (arith, here, limits.seats_fit)) (omega (arith, has.makes.numbered)) (made_sized seat has) fits.spine_within (made_whole seat has) small
-      (λ k part below first. stored k part below first ∙ newborn_fresh seat.command has.makes.an_object (next_name number seat) seat.spine seat.body k part)
-      (λ j within. listed j (subst (λ n. j < n) (sym (words_made seat.command has.makes.an_object)) within))
+  pub body_leads_behind : (k source g : ℕ) → k < length seat.body → WordPointsTo heap words (fragment_at seat.body k) source g → IsBehind seat.body k g
+  body_leads_behind = by_kind heap words (next_name number seat) (makes_array seat.command) (size_made seat.command) seat.spine seat.body
+      (omega (arith, here, limits.seats_fit)) (omega (arith, has.makes.numbered)) (made_object_is_sized seat has) fits.spine_within (made_body_is_whole seat has) small
+      (λ k part below first. stored k part below first ∙ newborn_word_is_fresh seat.command has.makes.an_object (next_name number seat) seat.spine seat.body k part)
+      (λ j within. listed j (subst (λ n. j < n) (sym (spine_need_is_fresh_words seat.command has.makes.an_object)) within))
 
   module _ (colour : ℕ → Colour) (births : AreBorne owner colour number true) (g : ℕ) (order : IsInOrder heap (part_out g seat.hand) seat.body) where
     -- what the body has behind a fragment of the group is of the group, or borne
@@ -80,26 +80,26 @@ module _ (heap : Heap) (words : List ℕ) (owner : ℕ → Owner) (number : ℕ)
         let f : ℕ = fragment_at seat.body k in
         let x : ℕ = fragment_at seat.body m in
         let away : tally f (part_out g seat.hand) ≡ 0
-        = omega (arith, there, parts_tally g f seat.hand, hand_once owner number seat.reserve seat.hand seat.body holding f) in
-        let past : tally x (part_out g seat.hand) ≡ 0 = past_front (part_out g seat.hand) order.born seat.body k m order.front once later more away in
-        let in_body : 1 ≤ tally x seat.body = tally_at seat.body m more in
-        let parted = parts_tally g x seat.hand in
-        let borne = body_borne owner number seat.reserve seat.hand seat.body holding some x in
+        = omega (arith, there, part_tallies_make_whole g f seat.hand, hand_has_each_once owner number seat.reserve seat.hand seat.body holding f) in
+        let past : tally x (part_out g seat.hand) ≡ 0 = behind_front_not_in_front (part_out g seat.hand) order.born seat.body k m order.front once later more away in
+        let in_body : 1 ≤ tally x seat.body = element_is_tallied seat.body m more in
+        let parted = part_tallies_make_whole g x seat.hand in
+        let borne = body_tally_is_hand_and_borne owner number seat.reserve seat.hand seat.body holding some x in
         elim (none_or_some (tally x (part_in g seat.hand))) [
           | inl none ↦ inr (omega (arith, past, in_body, parted, borne, none))
           | inr among ↦ inl among
         ]
 
     -- so a fragment of the group leads to one of the group, or to a marked one
-    pub born_ahead : (f source x : ℕ) → 1 ≤ tally f (part_in g seat.hand) → WordPointsTo heap words f source x → (1 ≤ tally x (part_in g seat.hand)) ⊎ IsMarked colour x
-    born_ahead f source x there leads =
-        let in_body : 1 ≤ tally f seat.body = omega (arith, there, parts_tally g f seat.hand, body_borne owner number seat.reserve seat.hand seat.body holding some f) in
-        let place = place_within f seat.body in
+    pub born_leads_to_born_or_marked : (f source x : ℕ) → 1 ≤ tally f (part_in g seat.hand) → WordPointsTo heap words f source x → (1 ≤ tally x (part_in g seat.hand)) ⊎ IsMarked colour x
+    born_leads_to_born_or_marked f source x there leads =
+        let in_body : 1 ≤ tally f seat.body = omega (arith, there, part_tallies_make_whole g f seat.hand, body_tally_is_hand_and_borne owner number seat.reserve seat.hand seat.body holding some f) in
+        let place = element_stands_at_place f seat.body in
         let k : ℕ = place_of f seat.body in
-        let next = body_leads k source x (place in_body).0 (subst (λ y. WordPointsTo heap words y source x) (sym (place in_body).1) leads) in
+        let next = body_leads_behind k source x (place in_body).0 (subst (λ y. WordPointsTo heap words y source x) (sym (place in_body).1) leads) in
         elim (behind k next.place next.behind next.within (subst (λ y. 1 ≤ tally y (part_in g seat.hand)) (sym (place in_body).1) there)) [
           | inl among ↦ inl (subst (λ y. 1 ≤ tally y (part_in g seat.hand)) (sym next.is) among)
-          | inr borne ↦ inr (λ white. absurd (dark (sym (births x (subst (λ y. owner y ≡ Borne number) (sym next.is) (is_borne number _ borne))) ∙ white)))
+          | inr borne ↦ inr (λ white. absurd (dark (sym (births x (subst (λ y. owner y ≡ Borne number) (sym next.is) (owner_is_borne number _ borne))) ∙ white)))
         ]
       where
         dark : Black ≢ White

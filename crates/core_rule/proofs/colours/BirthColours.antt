@@ -6,31 +6,31 @@ use Rattle.core_rule.proofs.Terms.{cycle_phases, marked_at, scanned_at, taken_at
 use Rattle.core_rule.proofs.Terms.{birth_bits_of, Seat, Colour, White, Grey, Black, fragment_at, Marks, WordPointsTo, IsMarked, IsBetween, Coloured, marked_bit, scanned_bit, Owner}
 use Rattle.core_rule.proofs.Terms.{Kept, born_bit, IsNear}
 use Rattle.core_machine.specs.seat.MakingMoves.{bears_black_of}
-use Rattle.core_machine.proofs.table_lemmas.Masks.{mask-lt}
+use Rattle.core_machine.proofs.table_lemmas.Masks.{mask_is_small}
 use Rattle.core_rule.proofs.owners.Handed.{none_or_some}
-use Rattle.core_rule.proofs.words.MarkBits.{claim_past, untaken_past, birth_marked, birth_scanned}
+use Rattle.core_rule.proofs.words.MarkBits.{claim_keeps_higher_bits, giving_keeps_higher_bits, birth_sets_marked_bits, birth_sets_scanned_bits}
 use Rattle.core_rule.proofs.colours.Births.{birth_colour}
-use Rattle.core_rule.proofs.colours.MarkWords.{marks_after, found_marked, found_scanned}
-use Rattle.core_rule.proofs.words.MaskLemmas.{mask_bit}
-use Rattle.core_rule.proofs.owners.OwnerLemmas.{born_once}
-use Rattle.core_rule.proofs.lists.Parts.{part_in-here, part_in-away, parts_tally}
+use Rattle.core_rule.proofs.colours.MarkWords.{marks_after_control_word, word_has_marked_bit, word_has_scanned_bit}
+use Rattle.core_rule.proofs.words.MaskLemmas.{mask_bit_is_tally}
+use Rattle.core_rule.proofs.owners.OwnerLemmas.{born_bit_within_one}
+use Rattle.core_rule.proofs.lists.Parts.{part_in_has_own_group, part_in_has_no_other, part_tallies_make_whole}
 
 -- the fragments of the list have this colour, the others their own
 abbrev pub painted : Colour → (ℕ → Colour) → List ℕ → ℕ → Colour
 painted c colour fs f = if nat_lt 0 (tally f fs) then c else colour f
 
-pub painted_in : (c : Colour) (colour : ℕ → Colour) (fs : List ℕ) (f : ℕ) → 1 ≤ tally f fs → painted c colour fs f ≡ c
-painted_in c colour fs f there = grind (arith, nat_tests, there)
+pub painted_member_has_colour : (c : Colour) (colour : ℕ → Colour) (fs : List ℕ) (f : ℕ) → 1 ≤ tally f fs → painted c colour fs f ≡ c
+painted_member_has_colour c colour fs f there = grind (arith, nat_tests, there)
 
-pub painted_out : (c : Colour) (colour : ℕ → Colour) (fs : List ℕ) (f : ℕ) → tally f fs ≡ 0 → painted c colour fs f ≡ colour f
-painted_out c colour fs f away = grind (arith, nat_tests, away)
+pub painted_other_keeps_colour : (c : Colour) (colour : ℕ → Colour) (fs : List ℕ) (f : ℕ) → tally f fs ≡ 0 → painted c colour fs f ≡ colour f
+painted_other_keeps_colour c colour fs f away = grind (arith, nat_tests, away)
 
 -- a fact of the new colour, by two cases
 pub painted_cases : (P : Colour → Type 0) (c : Colour) (colour : ℕ → Colour) (fs : List ℕ) (f : ℕ)
     → (1 ≤ tally f fs → P c) → (tally f fs ≡ 0 → P (colour f)) → P (painted c colour fs f)
 painted_cases P c colour fs f there away = elim (none_or_some (tally f fs)) as (λ _. P (painted c colour fs f)) [
-  | inl none ↦ rw (painted_out c colour fs f none) (away none)
-  | inr some ↦ rw (painted_in c colour fs f some) (there some)
+  | inl none ↦ rw (painted_other_keeps_colour c colour fs f none) (away none)
+  | inr some ↦ rw (painted_member_has_colour c colour fs f some) (there some)
 ]
 
 grey_apart : Grey ≢ White
@@ -49,8 +49,8 @@ black_late n none = elim (leb_tells 2 n) as (λ _. (if nat_lt 1 n then nat_lt n 
   | inr early ↦ rw early.0 refl
 ]
 
-pub white_early : (phase : ℕ) (seat : Seat) → IsNear phase seat.answered → phase % cycle_phases ≤ 1 → bears_black_of seat ≡ false
-white_early phase seat near early = black_late (seat.answered % cycle_phases) (λ late below. elim near [
+pub bears_no_black_early : (phase : ℕ) (seat : Seat) → IsNear phase seat.answered → phase % cycle_phases ≤ 1 → bears_black_of seat ≡ false
+bears_no_black_early phase seat near early = black_late (seat.answered % cycle_phases) (λ late below. elim near [
   | inl same ↦ omega (arith, early, same, late)
   | inr before ↦ omega (arith, early, before, late, below)
 ])
@@ -61,8 +61,8 @@ module _ (heap : Heap) (words now : List ℕ) (owner later : ℕ → Owner) (col
   borne = painted (birth_colour black) colour fs
 
   -- what is born was white
-  pub was_white : (f : ℕ) → 1 ≤ tally f fs → colour f ≡ White
-  was_white f there = by (colour f) refl
+  pub born_was_white : (f : ℕ) → 1 ≤ tally f fs → colour f ≡ White
+  born_was_white f there = by (colour f) refl
     where
       by : (c : Colour) → colour f ≡ c → c ≡ White
       by White is = refl
@@ -70,8 +70,8 @@ module _ (heap : Heap) (words now : List ℕ) (owner later : ℕ → Owner) (col
       by Black is = absurd (omega (arith, unborn f there, born f (λ white. black_apart (sym is ∙ white))))
 
   -- what was marked stays so
-  pub marks_stay : (f : ℕ) → IsMarked colour f → IsMarked borne f
-  marks_stay f marked = painted_cases (λ c. c ≢ White) (birth_colour black) colour fs f (λ there. absurd (omega (arith, unborn f there, born f marked))) (λ away. marked)
+  pub marked_stays_at_birth : (f : ℕ) → IsMarked colour f → IsMarked borne f
+  marked_stays_at_birth f marked = painted_cases (λ c. c ≢ White) (birth_colour black) colour fs f (λ there. absurd (omega (arith, unborn f there, born f marked))) (λ away. marked)
 
   module _ (fragments now_fragments : ℕ → List ℕ) (phase : ℕ)
       (late : phase % cycle_phases ≤ 1 → black ≡ false)
@@ -84,43 +84,43 @@ module _ (heap : Heap) (words now : List ℕ) (owner later : ℕ → Owner) (col
     -- a black fragment was born black now, or was black
     black_birth : (b : Bool) → b ≡ black → (f source g : ℕ) → 1 ≤ tally f fs → birth_colour b ≡ Black → WordPointsTo heap words f source g → IsMarked borne g
     black_birth true is f source g there black_now to = elim (ahead (sym is) f source g there to) [
-      | inl among ↦ λ white. black_apart (ap birth_colour is ∙ sym (painted_in (birth_colour black) colour fs g among) ∙ white)
-      | inr before ↦ marks_stay g before
+      | inl among ↦ λ white. black_apart (ap birth_colour is ∙ sym (painted_member_has_colour (birth_colour black) colour fs g among) ∙ white)
+      | inr before ↦ marked_stays_at_birth g before
     ]
     black_birth false is f source g there black_now to = absurd (black_apart (sym black_now))
 
     -- so the colours are right
-    pub birth_coloured : (IsBetween 1 5 phase → (f i k : ℕ) → later f ≡ Kept i k → IsMarked borne f → IsMarked borne (fragment_at (now_fragments i) 0))
+    pub coloured_after_birth : (IsBetween 1 5 phase → (f i k : ℕ) → later f ≡ Kept i k → IsMarked borne f → IsMarked borne (fragment_at (now_fragments i) 0))
         → Coloured heap words owner colour fragments phase → Coloured heap now later borne now_fragments phase
-    birth_coloured first stands = record {
+    coloured_after_birth first stands = record {
       rest = λ rests f. painted_cases (λ c. c ≡ White) (birth_colour black) colour fs f (λ there. white_birth (omega (arith, rests))) (λ away. stands.rest rests f);
       early = λ one f. painted_cases (λ c. c ≢ Black) (birth_colour black) colour fs f
           (λ there is. black_apart (sym is ∙ white_birth (omega (arith, one)))) (λ away. stands.early one f);
       born = λ f. painted_cases (λ c. c ≢ White → born_bit (later f) ≡ 1) (birth_colour black) colour fs f
-          (λ there marked. omega (arith, bears f, unborn f there, there, born_once (later f)))
+          (λ there marked. omega (arith, bears f, unborn f there, there, born_bit_within_one (later f)))
           (λ away marked. omega (arith, bears f, stands.born f marked, away));
       black = λ marking f source g is to. painted_cases (λ c. c ≡ Black → IsMarked borne g) (birth_colour black) colour fs f
           (λ there now_black. black_birth black refl f source g there now_black (leads f source g to))
-          (λ away was_black. marks_stay g (stands.black marking f source g was_black (leads f source g to))) is;
+          (λ away was_black. marked_stays_at_birth g (stands.black marking f source g was_black (leads f source g to))) is;
       first = first;
     }
 
 -- a claim changes no colour
-pub marks_claim : (heap : Heap) (words : List ℕ) (colour : ℕ → Colour) (g : ℕ) → length words ≡ table_length heap → g < heap.groups → Marks heap words colour
+pub marks_after_claim : (heap : Heap) (words : List ℕ) (colour : ℕ → Colour) (g : ℕ) → length words ≡ table_length heap → g < heap.groups → Marks heap words colour
     → Marks heap (put heap words (Control g) (bit_or (at heap words (Control g)) all_taken)) colour
-marks_claim heap words colour g whole below marks =
-    marks_after heap words colour colour g (bit_or (at heap words (Control g)) all_taken) whole below marks
-    (λ f here. claim_past (at heap words (Control g)) (marked_at f) (omega arith) ∙ found_marked heap words colour colour g 0 whole below marks f here)
-    (λ f here. claim_past (at heap words (Control g)) (scanned_at f) (omega arith) ∙ found_scanned heap words colour colour g 0 whole below marks f here)
+marks_after_claim heap words colour g whole below marks =
+    marks_after_control_word heap words colour colour g (bit_or (at heap words (Control g)) all_taken) whole below marks
+    (λ f here. claim_keeps_higher_bits (at heap words (Control g)) (marked_at f) (omega arith) ∙ word_has_marked_bit heap words colour colour g 0 whole below marks f here)
+    (λ f here. claim_keeps_higher_bits (at heap words (Control g)) (scanned_at f) (omega arith) ∙ word_has_scanned_bit heap words colour colour g 0 whole below marks f here)
     (λ f apart. refl)
 
 -- nor does a give back
-pub marks_give : (heap : Heap) (words : List ℕ) (colour : ℕ → Colour) (g : ℕ) (fs : List ℕ) → length words ≡ table_length heap → g < heap.groups → Marks heap words colour
+pub marks_after_giving : (heap : Heap) (words : List ℕ) (colour : ℕ → Colour) (g : ℕ) (fs : List ℕ) → length words ≡ table_length heap → g < heap.groups → Marks heap words colour
     → Marks heap (put heap words (Control g) (word_without_taken (mask_of fs) (at heap words (Control g)))) colour
-marks_give heap words colour g fs whole below marks =
-    marks_after heap words colour colour g (word_without_taken (mask_of fs) (at heap words (Control g))) whole below marks
-    (λ f here. untaken_past (at heap words (Control g)) (mask_of fs) (mask-lt fs) (marked_at f) (omega arith) (omega arith) ∙ found_marked heap words colour colour g 0 whole below marks f here)
-    (λ f here. untaken_past (at heap words (Control g)) (mask_of fs) (mask-lt fs) (scanned_at f) (omega arith) (omega arith) ∙ found_scanned heap words colour colour g 0 whole below marks f here)
+marks_after_giving heap words colour g fs whole below marks =
+    marks_after_control_word heap words colour colour g (word_without_taken (mask_of fs) (at heap words (Control g))) whole below marks
+    (λ f here. giving_keeps_higher_bits (at heap words (Control g)) (mask_of fs) (mask_is_small fs) (marked_at f) (omega arith) (omega arith) ∙ word_has_marked_bit heap words colour colour g 0 whole below marks f here)
+    (λ f here. giving_keeps_higher_bits (at heap words (Control g)) (mask_of fs) (mask_is_small fs) (scanned_at f) (omega arith) (omega arith) ∙ word_has_scanned_bit heap words colour colour g 0 whole below marks f here)
     (λ f apart. refl)
 
 -- the mask has the bits of the part
@@ -128,8 +128,8 @@ birth_mask : (g f : ℕ) (fs : List ℕ) → f / 16 ≡ g → ((x : ℕ) → tal
 birth_mask g f fs here once =
     let place : 16 * g + f % 16 ≡ f = omega (arith, here) in
     let bit : bit_at (mask_of (part_in g fs)) (taken_at f) ≡ tally f fs
-    = subst (λ x. bit_at (mask_of (part_in g fs)) (taken_at f) ≡ tally x fs) place (mask_bit g (f % 16) fs (omega arith) (once (16 * g + f % 16))) in
-    bit ∙ sym (part_in-here g f fs here)
+    = subst (λ x. bit_at (mask_of (part_in g fs)) (taken_at f) ≡ tally x fs) place (mask_bit_is_tally g (f % 16) fs (omega arith) (once (16 * g + f % 16))) in
+    bit ∙ sym (part_in_has_own_group g f fs here)
 
 module _ (bit : Colour → ℕ) (none : bit White ≡ 0) (all : bit Black ≡ 1) (colour : ℕ → Colour) (fs : List ℕ) (f : ℕ) where
   -- the bit of the new colour
@@ -148,21 +148,21 @@ module _ (bit : Colour → ℕ) (none : bit White ≡ 0) (all : bit Black ≡ 1)
       clear false is zero = omega (arith, is, was)
 
 -- a birth gives its fragments its colour
-pub marks_birth : (heap : Heap) (words : List ℕ) (colour : ℕ → Colour) (g : ℕ) (fs : List ℕ) (black : Bool) → length words ≡ table_length heap → g < heap.groups
+pub marks_after_birth : (heap : Heap) (words : List ℕ) (colour : ℕ → Colour) (g : ℕ) (fs : List ℕ) (black : Bool) → length words ≡ table_length heap → g < heap.groups
     → ((f : ℕ) → tally f fs ≤ 1) → ((f : ℕ) → 1 ≤ tally f (part_in g fs) → colour f ≡ White) → Marks heap words colour
     → Marks heap (put heap words (Control g) (bit_or (at heap words (Control g)) (birth_bits_of black (mask_of (part_in g fs))))) (painted (birth_colour black) colour (part_in g fs))
-marks_birth heap words colour g fs black whole below once white marks =
+marks_after_birth heap words colour g fs black whole below once white marks =
     let found : ℕ = at heap words (Control g) in
     let coloured : ℕ → Colour = painted (birth_colour black) colour (part_in g fs) in
     let word : ℕ = bit_or found (birth_bits_of black (mask_of (part_in g fs))) in
-    marks_after heap words colour coloured g word whole below marks
+    marks_after_control_word heap words colour coloured g word whole below marks
     (λ f here. bit_painted marked_bit refl refl colour (part_in g fs) f black (bit_at word (marked_at f)) (bit_at found (marked_at f)) (bit_at (mask_of (part_in g fs)) (taken_at f))
-    (birth_marked found (mask_of (part_in g fs)) (mask-lt (part_in g fs)) (f % 16) (omega arith) black)
-    (found_marked heap words colour colour g 0 whole below marks f here) (birth_mask g f fs here once) (part_once f) (white f))
+    (birth_sets_marked_bits found (mask_of (part_in g fs)) (mask_is_small (part_in g fs)) (f % 16) (omega arith) black)
+    (word_has_marked_bit heap words colour colour g 0 whole below marks f here) (birth_mask g f fs here once) (part_once f) (white f))
     (λ f here. bit_painted scanned_bit refl refl colour (part_in g fs) f black (bit_at word (scanned_at f)) (bit_at found (scanned_at f)) (bit_at (mask_of (part_in g fs)) (taken_at f))
-    (birth_scanned found (mask_of (part_in g fs)) (mask-lt (part_in g fs)) (f % 16) (omega arith) black)
-    (found_scanned heap words colour colour g 0 whole below marks f here) (birth_mask g f fs here once) (part_once f) (white f))
-    (λ f apart. painted_out (birth_colour black) colour (part_in g fs) f (part_in-away g f fs apart))
+    (birth_sets_scanned_bits found (mask_of (part_in g fs)) (mask_is_small (part_in g fs)) (f % 16) (omega arith) black)
+    (word_has_scanned_bit heap words colour colour g 0 whole below marks f here) (birth_mask g f fs here once) (part_once f) (white f))
+    (λ f apart. painted_other_keeps_colour (birth_colour black) colour (part_in g fs) f (part_in_has_no_other g f fs apart))
   where
     part_once : (f : ℕ) → tally f (part_in g fs) ≤ 1
-    part_once f = omega (arith, once f, parts_tally g f fs)
+    part_once f = omega (arith, once f, part_tallies_make_whole g f fs)

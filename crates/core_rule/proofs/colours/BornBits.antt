@@ -7,13 +7,13 @@ use Rattle.core_rule.proofs.Terms.{born_at, marked_at, scanned_at, taken_at, Hea
 use Rattle.core_rule.proofs.Terms.{mask_of, at, put, birth_bits_of, Book, Colour, White, Grey, Black, IsBetween, HasColour, HasBirthColour, marked_bit, scanned_bit, IsBorn}
 use Rattle.core_rule.proofs.Terms.{control_of, born_bit, Rule}
 use Rattle.core_machine.specs.Moves.{bears_black_of}
-use Rattle.core_machine.proofs.table_lemmas.Masks.{mask-lt}
+use Rattle.core_machine.proofs.table_lemmas.Masks.{mask_is_small}
 use Rattle.core_rule.proofs.colours.Births.{birth_colour}
-use Rattle.core_rule.proofs.colours.MarkWords.{found_marked, found_scanned}
-use Rattle.core_rule.proofs.cycle.Barriers.{black_window, window_black}
-use Rattle.core_rule.proofs.words.Addresses.{control_same, control_other}
-use Rattle.core_rule.proofs.words.MarkBits.{birth_marked, birth_scanned}
-use Rattle.core_rule.proofs.words.WordBits.{birth_born}
+use Rattle.core_rule.proofs.colours.MarkWords.{word_has_marked_bit, word_has_scanned_bit}
+use Rattle.core_rule.proofs.cycle.Barriers.{black_births_are_between, between_bears_black}
+use Rattle.core_rule.proofs.words.Addresses.{written_control_is_read, other_control_stays}
+use Rattle.core_rule.proofs.words.MarkBits.{birth_sets_marked_bits, birth_sets_scanned_bits}
+use Rattle.core_rule.proofs.words.WordBits.{birth_sets_born_bits}
 
 -- a bit of a birth: it is that of the colour
 coloured_bit : (bit : Colour → ℕ) → bit White ≡ 0 → bit Black ≡ 1 → (set was mine : ℕ) (black : Bool) → set ≡ max was (cond {A = ℕ} black mine 0) → was ≡ 0 → mine ≡ 1
@@ -31,13 +31,13 @@ module _ (heap : Heap) (state : State) (book : Book) (rule : Rule heap state boo
 
   -- the fragment's control word is the one written where its group's was
   written_there : (g word : ℕ) → f / 16 ≡ g → control_of heap (put heap words (Control g) word) f ≡ word
-  written_there g word same = rw same (control_same heap words word g rule.machine.table (omega (arith, same, within)))
+  written_there g word same = rw same (written_control_is_read heap words word g rule.machine.table (omega (arith, same, within)))
 
   -- so a control word that bears the fragment is its group's
   control_bears : {A : Type 0} (g word : ℕ) → (f / 16 ≡ g → bit_at word (born_at f) ≡ 1 → A) → IsBorn heap (put heap words (Control g) word) f → A
   control_bears g word here born = elim (eqb_tells (f / 16) g) [
     | inl same ↦ here same.1 (subst (λ w. bit_at w (born_at f) ≡ 1) (written_there g word same.1) born)
-    | inr apart ↦ absurd (word_bears_none (put heap words (Control g) word) (control_other heap words word g (f / 16) apart.1) born)
+    | inr apart ↦ absurd (word_bears_none (put heap words (Control g) word) (other_control_stays heap words word g (f / 16) apart.1) born)
   ]
 
   -- the fragment was white
@@ -77,25 +77,25 @@ module _ (heap : Heap) (state : State) (book : Book) (rule : Rule heap state boo
         let marks = rule.heap_stands.cycle.marks in
         let below : g < heap.groups = omega (arith, group, within) in
         let clear : bit_at found (born_at f) ≢ 1 = λ set. unborn (subst (λ h. bit_at (at heap words (Control h)) (born_at f) ≡ 1) (sym group) set) in
-        let mine : bit_at bits (taken_at f) ≡ 1 = omega (arith, birth_born found (f % 16) (omega arith) bits (bears_black_of seat), born, clear, bit_at-lt found (born_at f)) in
+        let mine : bit_at bits (taken_at f) ≡ 1 = omega (arith, birth_sets_born_bits found (f % 16) (omega arith) bits (bears_black_of seat), born, clear, bit_at-lt found (born_at f)) in
         let there : control_of heap words_born f ≡ born_word = written_there g born_word group in
         record {
           marked = ap (λ w. bit_at w (marked_at f)) there
               ∙ coloured_bit marked_bit refl refl _ _ _ black (subst (λ (b : Bool). bit_at born_word (marked_at f) ≡ max (bit_at found (marked_at f)) (cond {A = ℕ} b (bit_at bits (taken_at f)) 0)) is
-              (birth_marked found bits (mask-lt (last_part seat)) (f % 16) (omega arith) (bears_black_of seat)))
-              (found_marked heap words book.colour book.colour g 0 rule.machine.table below marks f group ∙ ap marked_bit unmarked) mine;
+              (birth_sets_marked_bits found bits (mask_is_small (last_part seat)) (f % 16) (omega arith) (bears_black_of seat)))
+              (word_has_marked_bit heap words book.colour book.colour g 0 rule.machine.table below marks f group ∙ ap marked_bit unmarked) mine;
           scanned = ap (λ w. bit_at w (scanned_at f)) there
               ∙ coloured_bit scanned_bit refl refl _ _ _ black (subst (λ (b : Bool). bit_at born_word (scanned_at f) ≡ max (bit_at found (scanned_at f)) (cond {A = ℕ} b (bit_at bits (taken_at f)) 0)) is
-              (birth_scanned found bits (mask-lt (last_part seat)) (f % 16) (omega arith) (bears_black_of seat)))
-              (found_scanned heap words book.colour book.colour g 0 rule.machine.table below marks f group ∙ ap scanned_bit unmarked) mine;
+              (birth_sets_scanned_bits found bits (mask_is_small (last_part seat)) (f % 16) (omega arith) (bears_black_of seat)))
+              (word_has_scanned_bit heap words book.colour book.colour g 0 rule.machine.table below marks f group ∙ ap scanned_bit unmarked) mine;
         }
 
-    pub birth_colours : IsBorn heap words_born f → HasBirthColour heap words_born f (last_answer number book.history)
-    birth_colours = control_bears g born_word (λ group born. record {
-      dark = λ between. bears group born true (window_black seat (subst (IsBetween black_births sweep) (rule.seats_stand number here).cycle.answers_told.told between));
+    pub born_has_birth_colour : IsBorn heap words_born f → HasBirthColour heap words_born f (last_answer number book.history)
+    born_has_birth_colour = control_bears g born_word (λ group born. record {
+      dark = λ between. bears group born true (between_bears_black seat (subst (IsBetween black_births sweep) (rule.seats_stand number here).cycle.answers_told.told between));
       light = λ apart. by apart group born (bears_black_of seat) refl;
     })
       where
         by : ¬ IsBetween black_births sweep (last_answer number book.history) → f / 16 ≡ g → bit_at born_word (born_at f) ≡ 1 → (black : Bool) → bears_black_of seat ≡ black → HasColour heap words_born f White
-        by apart group born true is = absurd (apart (subst (IsBetween black_births sweep) (sym (rule.seats_stand number here).cycle.answers_told.told) (black_window seat is)))
+        by apart group born true is = absurd (apart (subst (IsBetween black_births sweep) (sym (rule.seats_stand number here).cycle.answers_told.told) (black_births_are_between seat is)))
         by apart group born false is = bears group born false is

@@ -6,8 +6,8 @@ use Rattle.std.proofs.lemmas.Bool.Decides.{leb_tells}
 use Rattle.core_rule.proofs.Terms.{spot_in, Heap, Control, Word, at, put, index_of, table_length, spine_place, pointer_in, payload_in, spine_words_in, WordPointsTo}
 use Rattle.core_machine.specs.declared.table.address.Address.{Address}
 use Rattle.core_rule.specs.marking.Sources.{spine_pointer, source_pointer}
-use Rattle.core_rule.proofs.colours.SourceCases.{TellsNoSpine, source_cases, word_source, word_leads, lead_of_word, word_alone}
-use Rattle.core_rule.proofs.words.Addresses.{at-put_apart, word_same, fragment_other, part_other}
+use Rattle.core_rule.proofs.colours.SourceCases.{TellsNoSpine, source_cases, source_is_word_pointer, leads_by_word, word_pointer_of_lead, source_is_of_word}
+use Rattle.core_rule.proofs.words.Addresses.{at-put_apart, written_word_is_read, other_fragment_word_stays, other_part_stays}
 
 -- the four words of the fragment are the same, and so are the words of its spine
 pub record SameSources (heap : Heap) (words now : List ℕ) (f : ℕ) : Type 0 where
@@ -32,57 +32,57 @@ module _ (heap : Heap) (words now : List ℕ) (f : ℕ) (same : SameSources heap
       ]
 
   -- then each source leads where it led
-  pub sources_same : (source : ℕ) → source_pointer heap now f source ≡ source_pointer heap words f source
-  sources_same source = source_cases heap words f (λ o. source_pointer heap now f source ≡ o) source
-      (λ first. word_source heap now f source first ∙ ap (pointer_in source) (same.parts source first))
+  pub source_pointer_same : (source : ℕ) → source_pointer heap now f source ≡ source_pointer heap words f source
+  source_pointer_same source = source_cases heap words f (λ o. source_pointer heap now f source ≡ o) source
+      (λ first. source_is_word_pointer heap now f source first ∙ ap (pointer_in source) (same.parts source first))
       (λ behind. source_cases heap now f (λ o. o ≡ spine_pointer heap words f (source - 4)) source (λ first. absurd (omega (arith, first, behind))) (λ late. spine_same (source - 4)))
 
-  pub leads_same : (source g : ℕ) → WordPointsTo heap now f source g → WordPointsTo heap words f source g
-  leads_same source g leads = record { within = leads.within; to = sym (sources_same source) ∙ leads.to }
+  pub led_before_where_same : (source g : ℕ) → WordPointsTo heap now f source g → WordPointsTo heap words f source g
+  led_before_where_same source g leads = record { within = leads.within; to = sym (source_pointer_same source) ∙ leads.to }
 
-  pub same_leads : (source g : ℕ) → WordPointsTo heap words f source g → WordPointsTo heap now f source g
-  same_leads source g leads = record { within = leads.within; to = sources_same source ∙ leads.to }
+  pub leads_now_where_same : (source g : ℕ) → WordPointsTo heap words f source g → WordPointsTo heap now f source g
+  leads_now_where_same source g leads = record { within = leads.within; to = source_pointer_same source ∙ leads.to }
 
   -- and there is no spine where there was none
-  pub still_no_spine : TellsNoSpine heap words f → TellsNoSpine heap now f
-  still_no_spine none = ap spine_words_in (same.parts 0 (omega arith)) ∙ none
+  pub tells_no_spine_still : TellsNoSpine heap words f → TellsNoSpine heap now f
+  tells_no_spine_still none = ap spine_words_in (same.parts 0 (omega arith)) ∙ none
 
 -- the sources of all fragments stay where a word before the fragments' was written: the phase, an answer, the budget, the spot or a control word
-pub same_ahead : (heap : Heap) (words : List ℕ) (a : Address) (n : ℕ) → index_of heap a < 19 + heap.groups → (f : ℕ) → SameSources heap words (put heap words a n) f
-same_ahead heap words a n ahead f = record {
+pub same_sources_ahead : (heap : Heap) (words : List ℕ) (a : Address) (n : ℕ) → index_of heap a < 19 + heap.groups → (f : ℕ) → SameSources heap words (put heap words a n) f
+same_sources_ahead heap words a n ahead f = record {
   parts = λ part below. at-put_apart heap words a (Word f part) n (λ e. omega (arith, e, ahead));
   spine = λ k within. at-put_apart heap words a (spine_place (spot_in (at heap words (Word f 2))) k) n (λ e. omega (arith, e, ahead));
 }
 
 -- those of other fragments stay where a word of a fragment was
-pub same_beside : (heap : Heap) (words : List ℕ) (a b n : ℕ) → a < 16 * heap.groups → b < 4 → (f : ℕ) → f ≢ a → SameSources heap words (put heap words (Word a b) n) f
-same_beside heap words a b n within below f apart = record {
-  parts = λ part fits. fragment_other heap words n a b f part below fits apart;
+pub same_sources_beside : (heap : Heap) (words : List ℕ) (a b n : ℕ) → a < 16 * heap.groups → b < 4 → (f : ℕ) → f ≢ a → SameSources heap words (put heap words (Word a b) n) f
+same_sources_beside heap words a b n within below f apart = record {
+  parts = λ part fits. other_fragment_word_stays heap words n a b f part below fits apart;
   spine = λ k inside. at-put_apart heap words (Word a b) (spine_place (spot_in (at heap words (Word f 2))) k) n (λ e. omega (arith, e, within, below));
 }
 
 -- a word ahead of the fragments' was written
-pub leads_ahead : (heap : Heap) (words : List ℕ) (a : Address) (n : ℕ) → index_of heap a < 19 + heap.groups → (f source g : ℕ)
+pub led_before_ahead_write : (heap : Heap) (words : List ℕ) (a : Address) (n : ℕ) → index_of heap a < 19 + heap.groups → (f source g : ℕ)
     → WordPointsTo heap (put heap words a n) f source g → WordPointsTo heap words f source g
-leads_ahead heap words a n ahead f = leads_same heap words (put heap words a n) f (same_ahead heap words a n ahead f)
+led_before_ahead_write heap words a n ahead f = led_before_where_same heap words (put heap words a n) f (same_sources_ahead heap words a n ahead f)
 
 pub ahead_leads : (heap : Heap) (words : List ℕ) (a : Address) (n : ℕ) → index_of heap a < 19 + heap.groups → (f source g : ℕ)
     → WordPointsTo heap words f source g → WordPointsTo heap (put heap words a n) f source g
-ahead_leads heap words a n ahead f = same_leads heap words (put heap words a n) f (same_ahead heap words a n ahead f)
+ahead_leads heap words a n ahead f = leads_now_where_same heap words (put heap words a n) f (same_sources_ahead heap words a n ahead f)
 
 -- a control word was
-pub leads_control : (heap : Heap) (words : List ℕ) (group n : ℕ) → group < heap.groups → (f source g : ℕ) → WordPointsTo heap (put heap words (Control group) n) f source g → WordPointsTo heap words f source g
-leads_control heap words group n below = leads_ahead heap words (Control group) n (omega (arith, below))
+pub led_before_control_write : (heap : Heap) (words : List ℕ) (group n : ℕ) → group < heap.groups → (f source g : ℕ) → WordPointsTo heap (put heap words (Control group) n) f source g → WordPointsTo heap words f source g
+led_before_control_write heap words group n below = led_before_ahead_write heap words (Control group) n (omega (arith, below))
 
-pub control_leads : (heap : Heap) (words : List ℕ) (group n : ℕ) → group < heap.groups → (f source g : ℕ) → WordPointsTo heap words f source g → WordPointsTo heap (put heap words (Control group) n) f source g
-control_leads heap words group n below = ahead_leads heap words (Control group) n (omega (arith, below))
+pub leads_after_control_write : (heap : Heap) (words : List ℕ) (group n : ℕ) → group < heap.groups → (f source g : ℕ) → WordPointsTo heap words f source g → WordPointsTo heap (put heap words (Control group) n) f source g
+leads_after_control_write heap words group n below = ahead_leads heap words (Control group) n (omega (arith, below))
 
 -- a fragment without a spine has none once one of its words was written by a word that is no array's meta
-pub put_no_spine : (heap : Heap) (words : List ℕ) (a b n : ℕ) → length words ≡ table_length heap → a < 16 * heap.groups → spine_words_in n ≡ 0
+pub tells_no_spine_after_put : (heap : Heap) (words : List ℕ) (a b n : ℕ) → length words ≡ table_length heap → a < 16 * heap.groups → spine_words_in n ≡ 0
     → TellsNoSpine heap words a → TellsNoSpine heap (put heap words (Word a b) n) a
-put_no_spine heap words a b n whole within plain none = elim (cases_eq b 0) as (λ _. TellsNoSpine heap (put heap words (Word a b) n) a) [
-  | inl first ↦ subst (λ p. TellsNoSpine heap (put heap words (Word a p) n) a) (sym first) (ap spine_words_in (word_same heap words n a 0 whole within (omega arith)) ∙ plain)
-  | inr behind ↦ ap spine_words_in (part_other heap words n a b a 0 (λ e. behind (sym e)) refl) ∙ none
+tells_no_spine_after_put heap words a b n whole within plain none = elim (cases_eq b 0) as (λ _. TellsNoSpine heap (put heap words (Word a b) n) a) [
+  | inl first ↦ subst (λ p. TellsNoSpine heap (put heap words (Word a p) n) a) (sym first) (ap spine_words_in (written_word_is_read heap words n a 0 whole within (omega arith)) ∙ plain)
+  | inr behind ↦ ap spine_words_in (other_part_stays heap words n a b a 0 (λ e. behind (sym e)) refl) ∙ none
 ]
 
 -- a word of a fragment was written that had no spine before, and has none after it
@@ -103,21 +103,21 @@ module _ (heap : Heap) (words : List ℕ) (a b n : ℕ) (within : a < 16 * heap.
   -- each source leads where it led, but for that one
   pub leads_but : (f source g : ℕ) → WordPointsTo heap now f source g → WordPointsTo heap words f source g ⊎ ((f ≡ a) × (source ≡ b))
   leads_but f source g leads = but_written (λ x y. WordPointsTo heap words x y g) f source
-      (λ apart. leads_same heap words now f (same_beside heap words a b n within below f apart) source g leads)
+      (λ apart. led_before_where_same heap words now f (same_sources_beside heap words a b n within below f apart) source g leads)
       (λ same other.
-      let first = word_alone heap now f (subst (TellsNoSpine heap now) (sym same) after) source g leads in
-      word_leads heap words f source g leads.within first (ap (pointer_in source) (sym (part_other heap words n a b f source other same)) ∙ lead_of_word heap now f source g first leads))
+      let first = source_is_of_word heap now f (subst (TellsNoSpine heap now) (sym same) after) source g leads in
+      leads_by_word heap words f source g leads.within first (ap (pointer_in source) (sym (other_part_stays heap words n a b f source other same)) ∙ word_pointer_of_lead heap now f source g first leads))
 
-  pub but_leads : (f source g : ℕ) → WordPointsTo heap words f source g → WordPointsTo heap now f source g ⊎ ((f ≡ a) × (source ≡ b))
-  but_leads f source g leads = but_written (λ x y. WordPointsTo heap now x y g) f source
-      (λ apart. same_leads heap words now f (same_beside heap words a b n within below f apart) source g leads)
+  pub leads_now_or_is_written : (f source g : ℕ) → WordPointsTo heap words f source g → WordPointsTo heap now f source g ⊎ ((f ≡ a) × (source ≡ b))
+  leads_now_or_is_written f source g leads = but_written (λ x y. WordPointsTo heap now x y g) f source
+      (λ apart. leads_now_where_same heap words now f (same_sources_beside heap words a b n within below f apart) source g leads)
       (λ same other.
-      let first = word_alone heap words f (subst (TellsNoSpine heap words) (sym same) before) source g leads in
-      word_leads heap now f source g leads.within first (ap (pointer_in source) (part_other heap words n a b f source other same) ∙ lead_of_word heap words f source g first leads))
+      let first = source_is_of_word heap words f (subst (TellsNoSpine heap words) (sym same) before) source g leads in
+      leads_by_word heap now f source g leads.within first (ap (pointer_in source) (other_part_stays heap words n a b f source other same) ∙ word_pointer_of_lead heap words f source g first leads))
 
   -- so each lead is an old one or the new word's
-  pub leads_put : length words ≡ table_length heap → (f source g : ℕ) → WordPointsTo heap now f source g → WordPointsTo heap words f source g ⊎ ((f ≡ a) × (source ≡ b) × (pointer_in b n ≡ Some g))
-  leads_put whole f source g leads = elim (leads_but f source g leads) as (λ _. WordPointsTo heap words f source g ⊎ ((f ≡ a) × (source ≡ b) × (pointer_in b n ≡ Some g))) [
+  pub led_before_or_by_written : length words ≡ table_length heap → (f source g : ℕ) → WordPointsTo heap now f source g → WordPointsTo heap words f source g ⊎ ((f ≡ a) × (source ≡ b) × (pointer_in b n ≡ Some g))
+  led_before_or_by_written whole f source g leads = elim (leads_but f source g leads) as (λ _. WordPointsTo heap words f source g ⊎ ((f ≡ a) × (source ≡ b) × (pointer_in b n ≡ Some g))) [
     | inl before ↦ inl before
     | inr new ↦ inr (new.0, new.1, written new.0 new.1)
   ]
@@ -125,4 +125,4 @@ module _ (heap : Heap) (words : List ℕ) (a b n : ℕ) (within : a < 16 * heap.
       written : f ≡ a → source ≡ b → pointer_in b n ≡ Some g
       written same here =
           let there : WordPointsTo heap now a b g = subst (λ x. WordPointsTo heap now x b g) same (subst (λ s. WordPointsTo heap now f s g) here leads) in
-          ap (pointer_in b) (sym (word_same heap words n a b whole within below)) ∙ lead_of_word heap now a b g below there
+          ap (pointer_in b) (sym (written_word_is_read heap words n a b whole within below)) ∙ word_pointer_of_lead heap now a b g below there

@@ -11,9 +11,9 @@ use Rattle.core_rule.proofs.Terms.{pointer_in, head_of, first_pointer, reference
 use Rattle.core_machine.proofs.table_lemmas.CellWords.{cell_of-cell_word}
 
 -- a word of 0 leads nowhere
-pub zero_leads : (part : ℕ) → pointer_in part 0 ≡ None
-zero_leads zero = refl
-zero_leads (suc part) = let later : eqb (suc part) 0 ≡ false = grind arith in rw later refl
+pub zero_leads_nowhere : (part : ℕ) → pointer_in part 0 ≡ None
+zero_leads_nowhere zero = refl
+zero_leads_nowhere (suc part) = let later : eqb (suc part) 0 ≡ false = grind arith in rw later refl
 
 nowhere : (o : Option ℕ) (g : ℕ) → o ≡ None → o ≢ Some g
 nowhere o g none some = let both : None ≡ Some g = sym none ∙ some in absurd (cc)
@@ -66,8 +66,8 @@ module _ (fragments : List ℕ) (small : (i : ℕ) → i < length fragments → 
   ]
 
   module _ (name : Name) (fields : ℕ) where
-    pub link_word_at : (k : ℕ) → record_word_of name fields fragments (suc k) 0 ≡ link_after fragments (suc k)
-    link_word_at k = let later : eqb (suc k) 0 ≡ false = grind arith in rw later refl
+    pub newborn_word_is_link : (k : ℕ) → record_word_of name fields fragments (suc k) 0 ≡ link_after fragments (suc k)
+    newborn_word_is_link k = let later : eqb (suc k) 0 ≡ false = grind arith in rw later refl
 
     head_zero : (part : ℕ) → record_word_of name fields fragments 0 (suc (suc part)) ≡ 0
     head_zero part =
@@ -82,13 +82,13 @@ module _ (fragments : List ℕ) (small : (i : ℕ) → i < length fragments → 
         rw (later, some) refl
 
     no_lead : (part word g : ℕ) → word ≡ 0 → pointer_in part word ≢ Some g
-    no_lead part word g none = nowhere (pointer_in part word) g (ap (pointer_in part) none ∙ zero_leads part)
+    no_lead part word g none = nowhere (pointer_in part word) g (ap (pointer_in part) none ∙ zero_leads_nowhere part)
 
     -- by a meta or a link to the fragment after its own, and nowhere else
-    pub newborn_leads : (k part g : ℕ) → name.owner < 2 ^ 30 → name.count < 2 ^ 32 → fields < 2 ^ 29
+    pub newborn_leads_to_next : (k part g : ℕ) → name.owner < 2 ^ 30 → name.count < 2 ^ 32 → fields < 2 ^ 29
         → pointer_in part (record_word_of name fields fragments k part) ≡ Some g → IsNext k g
-    newborn_leads zero zero g owner count few leads = meta_leads fields g few leads
-    newborn_leads zero (suc zero) g owner count few leads = absurd (nowhere (head_of (name_word name)) g (name_leads name owner count) leads)
-    newborn_leads zero (suc (suc part)) g owner count few leads = absurd (no_lead (suc (suc part)) _ g (head_zero part) leads)
-    newborn_leads (suc k) zero g owner count few leads = link_leads (suc k) g (ap (pointer_in 0) (sym (link_word_at k)) ∙ leads)
-    newborn_leads (suc k) (suc part) g owner count few leads = absurd (no_lead (suc part) _ g (part_zero k part) leads)
+    newborn_leads_to_next zero zero g owner count few leads = meta_leads fields g few leads
+    newborn_leads_to_next zero (suc zero) g owner count few leads = absurd (nowhere (head_of (name_word name)) g (name_leads name owner count) leads)
+    newborn_leads_to_next zero (suc (suc part)) g owner count few leads = absurd (no_lead (suc (suc part)) _ g (head_zero part) leads)
+    newborn_leads_to_next (suc k) zero g owner count few leads = link_leads (suc k) g (ap (pointer_in 0) (sym (newborn_word_is_link k)) ∙ leads)
+    newborn_leads_to_next (suc k) (suc part) g owner count few leads = absurd (no_lead (suc part) _ g (part_zero k part) leads)

@@ -17,10 +17,10 @@ abbrev spine_of : Cell → ℕ
 spine_of c = option_map_or array_words (array_length_in c.kind c) 0
 
 -- a cell's word has none
-pub value_no_spine : (head : Id → ℕ) (value : Value) (stamp : ℕ) → HasRoom head value → stamp < 2 ^ 32 → spine_words_in (value_word head value stamp) ≡ 0
-value_no_spine head values.Nil stamp room small = ap spine_of (cell_of-cell_word kinds.Nil 0 stamp (omega arith) small)
-value_no_spine head (values.Number n) stamp room small = ap spine_of (cell_of-cell_word kinds.Number n stamp room small)
-value_no_spine head (values.Object id) stamp room small = ap spine_of (cell_of-cell_word kinds.Reference (head id) stamp room small)
+pub value_tells_no_spine : (head : Id → ℕ) (value : Value) (stamp : ℕ) → HasRoom head value → stamp < 2 ^ 32 → spine_words_in (value_word head value stamp) ≡ 0
+value_tells_no_spine head values.Nil stamp room small = ap spine_of (cell_of-cell_word kinds.Nil 0 stamp (omega arith) small)
+value_tells_no_spine head (values.Number n) stamp room small = ap spine_of (cell_of-cell_word kinds.Number n stamp room small)
+value_tells_no_spine head (values.Object id) stamp room small = ap spine_of (cell_of-cell_word kinds.Reference (head id) stamp room small)
 
 module _ (fragments : List ℕ) (small : (i : ℕ) → i < length fragments → get_or fragments i 0 < 2 ^ 30) where
   second_small : get_or fragments 1 0 < 2 ^ 32
@@ -41,6 +41,6 @@ module _ (fragments : List ℕ) (small : (i : ℕ) → i < length fragments → 
   ]
 
   -- so no fragment of a newborn record has a spine
-  pub newborn_no_spine : (name : Name) (fields k : ℕ) → fields < 2 ^ 29 → spine_words_in (record_word_of name fields fragments k 0) ≡ 0
-  newborn_no_spine name fields zero few = meta_no_spine fields few
-  newborn_no_spine name fields (suc k) few = let later : eqb (suc k) 0 ≡ false = grind arith in rw later (link_no_spine (suc k))
+  pub newborn_tells_no_spine : (name : Name) (fields k : ℕ) → fields < 2 ^ 29 → spine_words_in (record_word_of name fields fragments k 0) ≡ 0
+  newborn_tells_no_spine name fields zero few = meta_no_spine fields few
+  newborn_tells_no_spine name fields (suc k) few = let later : eqb (suc k) 0 ≡ false = grind arith in rw later (link_no_spine (suc k))

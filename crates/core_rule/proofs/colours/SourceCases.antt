@@ -23,14 +23,14 @@ module _ (heap : Heap) (words : List ℕ) (f : ℕ) where
   ]
 
   -- one of the four words leads as a source where it leads as a word
-  pub word_source : (part : ℕ) → part < 4 → source_pointer heap words f part ≡ pointer_in part (at heap words (Word f part))
-  word_source part below = source_cases (λ o. o ≡ pointer_in part (at heap words (Word f part))) part (λ first. refl) (λ behind. absurd (omega (arith, below, behind)))
+  pub source_is_word_pointer : (part : ℕ) → part < 4 → source_pointer heap words f part ≡ pointer_in part (at heap words (Word f part))
+  source_is_word_pointer part below = source_cases (λ o. o ≡ pointer_in part (at heap words (Word f part))) part (λ first. refl) (λ behind. absurd (omega (arith, below, behind)))
 
-  pub word_leads : (part g : ℕ) → f < 16 * heap.groups → part < 4 → pointer_in part (at heap words (Word f part)) ≡ Some g → WordPointsTo heap words f part g
-  word_leads part g within below to = record { within = within; to = word_source part below ∙ to }
+  pub leads_by_word : (part g : ℕ) → f < 16 * heap.groups → part < 4 → pointer_in part (at heap words (Word f part)) ≡ Some g → WordPointsTo heap words f part g
+  leads_by_word part g within below to = record { within = within; to = source_is_word_pointer part below ∙ to }
 
-  pub lead_of_word : (part g : ℕ) → part < 4 → WordPointsTo heap words f part g → pointer_in part (at heap words (Word f part)) ≡ Some g
-  lead_of_word part g below leads = sym (word_source part below) ∙ leads.to
+  pub word_pointer_of_lead : (part g : ℕ) → part < 4 → WordPointsTo heap words f part g → pointer_in part (at heap words (Word f part)) ≡ Some g
+  word_pointer_of_lead part g below leads = sym (source_is_word_pointer part below) ∙ leads.to
 
   -- what leads is one of the four words, or one of the spine's
   pub lead_cases : (P : Type 0) (source g : ℕ) → (source < 4 → pointer_in source (at heap words (Word f source)) ≡ Some g → P)
@@ -38,26 +38,26 @@ module _ (heap : Heap) (words : List ℕ) (f : ℕ) where
   lead_cases P source g word spine leads = source_cases (λ o. o ≡ Some g → P) source word spine leads.to
 
   -- where there is no spine none of its words leads
-  pub no_spine_leads : TellsNoSpine heap words f → (k g : ℕ) → spine_pointer heap words f k ≢ Some g
-  no_spine_leads none k g to = let nowhere : None ≡ Some g = sym (none_below _ k _ none) ∙ to in absurd (cc nowhere)
+  pub no_spine_word_leads : TellsNoSpine heap words f → (k g : ℕ) → spine_pointer heap words f k ≢ Some g
+  no_spine_word_leads none k g to = let nowhere : None ≡ Some g = sym (none_below _ k _ none) ∙ to in absurd (cc nowhere)
 
   -- so what leads is one of the four words
-  pub word_alone : TellsNoSpine heap words f → (source g : ℕ) → WordPointsTo heap words f source g → source < 4
-  word_alone none source g = lead_cases (source < 4) source g (λ first to. first) (λ behind to. absurd (no_spine_leads none (source - 4) g to))
+  pub source_is_of_word : TellsNoSpine heap words f → (source g : ℕ) → WordPointsTo heap words f source g → source < 4
+  source_is_of_word none source g = lead_cases (source < 4) source g (λ first to. first) (λ behind to. absurd (no_spine_word_leads none (source - 4) g to))
 
   -- a word of the spine leads as a source behind the four words, to the fragment that it names
-  pub spine_source : (k : ℕ) → source_pointer heap words f (4 + k) ≡ spine_pointer heap words f k
-  spine_source k = source_cases (λ o. o ≡ spine_pointer heap words f k) (4 + k) (λ first. absurd (omega (arith, first)))
+  pub source_is_spine_pointer : (k : ℕ) → source_pointer heap words f (4 + k) ≡ spine_pointer heap words f k
+  source_is_spine_pointer k = source_cases (λ o. o ≡ spine_pointer heap words f k) (4 + k) (λ first. absurd (omega (arith, first)))
       (λ behind. let same : 4 + k - 4 ≡ k = omega arith in ap (spine_pointer heap words f) same)
 
-  pub spine_to : (k : ℕ) → k < spine_words_in (at heap words (Word f 0))
+  pub spine_pointer_is_payload : (k : ℕ) → k < spine_words_in (at heap words (Word f 0))
       → spine_pointer heap words f k ≡ Some (payload_in (at heap words (spine_place (spot_in (at heap words (Word f 2))) k)))
-  spine_to k within = rw (lt-ltb k (spine_words_in (at heap words (Word f 0))) within) refl
+  spine_pointer_is_payload k within = rw (lt-ltb k (spine_words_in (at heap words (Word f 0))) within) refl
 
   -- and no other
-  pub spine_cases : (k g : ℕ) → spine_pointer heap words f k ≡ Some g
+  pub spine_lead_is_payload : (k g : ℕ) → spine_pointer heap words f k ≡ Some g
       → (k < spine_words_in (at heap words (Word f 0))) × (g ≡ payload_in (at heap words (spine_place (spot_in (at heap words (Word f 2))) k)))
-  spine_cases k g to = elim (leb_tells (suc k) (spine_words_in (at heap words (Word f 0)))) as (λ _. (k < spine_words_in (at heap words (Word f 0))) × (g ≡ payload_in (at heap words (spine_place (spot_in (at heap words (Word f 2))) k)))) [
-    | inl below ↦ (below.1, let both : Some g ≡ Some (payload_in (at heap words (spine_place (spot_in (at heap words (Word f 2))) k))) = sym to ∙ spine_to k below.1 in cc)
+  spine_lead_is_payload k g to = elim (leb_tells (suc k) (spine_words_in (at heap words (Word f 0)))) as (λ _. (k < spine_words_in (at heap words (Word f 0))) × (g ≡ payload_in (at heap words (spine_place (spot_in (at heap words (Word f 2))) k)))) [
+    | inl below ↦ (below.1, let both : Some g ≡ Some (payload_in (at heap words (spine_place (spot_in (at heap words (Word f 2))) k))) = sym to ∙ spine_pointer_is_payload k below.1 in cc)
     | inr past ↦ absurd (let nowhere : None ≡ Some g = sym (rw past.0 refl) ∙ to in cc nowhere)
   ]

@@ -8,15 +8,15 @@ use Rattle.core_machine.specs.declared.collector.stage.Copying.TheVariants.{Clai
 use Rattle.core_machine.specs.declared.collector.stage.SpineCopy.{SpineCopy}
 use Rattle.core_machine.specs.declared.collector.stage.Stage.TheVariants as stages
 use Rattle.core_machine.specs.declared.table.address.Address.TheVariants.{Spot}
-use Rattle.core_rule.proofs.colours.LeadsFrames.{leads_same, same_ahead}
+use Rattle.core_rule.proofs.colours.LeadsFrames.{led_before_where_same, same_sources_ahead}
 use Rattle.core_rule.proofs.copies.CopyWords.{HasCopy}
-use Rattle.core_rule.proofs.copies.CopyingStages.{IsFree, few_from, leaving, unplaced}
-use Rattle.core_rule.proofs.copies.VisitsOn.{found_from}
-use Rattle.core_rule.proofs.frames.BesideFrames.{LeavesBeside, beside_aside, arrays_stay, heap_beside, seat_beside}
+use Rattle.core_rule.proofs.copies.CopyingStages.{IsFree, copied_array_has_few_words, copying_is_leaving, no_word_is_collectors}
+use Rattle.core_rule.proofs.copies.VisitsOn.{copying_stands_from_stage}
+use Rattle.core_rule.proofs.frames.BesideFrames.{LeavesBeside, leaves_beside_word_aside, arrays_stay, heap_stands_beside, seat_stands_beside}
 use Rattle.core_rule.proofs.lists.SumLemmas.{sum_le}
-use Rattle.core_rule.proofs.budgets.OffsetWithin.{placed_few, copy_within}
-use Rattle.core_rule.proofs.spines.SpineFrames.{spine_words_stay}
-use Rattle.core_rule.proofs.spines.SpotClaims.{claim_cases, claim_has, words_claimed, owner_claimed, same_claimed, leaves_claimed, places_claimed, spines_claimed}
+use Rattle.core_rule.proofs.budgets.OffsetWithin.{placed_within_granted, copied_words_within_kept}
+use Rattle.core_rule.proofs.spines.SpineFrames.{spine_is_stored_by_words}
+use Rattle.core_rule.proofs.spines.SpotClaims.{claim_cases, claimed_is_placed, words_claimed, owner_claimed, same_spines_after_spot_claim, spines_left_after_claim, places_stay_after_claim, spines_stand_after_claim}
 use Rattle.core_rule.proofs.words.Addresses.{at-put_apart}
 
 module _ (heap : Heap) (state : State) (book : Book) (rule : Rule heap state book) (array : ArrayAt) (from : Place) (claiming : state.collector.stage ≡ stages.Copying (Claiming array from)) where
@@ -26,23 +26,23 @@ module _ (heap : Heap) (state : State) (book : Book) (rule : Rule heap state boo
   abbrev spot : Place
   spot = next_spine heap state.words
 
-  pub to_copy : IsToCopy nodes book.made book.owner book.colour book.spines spot.half array from
-  to_copy = found_from heap state book rule (Claiming array from) claiming
+  pub claim_is_to_copy : IsToCopy nodes book.made book.owner book.colour book.spines spot.half array from
+  claim_is_to_copy = copying_stands_from_stage heap state book rule (Claiming array from) claiming
 
   -- the words that are granted have room for it
-  pub copy_fits : spot.offset + array.words ≤ heap.spine
-  copy_fits =
+  pub copy_fits_half : spot.offset + array.words ≤ heap.spine
+  copy_fits_half =
       let budgets = rule.space.budgets in
-      let level = budgets.leaving (leaving heap state book rule (Claiming array from) claiming state.collector.stage) in
+      let level = budgets.leaving (copying_is_leaving heap state book rule (Claiming array from) claiming state.collector.stage) in
       let seats : of_seats heap state (placed_at spot.half) ≤ of_seats heap state granted_at
       = sum_le heap.seats (λ r. placed_at spot.half (seat_at state r) (seat_at state r).place) (λ r. granted_at (seat_at state r) (seat_at state r).place)
-      (λ r below. placed_few spot.half (seat_at state r) (seat_at state r).place) in
-      let kept = copy_within nodes book.spines spot.half heap state.words book.made book.owner book.colour book.fragments rule.heap_stands.control_words array from to_copy in
+      (λ r below. placed_within_granted spot.half (seat_at state r) (seat_at state r).place) in
+      let kept = copied_words_within_kept nodes book.spines spot.half heap state.words book.made book.owner book.colour book.fragments rule.heap_stands.control_words array from claim_is_to_copy in
       let none : copying_words state.collector.stage ≡ 0 = ap copying_words claiming in
       omega (arith, level, seats, kept, none, budgets.low)
 
-  pub few : spot.offset + array.words < 2 ^ 31
-  few = omega (arith, copy_fits, rule.machine.limits.spine_fits)
+  pub claimed_offset_is_small : spot.offset + array.words < 2 ^ 31
+  claimed_offset_is_small = omega (arith, copy_fits_half, rule.machine.limits.spine_fits)
 
   -- the copy that begins
   abbrev pub copy : SpineCopy
@@ -58,33 +58,33 @@ module _ (heap : Heap) (state : State) (book : Book) (rule : Rule heap state boo
   later = record book { spine_owner = owners }
 
   free : IsFree (stages.Copying (Claiming array from))
-  free = record { of_copying = tt; few = few_from heap state book rule (Claiming array from) claiming; none = refl; no_words = refl }
+  free = record { of_copying = tt; few = copied_array_has_few_words heap state book rule (Claiming array from) claiming; none = refl; no_words = refl }
 
   -- its words are the collector's, and no others
-  pub has_claimed : HasCopy heap now owners copy
-  has_claimed = record {
-    placed = claim_has heap.seats spot array.words book.spine_owner;
+  pub has_copy_after_claim : HasCopy heap now owners copy
+  has_copy_after_claim = record {
+    placed = claimed_is_placed heap.seats spot array.words book.spine_owner;
     own = λ half offset j. claim_cases heap.seats spot array.words book.spine_owner (λ o. o ≡ Placed heap.seats j → (j < array.words) × IsWordOf spot half offset j) half offset
         (λ is e. let place : offset - spot.offset ≡ j = cc in (omega (arith, place, is.from, is.upto), record { half_is = is.half_is; offset_is = omega (arith, place, is.from) }))
-        (λ away e. absurd (unplaced heap state book rule (Claiming array from) claiming free half offset j e));
+        (λ away e. absurd (no_word_is_collectors heap state book rule (Claiming array from) claiming free half offset j e));
     copied = λ j less. absurd (omega (arith, less));
   }
 
   beside : LeavesBeside heap state.words now
-  beside = beside_aside heap state.words Spot ((at heap state.words Spot + array.words) % 2 ^ 64) (omega arith) (omega arith)
+  beside = leaves_beside_word_aside heap state.words Spot ((at heap state.words Spot + array.words) % 2 ^ 64) (omega arith) (omega arith)
 
-  pub budget_same : at heap now Budget ≡ at heap state.words Budget
-  budget_same = at-put_apart heap state.words Spot Budget _ (λ e. omega (arith, e))
+  pub budget_same_after_copy_claim : at heap now Budget ≡ at heap state.words Budget
+  budget_same_after_copy_claim = at-put_apart heap state.words Spot Budget _ (λ e. omega (arith, e))
 
   -- the heap stands
-  pub heap_copying : HeapStands heap now later
-  heap_copying = heap_beside heap state book rule now beside (arrays_stay heap state.words now book (same_claimed heap state book heap.seats array.words rule.machine.table)) owners
-      (λ f source x dark leads. leads_same heap state.words now f (same_ahead heap state.words Spot ((at heap state.words Spot + array.words) % 2 ^ 64) (omega arith) f) source x leads)
-      (spines_claimed heap state book heap.seats array.words rule.machine.table rule.space.halves rule.heap_stands.spines few (omega arith))
+  pub heap_stands_after_copy_claim : HeapStands heap now later
+  heap_stands_after_copy_claim = heap_stands_beside heap state book rule now beside (arrays_stay heap state.words now book (same_spines_after_spot_claim heap state book heap.seats array.words rule.machine.table)) owners
+      (λ f source x dark leads. led_before_where_same heap state.words now f (same_sources_ahead heap state.words Spot ((at heap state.words Spot + array.words) % 2 ^ 64) (omega arith) f) source x leads)
+      (spines_stand_after_claim heap state book heap.seats array.words rule.machine.table rule.space.halves rule.heap_stands.spines claimed_offset_is_small (omega arith))
 
   -- and each seat
-  pub seat_copying : (r : ℕ) → r < heap.seats → SeatStands heap now later r (seat_at state r)
-  seat_copying r below = seat_beside heap state book rule now beside (arrays_stay heap state.words now book (same_claimed heap state book heap.seats array.words rule.machine.table)) owners r below
-      (leaves_claimed heap state book heap.seats array.words rule.machine.table rule.space.halves r (λ e. omega (arith, e, below)))
-      (spine_words_stay heap state.words now (seat_at state r) (same_claimed heap state book heap.seats array.words rule.machine.table) (rule.seats_stand r below).own.spine.stored)
-      (places_claimed heap state book heap.seats array.words rule.machine.table rule.space.halves)
+  pub seat_stands_after_copy_claim : (r : ℕ) → r < heap.seats → SeatStands heap now later r (seat_at state r)
+  seat_stands_after_copy_claim r below = seat_stands_beside heap state book rule now beside (arrays_stay heap state.words now book (same_spines_after_spot_claim heap state book heap.seats array.words rule.machine.table)) owners r below
+      (spines_left_after_claim heap state book heap.seats array.words rule.machine.table rule.space.halves r (λ e. omega (arith, e, below)))
+      (spine_is_stored_by_words heap state.words now (seat_at state r) (same_spines_after_spot_claim heap state book heap.seats array.words rule.machine.table) (rule.seats_stand r below).own.spine.stored)
+      (places_stay_after_claim heap state book heap.seats array.words rule.machine.table rule.space.halves)

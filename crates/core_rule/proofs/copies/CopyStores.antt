@@ -13,22 +13,22 @@ use Rattle.core_machine.specs.declared.collector.stage.SpineCopy.{SpineCopy}
 use Rattle.core_machine.specs.declared.collector.stage.Stage.TheVariants as stages
 use Rattle.core_machine.specs.declared.table.address.Address.TheVariants as addresses
 use Rattle.core_machine.proofs.table_lemmas.Addresses.{at-put_same}
-use Rattle.core_rule.proofs.colours.LeadsFrames.{SameSources, leads_same}
+use Rattle.core_rule.proofs.colours.LeadsFrames.{SameSources, led_before_where_same}
 use Rattle.core_rule.proofs.colours.SourceCases.{TellsNoSpine}
-use Rattle.core_rule.proofs.copies.BegunArrays.{begun_there}
-use Rattle.core_rule.proofs.copies.CopyWords.{HasCopy, copy_has}
-use Rattle.core_rule.proofs.copies.CopyingStages.{fits_from, after_marking}
-use Rattle.core_rule.proofs.copies.InspectedWords.{borne_no_length}
-use Rattle.core_rule.proofs.copies.VisitsOn.{found_from}
+use Rattle.core_rule.proofs.copies.BegunArrays.{begun_is_kept_first}
+use Rattle.core_rule.proofs.copies.CopyWords.{HasCopy, copy_stage_has_copy}
+use Rattle.core_rule.proofs.copies.CopyingStages.{fits_copying_from, copying_is_after_marking}
+use Rattle.core_rule.proofs.copies.InspectedWords.{borne_tells_no_array_length}
+use Rattle.core_rule.proofs.copies.VisitsOn.{copying_stands_from_stage}
 use Rattle.core_rule.proofs.entries.AtRest.{seat_fits}
-use Rattle.core_rule.proofs.frames.BesideFrames.{LeavesBeside, beside_spine, ArraysStay, heap_beside, seat_beside}
-use Rattle.core_rule.proofs.marking.KeptSources.{kept_sources}
-use Rattle.core_rule.proofs.objects.SpinePlaces.{place_fits}
-use Rattle.core_rule.proofs.dying.DeadWords.{dead_within}
-use Rattle.core_rule.proofs.budgets.OffsetWithin.{word_inside}
-use Rattle.core_rule.proofs.spines.SpineFrames.{same_kept, same_shapes, spines_at_spot, spines_left, SpineIsStored}
-use Rattle.core_rule.proofs.steps.making.ListingStep.{listed_few}
-use Rattle.core_rule.proofs.words.Addresses.{at-put_apart, spine_other}
+use Rattle.core_rule.proofs.frames.BesideFrames.{LeavesBeside, leaves_beside_spine_word, ArraysStay, heap_stands_beside, seat_stands_beside}
+use Rattle.core_rule.proofs.marking.KeptSources.{same_sources_of_kept}
+use Rattle.core_rule.proofs.objects.SpinePlaces.{owned_place_fits_spot}
+use Rattle.core_rule.proofs.dying.DeadWords.{dead_within_heap}
+use Rattle.core_rule.proofs.budgets.OffsetWithin.{owned_offset_within_table}
+use Rattle.core_rule.proofs.spines.SpineFrames.{same_kept_of_itself, same_shape_of_itself, spines_stand_at_same_spot, spines_left_of_itself, SpineIsStored}
+use Rattle.core_rule.proofs.steps.making.ListingStep.{listed_within_need}
+use Rattle.core_rule.proofs.words.Addresses.{at-put_apart, other_spine_word_stays}
 
 -- a spine word is written that a party has
 module _ (heap : Heap) (words : List ℕ) (spine_owner : ℕ → ℕ → SpineOwner) (party k half offset n : ℕ) (mine : spine_owner half offset ≡ Placed party k)
@@ -41,7 +41,7 @@ module _ (heap : Heap) (words : List ℕ) (spine_owner : ℕ → ℕ → SpineOw
 
   -- another word that is somebody's is as before
   pub others_written : (h o : ℕ) → spine_owner h o ≢ Open → spine_owner h o ≢ Placed party k → at heap written (addresses.Spine h o) ≡ at heap words (addresses.Spine h o)
-  others_written h o some apart = spine_other heap words n half offset h o mine_small (small h o some) (λ a b. apart (ap (λ x. spine_owner x o) a ∙ ap (spine_owner half) b ∙ mine))
+  others_written h o some apart = other_spine_word_stays heap words n half offset h o mine_small (small h o some) (λ a b. apart (ap (λ x. spine_owner x o) a ∙ ap (spine_owner half) b ∙ mine))
 
   -- so are those of arrays, those that arrays have left, and those of other parties
   pub spined_written : (h o i j : ℕ) → spine_owner h o ≡ Spined i j → at heap written (addresses.Spine h o) ≡ at heap words (addresses.Spine h o)
@@ -63,7 +63,7 @@ module _ (heap : Heap) (state : State) (book : Book) (rule : Rule heap state boo
   borne_sources f r inside bears = record {
     parts = λ part below. beside.parts f part inside below;
     spine = λ j less.
-        let none : TellsNoSpine heap state.words f = ap (λ o. option_map_or array_words o 0) (borne_no_length heap state book rule f r bears) in
+        let none : TellsNoSpine heap state.words f = ap (λ o. option_map_or array_words o 0) (borne_tells_no_array_length heap state book rule f r bears) in
         absurd (omega (arith, less, none));
   }
 
@@ -73,8 +73,8 @@ module _ (heap : Heap) (state : State) (book : Book) (rule : Rule heap state boo
       by : (o : Owner) → book.owner f ≡ o → born_bit (book.owner f) ≡ 1 → WordPointsTo heap state.words f source x
       by Free is born = absurd (let none : born_bit (book.owner f) ≡ 0 = ap born_bit is in omega (arith, none, born))
       by (Taken r) is born = absurd (let none : born_bit (book.owner f) ≡ 0 = ap born_bit is in omega (arith, none, born))
-      by (Borne r) is born = leads_same heap state.words now f (borne_sources f r leads.within is) source x leads
-      by (Kept i k) is born = leads_same heap state.words now f (kept_sources heap state book rule now beside.parts arrays f i k is) source x leads
+      by (Borne r) is born = led_before_where_same heap state.words now f (borne_sources f r leads.within is) source x leads
+      by (Kept i k) is born = led_before_where_same heap state.words now f (same_sources_of_kept heap state book rule now beside.parts arrays f i k is) source x leads
       by (Dead i k) is born = absurd (cc (dark, after.dead_white f i k is))
 
 -- the collector's next word is stored
@@ -83,17 +83,17 @@ module _ (heap : Heap) (state : State) (book : Book) (rule : Rule heap state boo
   nodes = node_at (graph_of heap book.history) book.made
 
   fits : FitsStoring heap copy word
-  fits = fits_from heap state book rule (Storing copy word) storing
+  fits = fits_copying_from heap state book rule (Storing copy word) storing
 
-  pub to_copy : IsToCopy nodes book.made book.owner book.colour book.spines (next_spine heap state.words).half copy.array copy.from
-  to_copy = (found_from heap state book rule (Storing copy word) storing).0
+  pub store_is_to_copy : IsToCopy nodes book.made book.owner book.colour book.spines (next_spine heap state.words).half copy.array copy.from
+  store_is_to_copy = (copying_stands_from_stage heap state book rule (Storing copy word) storing).0
 
-  its : (to_copy.found.begins.index < length book.made) × IsKept book.owner book.fragments to_copy.found.begins.index
-      × (0 < length (book.fragments to_copy.found.begins.index)) × (sentinel_at copy.array ≡ fragment_at (book.fragments to_copy.found.begins.index) 0)
-  its = begun_there heap state book rule (sentinel_at copy.array) copy.array.words to_copy.found.begins
+  its : (store_is_to_copy.found.begins.index < length book.made) × IsKept book.owner book.fragments store_is_to_copy.found.begins.index
+      × (0 < length (book.fragments store_is_to_copy.found.begins.index)) × (sentinel_at copy.array ≡ fragment_at (book.fragments store_is_to_copy.found.begins.index) 0)
+  its = begun_is_kept_first heap state book rule (sentinel_at copy.array) copy.array.words store_is_to_copy.found.begins
 
   has : HasCopy heap state.words book.spine_owner copy
-  has = copy_has heap state.words book.spine_owner (stages.Copying (Storing copy word)) copy refl (subst (CopyInHand heap state.words book.spine_owner) storing rule.space.halves.copy)
+  has = copy_stage_has_copy heap state.words book.spine_owner (stages.Copying (Storing copy word)) copy refl (subst (CopyInHand heap state.words book.spine_owner) storing rule.space.halves.copy)
 
   abbrev offset : ℕ
   offset = copy.to.offset + copy.index
@@ -103,43 +103,43 @@ module _ (heap : Heap) (state : State) (book : Book) (rule : Rule heap state boo
   mine = has.placed copy.index fits.more
 
   small : (h o : ℕ) → book.spine_owner h o ≢ Open → h < 2
-  small h o some = (place_fits heap state book rule.machine.limits rule.space.halves h o some).half_within
+  small h o some = (owned_place_fits_spot heap state book rule.machine.limits rule.space.halves h o some).half_within
 
   -- the words after it
   abbrev pub now : List ℕ
   now = put heap state.words (addresses.Spine copy.to.half offset) word
 
   pub beside : LeavesBeside heap state.words now
-  beside = beside_spine heap state.words (addresses.Spine copy.to.half offset) word (omega arith)
+  beside = leaves_beside_spine_word heap state.words (addresses.Spine copy.to.half offset) word (omega arith)
 
   arrays : ArraysStay heap state.words now book
   arrays i j below kept within =
       spined_written heap state.words book.spine_owner heap.seats copy.index copy.to.half offset word mine small (book.spines i).half ((book.spines i).offset + j) i j (rule.heap_stands.spines.kept i j below kept within)
 
-  pub spot_same : at heap now addresses.Spot ≡ at heap state.words addresses.Spot
-  spot_same = at-put_apart heap state.words (addresses.Spine copy.to.half offset) addresses.Spot word (λ e. omega (arith, e))
+  pub spot_same_after_copy_store : at heap now addresses.Spot ≡ at heap state.words addresses.Spot
+  spot_same_after_copy_store = at-put_apart heap state.words (addresses.Spine copy.to.half offset) addresses.Spot word (λ e. omega (arith, e))
 
-  pub budget_same : at heap now addresses.Budget ≡ at heap state.words addresses.Budget
-  budget_same = at-put_apart heap state.words (addresses.Spine copy.to.half offset) addresses.Budget word (λ e. omega (arith, e))
+  pub budget_same_after_copy_store : at heap now addresses.Budget ≡ at heap state.words addresses.Budget
+  budget_same_after_copy_store = at-put_apart heap state.words (addresses.Spine copy.to.half offset) addresses.Budget word (λ e. omega (arith, e))
 
   -- the heap stands
-  pub heap_copied : HeapStands heap now book
-  heap_copied = heap_beside heap state book rule now beside arrays book.spine_owner
-      (black_sources heap state book rule now beside arrays (after_marking heap state book rule (Storing copy word) storing))
-      (spines_at_spot heap state.words now spot_same heap.seats (length book.made) book.spines book.fragments book.spine_owner nodes nodes book.owner book.owner (same_kept book.owner) (same_shapes nodes)
-      (λ f i k is. (is, beside.parts f 0 (dead_within heap state.words book.owner f i k rule.heap_stands.control_words is) (omega arith))) rule.heap_stands.spines)
+  pub heap_stands_after_copy_store : HeapStands heap now book
+  heap_stands_after_copy_store = heap_stands_beside heap state book rule now beside arrays book.spine_owner
+      (black_sources heap state book rule now beside arrays (copying_is_after_marking heap state book rule (Storing copy word) storing))
+      (spines_stand_at_same_spot heap state.words now spot_same_after_copy_store heap.seats (length book.made) book.spines book.fragments book.spine_owner nodes nodes book.owner book.owner (same_kept_of_itself book.owner) (same_shape_of_itself nodes)
+      (λ f i k is. (is, beside.parts f 0 (dead_within_heap heap state.words book.owner f i k rule.heap_stands.control_words is) (omega arith))) rule.heap_stands.spines)
 
   -- each seat has stored what it had
   seat_listed : (r : ℕ) → r < heap.seats → SpineIsStored heap now (seat_at state r)
   seat_listed r below placed j less =
       let seat = seat_at state r in
       let hand = (rule.seats_stand r below).own.spine in
-      let few : seat.listed ≤ spine_need seat = listed_few heap seat seat.place (seat_fits rule r below).at_place placed in
+      let few : seat.listed ≤ spine_need seat = listed_within_need heap seat seat.place (seat_fits rule r below).at_place placed in
       placed_written heap state.words book.spine_owner heap.seats copy.index copy.to.half offset word mine small seat.spine.half (seat.spine.offset + j) r j (λ e. omega (arith, e, below))
       (hand.placed placed j (omega (arith, less, few))) ∙ hand.stored placed j less
 
-  pub seat_copied : (r : ℕ) → r < heap.seats → SeatStands heap now book r (seat_at state r)
-  seat_copied r below = seat_beside heap state book rule now beside arrays book.spine_owner r below (spines_left r book.spine_owner) (seat_listed r below) record {
+  pub seat_stands_after_copy_store : (r : ℕ) → r < heap.seats → SeatStands heap now book r (seat_at state r)
+  seat_stands_after_copy_store r below = seat_stands_beside heap state book rule now beside arrays book.spine_owner r below (spines_left_of_itself r book.spine_owner) (seat_listed r below) record {
     stay = λ i less. refl;
     gone = λ h o is. is;
     as_were = gone_written heap state.words book.spine_owner heap.seats copy.index copy.to.half offset word mine small;
@@ -147,20 +147,20 @@ module _ (heap : Heap) (state : State) (book : Book) (rule : Rule heap state boo
 
   -- the word equals that of the spine
   from_same : (j : ℕ) → j < copy.array.words → at heap now (spine_place copy.from j) ≡ at heap state.words (spine_place copy.from j)
-  from_same j within = subst (λ (p : Spot). at heap now (spine_place p j) ≡ at heap state.words (spine_place p j)) (sym to_copy.own)
-      (arrays to_copy.found.begins.index j its.0 its.1 (subst (λ n. j < n) to_copy.found.begins.as_many within))
+  from_same j within = subst (λ (p : Spot). at heap now (spine_place p j) ≡ at heap state.words (spine_place p j)) (sym store_is_to_copy.own)
+      (arrays store_is_to_copy.found.begins.index j its.0 its.1 (subst (λ n. j < n) store_is_to_copy.found.begins.as_many within))
 
   spine_has : at heap state.words (spine_place copy.from copy.index) ≡ word
-  unfolding to_copy
-  spine_has = ap (λ (p : Spot). at heap state.words (spine_place p copy.index)) to_copy.own
-      ∙ (rule.heap_stands.objects.kept to_copy.found.begins.index its.0 its.1).listed copy.index (subst (λ n. copy.index < n) to_copy.found.begins.as_many fits.more)
-      ∙ sym (found_from heap state book rule (Storing copy word) storing).1
+  unfolding store_is_to_copy
+  spine_has = ap (λ (p : Spot). at heap state.words (spine_place p copy.index)) store_is_to_copy.own
+      ∙ (rule.heap_stands.objects.kept store_is_to_copy.found.begins.index its.0 its.1).listed copy.index (subst (λ n. copy.index < n) store_is_to_copy.found.begins.as_many fits.more)
+      ∙ sym (copying_stands_from_stage heap state book rule (Storing copy word) storing).1
 
   copied_next : (j : ℕ) → j < copy.index + 1 → at heap now (spine_place copy.to j) ≡ at heap now (spine_place copy.from j)
   copied_next j less = elim (cases_eq j copy.index) [
     | inl last ↦ subst (λ k. at heap now (spine_place copy.to k) ≡ at heap now (spine_place copy.from k)) (sym last)
         (at-put_same heap state.words (addresses.Spine copy.to.half offset) word rule.machine.table
-        (small copy.to.half offset (λ none. absurd (cc (mine, none))), word_inside heap state book rule copy.to.half offset (λ none. absurd (cc (mine, none))))
+        (small copy.to.half offset (λ none. absurd (cc (mine, none))), owned_offset_within_table heap state book rule copy.to.half offset (λ none. absurd (cc (mine, none))))
         ∙ sym spine_has ∙ sym (from_same copy.index fits.more))
     | inr before ↦
         let within : j < copy.array.words = omega (arith, less, before, fits.more) in
@@ -172,5 +172,5 @@ module _ (heap : Heap) (state : State) (book : Book) (rule : Rule heap state boo
       place_of : {o : SpineOwner} {j k : ℕ} → o ≡ Placed heap.seats j → o ≡ Placed heap.seats k → j ≡ k
       place_of a b = cc
 
-  pub has_next : HasCopy heap now book.spine_owner (record copy { index = copy.index + 1 })
-  has_next = record { placed = has.placed; own = has.own; copied = copied_next }
+  pub has_copy_after_store : HasCopy heap now book.spine_owner (record copy { index = copy.index + 1 })
+  has_copy_after_store = record { placed = has.placed; own = has.own; copied = copied_next }

@@ -24,9 +24,9 @@ pub record HasCopy (heap : Heap) (words : List ℕ) (spine_owner : ℕ → ℕ �
   pub copied : (j : ℕ) → j < copy.index → at heap words (spine_place copy.to j) ≡ at heap words (spine_place copy.from j)
 
 -- so it is at each stage of a copy
-pub copy_has : (heap : Heap) (words : List ℕ) (spine_owner : ℕ → ℕ → SpineOwner) (stage : Stage) (copy : SpineCopy) → copy_in stage ≡ Some copy → CopyInHand heap words spine_owner stage
+pub copy_stage_has_copy : (heap : Heap) (words : List ℕ) (spine_owner : ℕ → ℕ → SpineOwner) (stage : Stage) (copy : SpineCopy) → copy_in stage ≡ Some copy → CopyInHand heap words spine_owner stage
     → HasCopy heap words spine_owner copy
-copy_has heap words spine_owner stage copy is old = record {
+copy_stage_has_copy heap words spine_owner stage copy is old = record {
   placed = rw is at old.placed;
   own = λ half offset j owned.
       let its = old.own half offset j owned in
@@ -35,19 +35,19 @@ copy_has heap words spine_owner stage copy is old = record {
   copied = rw is at old.copied;
 }
 
-pub has_copy : (heap : Heap) (words : List ℕ) (spine_owner : ℕ → ℕ → SpineOwner) (stage : Stage) (copy : SpineCopy) → copy_in stage ≡ Some copy → HasCopy heap words spine_owner copy
+pub copy_in_hand_of_stage : (heap : Heap) (words : List ℕ) (spine_owner : ℕ → ℕ → SpineOwner) (stage : Stage) (copy : SpineCopy) → copy_in stage ≡ Some copy → HasCopy heap words spine_owner copy
     → CopyInHand heap words spine_owner stage
-has_copy heap words spine_owner stage copy is has = record {
+copy_in_hand_of_stage heap words spine_owner stage copy is has = record {
   placed = rw is has.placed;
   own = λ half offset j owned. let its = has.own half offset j owned in record { copy = copy; progress = is; within = its.0; is = its.1 };
   copied = rw is has.copied;
 }
 
 -- and the collector may come to each, where arrays are in this half or to be visited, and the copy is that of a spine in the other one
-pub copy_leads : (heap : Heap) (state : State) (book : Book) (rule : Rule heap state book) (words : List ℕ) (spine_owner : ℕ → ℕ → SpineOwner) (more : ℕ) (copy : SpineCopy) → copy.array.words ≤ 1024
+pub leads_by_copy : (heap : Heap) (state : State) (book : Book) (rule : Rule heap state book) (words : List ℕ) (spine_owner : ℕ → ℕ → SpineOwner) (more : ℕ) (copy : SpineCopy) → copy.array.words ≤ 1024
     → copy.array.words ≡ copying_words state.collector.stage + more → ArraysOr heap state book rule (IsToVisit copy.array.visit)
     → IsToCopy (node_at (graph_of heap book.history) book.made) book.made book.owner book.colour book.spines (next_spine heap state.words).half copy.array copy.from
     → copy.to.half ≡ (next_spine heap state.words).half → HasCopy heap words spine_owner copy → LeadsBy heap state (record book { spine_owner = spine_owner }) words more (copy_at copy)
-copy_leads heap state book rule words spine_owner more copy few same arrays to_copy here has = copy_cases (LeadsBy heap state (record book { spine_owner = spine_owner }) words more) copy
-    record { of_copying = tt; few = few; as_many = same; arrays = arrays; copies = (to_copy, here); copy = has_copy heap words spine_owner (stages.Copying (Loading copy)) copy refl has }
-    record { of_copying = tt; few = few; as_many = same; arrays = arrays; copies = (to_copy, here); copy = has_copy heap words spine_owner (stages.Copying (Swinging copy)) copy refl has }
+leads_by_copy heap state book rule words spine_owner more copy few same arrays to_copy here has = copy_cases (LeadsBy heap state (record book { spine_owner = spine_owner }) words more) copy
+    record { of_copying = tt; few = few; as_many = same; arrays = arrays; copies = (to_copy, here); copy = copy_in_hand_of_stage heap words spine_owner (stages.Copying (Loading copy)) copy refl has }
+    record { of_copying = tt; few = few; as_many = same; arrays = arrays; copies = (to_copy, here); copy = copy_in_hand_of_stage heap words spine_owner (stages.Copying (Swinging copy)) copy refl has }

@@ -19,13 +19,13 @@ use Rattle.core_machine.specs.declared.place.Making.TheVariants.{Storing}
 use Rattle.core_machine.specs.declared.place.Place.TheVariants as places
 use Rattle.core_machine.proofs.table_lemmas.CellWords.{cell_of-cell_word}
 use Rattle.core_rule.proofs.entries.AtRest.{seat_fits}
-use Rattle.core_rule.proofs.held.BodyWords.{bearing}
-use Rattle.core_rule.proofs.lists.Members.{place_of, place_within}
-use Rattle.core_rule.proofs.lists.Tallies.{one_at_same}
-use Rattle.core_rule.proofs.marking.ObjectEdges.{found_cases, cell_no_meta, small}
-use Rattle.core_rule.proofs.objects.LastBirth.{all_stored}
-use Rattle.core_rule.proofs.owners.Seated.{borne_by_seat}
-use Rattle.core_rule.proofs.ways.KeptWords.{array_length_found, sized_few}
+use Rattle.core_rule.proofs.held.BodyWords.{bearing_has_stored_all}
+use Rattle.core_rule.proofs.lists.Members.{place_of, element_stands_at_place}
+use Rattle.core_rule.proofs.lists.Tallies.{one_at_same_is_one}
+use Rattle.core_rule.proofs.marking.ObjectEdges.{found_cases, cell_is_no_meta, fragment_is_small}
+use Rattle.core_rule.proofs.objects.LastBirth.{all_words_are_stored}
+use Rattle.core_rule.proofs.owners.Seated.{borne_is_in_seat_body}
+use Rattle.core_rule.proofs.ways.KeptWords.{meta_tells_array_length, sized_cells_are_few}
 use Rattle.core_rule.proofs.ways.Told.{array_length_in-record}
 
 -- a word that isn't fixed tells no array's length
@@ -70,7 +70,7 @@ front_held : (owner : ℕ → Owner) (number : ℕ) (reserve hand body born : Li
 front_held owner number reserve [] body born holding some bears = absurd (omega (arith, some))
 front_held owner number reserve (x ∷ hand) body born holding some bears =
     let none : holds_bit number (owner x) ≡ 0 = ap (holds_bit number) bears in
-    omega (arith, holding.held x, none, one_at_same x x refl)
+    omega (arith, holding.held x, none, one_at_same_is_one x x refl)
 
 module _ (heap : Heap) (state : State) (book : Book) (rule : Rule heap state book) (f : ℕ) where
   abbrev word : ℕ
@@ -81,17 +81,17 @@ module _ (heap : Heap) (state : State) (book : Book) (rule : Rule heap state boo
     seat = seat_at state number
 
     there : (number < heap.seats) × (1 ≤ tally f seat.body)
-    there = borne_by_seat heap state book rule number f bears
+    there = borne_is_in_seat_body heap state book rule number f bears
 
     fits : Fits heap seat
     fits = seat_fits rule number there.0
 
     born : HasBody seat × (seat.stored ≡ 4 * length seat.body) × SpineIsListed seat.command seat.spine seat.listed × (IsArrayCall seat.command → HasPlace seat seat.place)
-    born = bearing heap state book rule number f bears seat.place fits.at_place
+    born = bearing_has_stored_all heap state book rule number f bears seat.place fits.at_place
 
     -- while an array has a borne fragment something of it is in the hand
     hand_some : (place : Place) → FitsPlace heap seat place → HasPlace seat place → 0 < length seat.hand
-    hand_some (places.Making Listing) fits has = absurd (omega (arith, fits.0.2.none_stored, born.1, (place_within f seat.body there.1).0))
+    hand_some (places.Making Listing) fits has = absurd (omega (arith, fits.0.2.none_stored, born.1, (element_stands_at_place f seat.body there.1).0))
     hand_some (places.Making Storing) fits has = absurd (omega (arith, fits.2, born.1))
     hand_some (places.Making Bearing) fits has = fits.1
     hand_some _ fits has = absurd has
@@ -101,18 +101,18 @@ module _ (heap : Heap) (state : State) (book : Book) (rule : Rule heap state boo
     behind_first array first =
         let own = (rule.seats_stand number there.0).own in
         let order = own.together.chosen (λ none. absurd (let all : tally f seat.body ≡ 0 = rw none refl in omega (arith, all, there.1))) in
-        let at_first : get_or (seat.hand ++ order.born) 0 0 ≡ f = ap (λ fs. get_or fs 0 0) (sym order.front) ∙ ap (get_or' seat.body) (sym first) ∙ (place_within f seat.body there.1).1 in
+        let at_first : get_or (seat.hand ++ order.born) 0 0 ≡ f = ap (λ fs. get_or fs 0 0) (sym order.front) ∙ ap (get_or' seat.body) (sym first) ∙ (element_stands_at_place f seat.body there.1).1 in
         front_held book.owner number seat.reserve seat.hand seat.body order.born own.holding (hand_some seat.place fits.at_place (born.3 array)) (ap book.owner at_first ∙ bears)
       where
         get_or' : List ℕ → ℕ → ℕ
         get_or' fs k = get_or fs k 0
 
     -- and no borne fragment begins with an array's meta
-    pub borne_no_length : array_length_of word ≡ None
-    borne_no_length =
-        let its = place_within f seat.body there.1 in
+    pub borne_tells_no_array_length : array_length_of word ≡ None
+    borne_tells_no_array_length =
+        let its = element_stands_at_place f seat.body there.1 in
         let found : at heap state.words (Word (fragment_at seat.body (place_of f seat.body)) 0) ≡ newborn_word_of number seat (place_of f seat.body) 0
-        = all_stored heap state.words seat.body (newborn_word_of number seat) seat.stored born.1 (rule.seats_stand number there.0).own.stored (place_of f seat.body) 0 its.0 (omega arith) in
+        = all_words_are_stored heap state.words seat.body (newborn_word_of number seat) seat.stored born.1 (rule.seats_stand number there.0).own.stored (place_of f seat.body) 0 its.0 (omega arith) in
         ap (λ x. array_length_of (at heap state.words (Word x 0))) (sym its.1) ∙ ap array_length_of found
         ∙ newborn_no_length seat.body (λ i below. let inside : get_or seat.body i 0 < 16 * heap.groups = fits.hand.body_within i 0 below in omega (arith, inside, rule.machine.limits.groups_fit))
         seat.command (next_name number seat) seat.spine (place_of f seat.body) born.0.makes.an_object born.0.makes.in_range behind_first
@@ -128,14 +128,14 @@ module _ (heap : Heap) (state : State) (book : Book) (rule : Rule heap state boo
     its = rule.heap_stands.objects.back f i k kept
 
     the_small : (j : ℕ) → j < length (book.fragments i) → get_or (book.fragments i) j 0 < 2 ^ 30
-    the_small = small heap state.words g book.made book.owner book.fragments rule.machine.limits rule.heap_stands.control_words rule.heap_stands.ids rule.heap_stands.objects i its.0 its.1
+    the_small = fragment_is_small heap state.words g book.made book.owner book.fragments rule.machine.limits rule.heap_stands.control_words rule.heap_stands.ids rule.heap_stands.objects i its.0 its.1
 
     few_cells : length object.cells ≤ 4096
-    few_cells = (sized_few object.array (length object.cells) (rule.heap_stands.objects.kept i its.0 its.1).sized).1
+    few_cells = (sized_cells_are_few object.array (length object.cells) (rule.heap_stands.objects.kept i its.0 its.1).sized).1
 
     cell_none : (j : ℕ) → array_length_of (field_word (object_head book.made book.fragments) (slice_get object.cells j)) ≡ None
     cell_none j = no_length (field_word (object_head book.made book.fragments) (slice_get object.cells j))
-        (cell_no_meta heap state.words g book.made book.owner book.fragments rule.machine.limits rule.heap_stands.control_words rule.heap_stands.ids rule.heap_stands.objects i its.0 its.1
+        (cell_is_no_meta heap state.words g book.made book.owner book.fragments rule.machine.limits rule.heap_stands.control_words rule.heap_stands.ids rule.heap_stands.objects i its.0 its.1
         j (slice_get object.cells j) refl)
 
     -- nor does a fragment of a kept object but an array's first
@@ -147,9 +147,9 @@ module _ (heap : Heap) (state : State) (book : Book) (rule : Rule heap state boo
         (λ kind first. absurd (omega (arith, behind kind, first))) (λ kind later. cell_none (4 * (k - 1) + 0))
 
     -- which tells how many cells it has
-    pub first_length : k ≡ 0 → object.array ≡ true → array_length_of word ≡ Some (length object.cells)
-    first_length first kind = ap (λ x. array_length_of (at heap state.words (Word x 0))) (its.3 ∙ ap (fragment_at (book.fragments i)) first)
-        ∙ array_length_found heap state.words g book.made book.owner book.fragments rule.machine.limits rule.heap_stands.control_words rule.heap_stands.ids rule.heap_stands.objects i its.0 its.1
+    pub first_word_tells_length : k ≡ 0 → object.array ≡ true → array_length_of word ≡ Some (length object.cells)
+    first_word_tells_length first kind = ap (λ x. array_length_of (at heap state.words (Word x 0))) (its.3 ∙ ap (fragment_at (book.fragments i)) first)
+        ∙ meta_tells_array_length heap state.words g book.made book.owner book.fragments rule.machine.limits rule.heap_stands.control_words rule.heap_stands.ids rule.heap_stands.objects i its.0 its.1
         ∙ rw kind refl
 
     -- so where a length is told a kept array begins
@@ -158,19 +158,19 @@ module _ (heap : Heap) (state : State) (book : Book) (rule : Rule heap state boo
       where
         by : (n : ℕ) → k ≡ n → (array : Bool) → object.array ≡ array → BeginsArray (node_at g book.made) book.owner f (array_words cells) × (array_words cells ≤ 1024)
         by zero first true kind =
-            let same : cells ≡ length object.cells = cc (told, first_length first kind) in
+            let same : cells ≡ length object.cells = cc (told, first_word_tells_length first kind) in
             (record { index = i; kept = kept ∙ ap (Kept i) first; is_array = kind; as_many = ap array_words same ∙ rw kind refl }, omega (arith, same, few_cells))
         by zero first false kind = absurd (cc (told, kept_no_length (λ array. absurd (cc (kind, array)))))
         by (suc n) later array kind = absurd (cc (told, kept_no_length (λ _. omega (arith, later))))
 
   -- of a marked fragment, once marking has ended
-  pub begins_array : AfterMarking book.owner book.colour → IsMarked book.colour f → (cells : ℕ) → array_length_of word ≡ Some cells
+  pub marked_meta_begins_array : AfterMarking book.owner book.colour → IsMarked book.colour f → (cells : ℕ) → array_length_of word ≡ Some cells
       → BeginsArray (node_at (graph_of heap book.history) book.made) book.owner f (array_words cells) × (array_words cells ≤ 1024)
-  begins_array after marked cells told = by (book.owner f) refl (rule.heap_stands.cycle.coloured.born f marked)
+  marked_meta_begins_array after marked cells told = by (book.owner f) refl (rule.heap_stands.cycle.coloured.born f marked)
     where
       by : (o : Owner) → book.owner f ≡ o → born_bit (book.owner f) ≡ 1 → BeginsArray (node_at (graph_of heap book.history) book.made) book.owner f (array_words cells) × (array_words cells ≤ 1024)
       by Free is born = absurd (let none : born_bit (book.owner f) ≡ 0 = ap born_bit is in omega (arith, none, born))
       by (Taken number) is born = absurd (let none : born_bit (book.owner f) ≡ 0 = ap born_bit is in omega (arith, none, born))
-      by (Borne number) is born = absurd (cc (told, borne_no_length number is))
+      by (Borne number) is born = absurd (cc (told, borne_tells_no_array_length number is))
       by (Kept i k) is born = begins i k is cells told
       by (Dead i k) is born = absurd (marked (after.dead_white f i k is))

@@ -6,10 +6,10 @@ use Rattle.heap_words.specs.declared.name.Name.{Name}
 use Rattle.heap_words.specs.declared.spot.Spot.{Spot}
 use Rattle.core_rule.proofs.Terms.{spot_word, Heap, Id, Graph, Node, spine_words_of, Word, at, put, table_length, spine_place, spine_word, fragment_at, id_at, object_head, Objects}
 use Rattle.core_rule.proofs.Terms.{KeptObject, IsKept, name_of, node_at, array_object_word, object_word, Owner, Kept}
-use Rattle.core_rule.proofs.copies.SwungWords.{swung_spines, spine_here, spine_other}
+use Rattle.core_rule.proofs.copies.SwungWords.{swung_spines, swung_spine_is_copy, other_spine_stays_at_swing}
 use Rattle.core_rule.proofs.graph.SameNodes.{node_cases}
-use Rattle.core_rule.proofs.objects.ObjectWords.{spine_place_at}
-use Rattle.core_rule.proofs.words.Addresses.{word_same, fragment_other, part_other, spines_after_word}
+use Rattle.core_rule.proofs.objects.ObjectWords.{object_word_is_spot}
+use Rattle.core_rule.proofs.words.Addresses.{written_word_is_read, other_fragment_word_stays, other_part_stays, same_spines_after_word}
 
 -- no word of an object but the third of its first fragment tells where its spine stands
 words_but_place : (head : Id → ℕ) (name : Name) (object : Node) (from to : Spot) (fragments : List ℕ) (k part : ℕ) → (k ≡ 0 → part ≢ 2)
@@ -45,7 +45,7 @@ module _ (heap : Heap) (words : List ℕ) (table : length words ≡ table_length
     whole = one.whole;
     owned = one.owned;
     stored = stored;
-    listed = λ j within. spines_after_word heap words (spot_word to) s 2 inside (omega arith) to.half (to.offset + j) ∙ listed j within;
+    listed = λ j within. same_spines_after_word heap words (spot_word to) s 2 inside (omega arith) to.half (to.offset + j) ∙ listed j within;
   }
     where
       apart_from : (k : ℕ) → owner (fragment_at (fragments i) k) ≡ Kept i k → fragment_at (fragments i) k ≡ s → k ≡ 0
@@ -57,16 +57,16 @@ module _ (heap : Heap) (words : List ℕ) (table : length words ≡ table_length
       stored : (k part : ℕ) → k < length (fragments i) → part < 4
           → at heap now (Word (fragment_at (fragments i) k) part) ≡ object_word (object_head made fragments) (name_of (id_at made i)) (node_at g made i) to (fragments i) k part
       stored k part within fits = elim (cases_eq (fragment_at (fragments i) k) s) [
-        | inr other ↦ fragment_other heap words (spot_word to) s 2 (fragment_at (fragments i) k) part (omega arith) fits other ∙ (old.kept i below is).stored k part within fits
+        | inr other ↦ other_fragment_word_stays heap words (spot_word to) s 2 (fragment_at (fragments i) k) part (omega arith) fits other ∙ (old.kept i below is).stored k part within fits
             ∙ sym (words_but_place (object_head made fragments) (name_of (id_at made i)) (node_at g made i) (spines i) to (fragments i) k part
             (λ zero. absurd (other (ap (fragment_at (fragments i)) zero ∙ sym first))))
         | inl same ↦ elim (cases_eq part 2) [
-          | inr other ↦ part_other heap words (spot_word to) s 2 (fragment_at (fragments i) k) part other same ∙ (old.kept i below is).stored k part within fits
+          | inr other ↦ other_part_stays heap words (spot_word to) s 2 (fragment_at (fragments i) k) part other same ∙ (old.kept i below is).stored k part within fits
               ∙ sym (words_but_place (object_head made fragments) (name_of (id_at made i)) (node_at g made i) (spines i) to (fragments i) k part (λ zero. other))
           | inl third ↦
               let zero : k ≡ 0 = apart_from k ((old.kept i below is).owned k within) same in
-              ap (at heap now) (cc (same, third)) ∙ word_same heap words (spot_word to) s 2 table inside (omega arith)
-              ∙ sym (spine_place_at (object_head made fragments) (name_of (id_at made i)) to (fragments i) (node_at g made i) kind)
+              ap (at heap now) (cc (same, third)) ∙ written_word_is_read heap words (spot_word to) s 2 table inside (omega arith)
+              ∙ sym (object_word_is_spot (object_head made fragments) (name_of (id_at made i)) to (fragments i) (node_at g made i) kind)
               ∙ sym (cc (zero, third))
         ]
       ]
@@ -77,9 +77,9 @@ module _ (heap : Heap) (words : List ℕ) (table : length words ≡ table_length
     sized = one.sized;
     whole = one.whole;
     owned = one.owned;
-    stored = λ k part within fits. fragment_other heap words (spot_word to) s 2 (fragment_at (fragments j) k) part (omega arith) fits (λ same. apart (object_of k same (one.owned k within)))
+    stored = λ k part within fits. other_fragment_word_stays heap words (spot_word to) s 2 (fragment_at (fragments j) k) part (omega arith) fits (λ same. apart (object_of k same (one.owned k within)))
         ∙ one.stored k part within fits;
-    listed = λ k within. spines_after_word heap words (spot_word to) s 2 inside (omega arith) (spines j).half ((spines j).offset + k) ∙ one.listed k within;
+    listed = λ k within. same_spines_after_word heap words (spot_word to) s 2 inside (omega arith) (spines j).half ((spines j).offset + k) ∙ one.listed k within;
   }
     where
       object_of : (k : ℕ) → fragment_at (fragments j) k ≡ s → owner (fragment_at (fragments j) k) ≡ Kept j k → j ≡ i
@@ -88,11 +88,11 @@ module _ (heap : Heap) (words : List ℕ) (table : length words ≡ table_length
           number_of : owner s ≡ Kept j k → owner s ≡ Kept i 0 → j ≡ i
           number_of a b = cc
 
-  pub objects_swung : Objects heap now g made owner fragments places
-  objects_swung = record {
+  pub objects_with_moved_spine : Objects heap now g made owner fragments places
+  objects_with_moved_spine = record {
     kept = λ j below is. elim (cases_eq j i) as (λ _. KeptNow j (places j)) [
-      | inl same ↦ subst (λ n. KeptNow n (places n)) (sym same) (subst (KeptNow i) (sym (spine_here i to spines)) (array_swung (subst (λ n. n < length made) same below) (subst (IsKept owner fragments) same is)))
-      | inr other ↦ subst (KeptNow j) (sym (spine_other i to spines j other)) (other_swung j other below is)
+      | inl same ↦ subst (λ n. KeptNow n (places n)) (sym same) (subst (KeptNow i) (sym (swung_spine_is_copy i to spines)) (array_swung (subst (λ n. n < length made) same below) (subst (IsKept owner fragments) same is)))
+      | inr other ↦ subst (KeptNow j) (sym (other_spine_stays_at_swing i to spines j other)) (other_swung j other below is)
     ];
     named = old.named;
     back = old.back;

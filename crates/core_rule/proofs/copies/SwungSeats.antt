@@ -11,23 +11,23 @@ use Rattle.core_machine.specs.declared.collector.stage.SpineCopy.{SpineCopy}
 use Rattle.core_machine.specs.declared.collector.stage.Stage.TheVariants as stages
 use Rattle.core_machine.specs.declared.place.Place.TheVariants as places
 use Rattle.core_machine.specs.declared.table.address.Address.TheVariants.{Answer, Phase}
-use Rattle.core_rule.proofs.colours.MarkWords.{marks_same}
-use Rattle.core_rule.proofs.copies.CopyingStages.{in_copying}
-use Rattle.core_rule.proofs.copies.SwungBook.{to_copy, i, s, its, inside, listed, leads_back, now, entry, book_swung, graph_swung, objects_stand, spines_stand}
-use Rattle.core_rule.proofs.copies.SwungWords.{word_left, spine_other, placed_stays, placed_was, swung_word}
-use Rattle.core_rule.proofs.cycle.CycleFrames.{coloured_stays, cycle_watched}
-use Rattle.core_rule.proofs.cycle.CycleHistory.{heap_cycle_more, cycle_other}
-use Rattle.core_rule.proofs.entries.AtRest.{seat_fits, in_flight}
-use Rattle.core_rule.proofs.entries.InFlight.{stored_within}
-use Rattle.core_rule.proofs.entries.Others.{gathers_stay}
-use Rattle.core_rule.proofs.frames.SeatFrames.{same_party, told_other, kept_owners, seat_left}
-use Rattle.core_rule.proofs.hand.HandMoves.{same_hand}
-use Rattle.core_rule.proofs.hand.StoredFrames.{stored_store}
-use Rattle.core_rule.proofs.owners.OwnerLemmas.{own_keeps_none}
-use Rattle.core_rule.proofs.spines.SpineFrames.{SpinesLeft, same_kept, spine_words_stay}
-use Rattle.core_rule.proofs.words.Addresses.{at-put_apart, control_after_word, spines_after_word, SameSpines}
-use Rattle.core_rule.proofs.words.ControlLemmas.{bits_same}
-use Rattle.core_rule.proofs.ways.LoadedPlaces.{loaded_goes}
+use Rattle.core_rule.proofs.colours.MarkWords.{marks_where_controls_same}
+use Rattle.core_rule.proofs.copies.CopyingStages.{phase_is_copying}
+use Rattle.core_rule.proofs.copies.SwungBook.{swung_is_to_copy, i, s, swung_array_is_kept, swung_first_within_heap, swung_spine_names_payload, led_before_swing, now, entry, book_swung, graph_same_after_swing, objects_after_swing, spines_stand_after_swing}
+use Rattle.core_rule.proofs.copies.SwungWords.{left_word_is_gone, other_spine_stays_at_swing, placed_word_stays_at_swing, placed_before_swing, swung_word}
+use Rattle.core_rule.proofs.cycle.CycleFrames.{coloured_stays, seat_in_cycle_where_watched}
+use Rattle.core_rule.proofs.cycle.CycleHistory.{heap_in_cycle_after_entry, seat_in_cycle_after_other}
+use Rattle.core_rule.proofs.entries.AtRest.{seat_fits, in_flight_has_not_left}
+use Rattle.core_rule.proofs.entries.InFlight.{stored_within_body}
+use Rattle.core_rule.proofs.entries.Others.{gathers_right_after_entry}
+use Rattle.core_rule.proofs.frames.SeatFrames.{same_party_of_same_graph, seat_told_same_after_other, kept_stays_with_owners, seat_stands_where_left_alone}
+use Rattle.core_rule.proofs.hand.HandMoves.{same_hand_of_itself}
+use Rattle.core_rule.proofs.hand.StoredFrames.{is_stored_after_store}
+use Rattle.core_rule.proofs.owners.OwnerLemmas.{own_is_not_kept}
+use Rattle.core_rule.proofs.spines.SpineFrames.{SpinesLeft, same_kept_of_itself, spine_is_stored_by_words}
+use Rattle.core_rule.proofs.words.Addresses.{at-put_apart, control_same_after_word, same_spines_after_word, SameSpines}
+use Rattle.core_rule.proofs.words.ControlLemmas.{bits_where_controls_same}
+use Rattle.core_rule.proofs.ways.LoadedPlaces.{while_loaded_goes_on}
 
 module _ (heap : Heap) (state : State) (book : Book) (rule : Rule heap state book) (copy : SpineCopy) (swinging : state.collector.stage ≡ stages.Copying (Swinging copy)) where
   abbrev words : List ℕ
@@ -47,10 +47,10 @@ module _ (heap : Heap) (state : State) (book : Book) (rule : Rule heap state boo
 
   -- no control word, answer or spine word changes, nor the phase
   same_spines : SameSpines heap state.words words
-  same_spines = spines_after_word heap state.words (spot_word copy.to) f 2 (inside heap state book rule copy swinging) (omega arith)
+  same_spines = same_spines_after_word heap state.words (spot_word copy.to) f 2 (swung_first_within_heap heap state book rule copy swinging) (omega arith)
 
   controls : (group : ℕ) → group < heap.groups → at heap words (Control group) ≡ at heap state.words (Control group)
-  controls group below = control_after_word heap state.words (spot_word copy.to) f 2 group below
+  controls group below = control_same_after_word heap state.words (spot_word copy.to) f 2 group below
 
   answers : (r : ℕ) → r < heap.seats → at heap words (Answer r) ≡ at heap state.words (Answer r)
   answers r below = at-put_apart heap state.words (Word f 2) (Answer r) (spot_word copy.to) (λ e. omega (arith, e, below, rule.machine.limits.seats_fit))
@@ -59,28 +59,28 @@ module _ (heap : Heap) (state : State) (book : Book) (rule : Rule heap state boo
   cycle_swung : HeapInCycle heap words (phase book.history) book.owner book.colour book.fragments
   cycle_swung = let old = rule.heap_stands.cycle in record {
     word = at-put_apart heap state.words (Word f 2) Phase (spot_word copy.to) (λ e. omega (arith, e)) ∙ old.word;
-    marks = marks_same heap state.words words book.colour controls old.marks;
+    marks = marks_where_controls_same heap state.words words book.colour controls old.marks;
     coloured = coloured_stays heap state.words words book.owner book.owner book.colour book.fragments (phase book.history)
-        (λ making x source y born leads. inl (leads_back heap state book rule copy swinging x source y leads)) (λ x marked born. born) (λ x j k keeps. keeps) old.coloured;
+        (λ making x source y born leads. inl (led_before_swing heap state book rule copy swinging x source y leads)) (λ x marked born. born) (λ x j k keeps. keeps) old.coloured;
   }
 
-  pub heap_swung : IsLegal heap false later.history → HeapStands heap words later
-  heap_swung legal = let stands = rule.heap_stands in let graph = graph_swung heap state book rule copy swinging in record {
-    control_words = bits_same heap state.words words book.owner controls stands.control_words;
+  pub heap_stands_after_swing : IsLegal heap false later.history → HeapStands heap words later
+  heap_stands_after_swing legal = let stands = rule.heap_stands in let graph = graph_same_after_swing heap state book rule copy swinging in record {
+    control_words = bits_where_controls_same heap state.words words book.owner controls stands.control_words;
     owners = stands.owners;
     ids = rw graph stands.ids;
-    objects = rw graph (objects_stand heap state book rule copy swinging);
-    spines = rw graph (spines_stand heap state book rule copy swinging);
+    objects = rw graph (objects_after_swing heap state book rule copy swinging);
+    spines = rw graph (spines_stand_after_swing heap state book rule copy swinging);
     used = rw (total-more (λ e. e.given) book.history told, total-more (λ e. e.freed) book.history told, total-more (λ e. e.taken) book.history told) (omega (arith, stands.used));
-    cycle = heap_cycle_more heap words book.owner book.colour book.history told refl book.fragments cycle_swung;
+    cycle = heap_in_cycle_after_entry heap words book.owner book.colour book.history told refl book.fragments cycle_swung;
     legal = legal;
   }
 
   -- what a party has it had
   pub parties_left : (r : ℕ) → r < heap.seats → SpinesLeft r book.spine_owner later.spine_owner
   parties_left r below = record {
-    stays = λ half offset k is. placed_stays heap.seats n (book.spine_owner half offset) r k (λ e. omega (arith, e, below)) is;
-    own = λ half offset k is. (placed_was heap.seats n (book.spine_owner half offset) r k is).0;
+    stays = λ half offset k is. placed_word_stays_at_swing heap.seats n (book.spine_owner half offset) r k (λ e. omega (arith, e, below)) is;
+    own = λ half offset k is. (placed_before_swing heap.seats n (book.spine_owner half offset) r k is).0;
   }
 
   module _ (r : ℕ) (below : r < heap.seats) where
@@ -91,8 +91,8 @@ module _ (heap : Heap) (state : State) (book : Book) (rule : Rule heap state boo
     is_late : seat.place ≢ places.Idle → IsBetween 3 4 seat.answered
     is_late busy =
         let agrees = (rule.seats_stand r below).cycle.answers_told in
-        let fourth : phase book.history % cycle_phases ≡ copying_phase = ap (λ p. p % cycle_phases) (sym rule.collector_stands.phase_told) ∙ in_copying heap state book rule (Swinging copy) swinging in
-        elim (agrees.near (in_flight rule r below busy)) [
+        let fourth : phase book.history % cycle_phases ≡ copying_phase = ap (λ p. p % cycle_phases) (sym rule.collector_stands.phase_told) ∙ phase_is_copying heap state book rule (Swinging copy) swinging in
+        elim (agrees.near (in_flight_has_not_left rule r below busy)) [
           | inl same ↦ record { from = omega (arith, same, fourth); upto = omega (arith, same, fourth) }
           | inr behind ↦ record { from = omega (arith, behind, fourth); upto = omega (arith, behind, fourth) }
         ]
@@ -112,9 +112,9 @@ module _ (heap : Heap) (state : State) (book : Book) (rule : Rule heap state boo
     place_left : seat.place ≢ places.Idle → seat.address ≡ book.spines n → IsReplica n seat.address
     place_left busy there = subst (IsReplica n) (sym there) record {
       late = is_late busy;
-      left = λ k less. word_left heap.seats n (book.spine_owner (book.spines n).half ((book.spines n).offset + k)) k
-          (rule.heap_stands.spines.kept n k (its heap state book rule copy swinging).0 (its heap state book rule copy swinging).1 less);
-      listed = λ k less. same_spines (book.spines n).half ((book.spines n).offset + k) ∙ listed heap state book rule copy swinging k less;
+      left = λ k less. left_word_is_gone heap.seats n (book.spine_owner (book.spines n).half ((book.spines n).offset + k)) k
+          (rule.heap_stands.spines.kept n k (swung_array_is_kept heap state book rule copy swinging).0 (swung_array_is_kept heap state book rule copy swinging).1 less);
+      listed = λ k less. same_spines (book.spines n).half ((book.spines n).offset + k) ∙ swung_spine_names_payload heap state book rule copy swinging k less;
     }
 
     abbrev AddressAt : Place → Type 0
@@ -122,35 +122,35 @@ module _ (heap : Heap) (state : State) (book : Book) (rule : Rule heap state boo
 
     address_swung : (place : Place) → seat.place ≡ place
         → AddressStands heap state.words (node_at (graph_of heap book.history) book.made) book.owner book.fragments book.spines book.spine_owner seat place → AddressAt place
-    address_swung place is = loaded_goes place (λ has reads j f calls kept an_array. elim (reads j f calls kept an_array) as (λ _. (seat.address ≡ later.spines j) ⊎ IsReplica j seat.address) [
+    address_swung place is = while_loaded_goes_on place (λ has reads j f calls kept an_array. elim (reads j f calls kept an_array) as (λ _. (seat.address ≡ later.spines j) ⊎ IsReplica j seat.address) [
       | inr replica ↦ inr (replica_stays j replica)
       | inl there ↦ elim (cases_eq j n) as (λ _. (seat.address ≡ later.spines j) ⊎ IsReplica j seat.address) [
         | inl same ↦ inr (subst (λ m. IsReplica m seat.address) (sym same) (place_left (λ idle. subst HasLoaded (sym is ∙ idle) has) (there ∙ ap book.spines same)))
-        | inr other ↦ inl (there ∙ sym (spine_other n copy.to book.spines j other))
+        | inr other ↦ inl (there ∙ sym (other_spine_stays_at_swing n copy.to book.spines j other))
       ]
     ])
 
     cycle_seat : SeatInCycle heap words (phase book.history) (last_answer r book.history) (has_left r book.history) book.owner book.colour r seat
-    cycle_seat = cycle_watched heap state.words words book.owner book.owner book.colour book.colour (phase book.history) (last_answer r book.history) (has_left r book.history) r seat
-        (answers r below) (λ x marked. marked) (λ x borne. (borne, refl)) (λ making reaching is watching x leads. inl (leads_back heap state book rule copy swinging seat.reached seat.part x leads))
+    cycle_seat = seat_in_cycle_where_watched heap state.words words book.owner book.owner book.colour book.colour (phase book.history) (last_answer r book.history) (has_left r book.history) r seat
+        (answers r below) (λ x marked. marked) (λ x borne. (borne, refl)) (λ making reaching is watching x leads. inl (led_before_swing heap state book rule copy swinging seat.reached seat.part x leads))
         (rule.seats_stand r below).cycle
 
     -- and each seat stands
-    pub seat_swung : SeatStands heap state.words book r seat → SeatStands heap words later r seat
-    seat_swung stands =
+    pub seat_stands_after_swing : SeatStands heap state.words book r seat → SeatStands heap words later r seat
+    seat_stands_after_swing stands =
         let fits = seat_fits rule r below in
-        let graph = graph_swung heap state book rule copy swinging in
-        seat_left heap state.words words book later r seat record {
+        let graph = graph_same_after_swing heap state book rule copy swinging in
+        seat_stands_where_left_alone heap state.words words book later r seat record {
           calls = refl;
-          party = same_party (graph_of heap book.history) (graph_of heap later.history) r (ap (λ (g : Graph). graph_seat g r) graph);
-          told = told_other r book.history told refl;
-          kept = rw graph (kept_owners (graph_of heap book.history) book.made book.owner book.owner book.fragments (same_kept book.owner));
-          hand = same_hand r book.owner;
-          stored = stored_store heap state.words book.owner r seat f 2 (spot_word copy.to) stands.own.holding (stored_within heap seat seat.place fits.at_place) (omega arith)
-              (λ own. own_keeps_none r n 0 (book.owner f) own (to_copy heap state book rule copy swinging).found.begins.kept) stands.own.stored;
+          party = same_party_of_same_graph (graph_of heap book.history) (graph_of heap later.history) r (ap (λ (g : Graph). graph_seat g r) graph);
+          told = seat_told_same_after_other r book.history told refl;
+          kept = rw graph (kept_stays_with_owners (graph_of heap book.history) book.made book.owner book.owner book.fragments (same_kept_of_itself book.owner));
+          hand = same_hand_of_itself r book.owner;
+          stored = is_stored_after_store heap state.words book.owner r seat f 2 (spot_word copy.to) stands.own.holding (stored_within_body heap seat seat.place fits.at_place) (omega arith)
+              (λ own. own_is_not_kept r n 0 (book.owner f) own (swung_is_to_copy heap state book rule copy swinging).found.begins.kept) stands.own.stored;
           spines = parties_left r below;
-          spine_stored = spine_words_stay heap state.words words seat same_spines stands.own.spine.stored;
+          spine_stored = spine_is_stored_by_words heap state.words words seat same_spines stands.own.spine.stored;
           address = rw graph (address_swung seat.place refl stands.names.address);
-          gathers = gathers_stay heap book.owner r book.history (book.begun r) told seat.cursor seat.tried seat.given stands.told.began.earlier stands.told.gathers;
-          cycle = cycle_other heap words book.owner book.colour book.history told refl r seat cycle_seat refl;
+          gathers = gathers_right_after_entry heap book.owner r book.history (book.begun r) told seat.cursor seat.tried seat.given stands.told.began.earlier stands.told.gathers;
+          cycle = seat_in_cycle_after_other heap words book.owner book.colour book.history told refl r seat cycle_seat refl;
         } stands

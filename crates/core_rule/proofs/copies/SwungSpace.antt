@@ -15,18 +15,18 @@ use Rattle.core_machine.specs.declared.collector.stage.Copying.TheVariants.{Swin
 use Rattle.core_machine.specs.declared.collector.stage.SpineCopy.{SpineCopy}
 use Rattle.core_machine.specs.declared.collector.stage.Stage.TheVariants as stages
 use Rattle.core_machine.specs.declared.collector.stage.Visit.{Visit}
-use Rattle.core_machine.proofs.table_lemmas.Free.{sum_but_one}
-use Rattle.core_rule.proofs.copies.BegunArrays.{begun_alone}
-use Rattle.core_rule.proofs.copies.CopyingStages.{IsFree, in_copying, leaving, half_next, half_copying, none_returned, none_counted, seen_free}
-use Rattle.core_rule.proofs.copies.SwungBook.{to_copy, copy_here, i, s, its, inside, now, places, entry, book_swung, graph_swung, spot_same}
-use Rattle.core_rule.proofs.copies.SwungWords.{swung_word, spine_here, spine_other, placed_was}
-use Rattle.core_rule.proofs.copies.Visits.{awaits_on, to_visit_on}
-use Rattle.core_rule.proofs.copies.VisitsOn.{arrays_from, copies_seen}
-use Rattle.core_rule.proofs.entries.ToldSpines.{still_returned}
-use Rattle.core_rule.proofs.budgets.BudgetFrames.{none_granted_by, none_returned_by}
-use Rattle.core_rule.proofs.dying.DeadWords.{none_behind}
-use Rattle.core_rule.proofs.halves.Leaving.{copy_away}
-use Rattle.core_rule.proofs.ways.KeptWords.{kept_within}
+use Rattle.core_machine.proofs.table_lemmas.Free.{sum_but_one_number}
+use Rattle.core_rule.proofs.copies.BegunArrays.{begun_by_one_object}
+use Rattle.core_rule.proofs.copies.CopyingStages.{IsFree, phase_is_copying, copying_is_leaving, next_spine_in_next_half, copying_half_is_next, copying_returns_none, sweep_counts_while_copying, seen_stage_is_free}
+use Rattle.core_rule.proofs.copies.SwungBook.{swung_is_to_copy, copy_in_next_half, i, s, swung_array_is_kept, swung_first_within_heap, now, places, entry, book_swung, graph_same_after_swing, spot_same_after_swing}
+use Rattle.core_rule.proofs.copies.SwungWords.{swung_word, swung_spine_is_copy, other_spine_stays_at_swing, placed_before_swing}
+use Rattle.core_rule.proofs.copies.Visits.{awaits_copy_after_seen, to_visit_at_next_place}
+use Rattle.core_rule.proofs.copies.VisitsOn.{arrays_await_visit, copying_stands_after_seen}
+use Rattle.core_rule.proofs.entries.ToldSpines.{returned_in_cycle_stays}
+use Rattle.core_rule.proofs.budgets.BudgetFrames.{granted_words_stay, returned_words_stay}
+use Rattle.core_rule.proofs.dying.DeadWords.{no_words_behind_first}
+use Rattle.core_rule.proofs.halves.Leaving.{copy_in_hand_where_none}
+use Rattle.core_rule.proofs.ways.KeptWords.{owned_within_heap}
 use Rattle.core_rule.proofs.words.Addresses.{at-put_apart}
 
 -- a number counts where two halves are the same, and there alone
@@ -86,21 +86,21 @@ module _ (heap : Heap) (state : State) (book : Book) (rule : Rule heap state boo
   turned log = record state { words = words; collector = collector_swung log }
 
   there : copy.to.half ≡ half
-  there = copy_here heap state book rule copy swinging
+  there = copy_in_next_half heap state book rule copy swinging
 
   its_place : spines n ≡ copy.to
-  its_place = spine_here n copy.to book.spines
+  its_place = swung_spine_is_copy n copy.to book.spines
 
   -- the fragment of the array counts in this half
   weight_here : kept_weight (words_in_half half nodes spines) (book.owner f) ≡ copy.array.words
   weight_here =
-      let kept = (to_copy heap state book rule copy swinging).found.begins.kept in
+      let kept = (swung_is_to_copy heap state book rule copy swinging).found.begins.kept in
       let same : (spines n).half ≡ half = ap (λ (p : Spot). p.half) its_place ∙ there in
-      ap (kept_weight (words_in_half half nodes spines)) kept ∙ counted (spines n).half half (spine_words_of (nodes n)) same ∙ sym (to_copy heap state book rule copy swinging).found.begins.as_many
+      ap (kept_weight (words_in_half half nodes spines)) kept ∙ counted (spines n).half half (spine_words_of (nodes n)) same ∙ sym (swung_is_to_copy heap state book rule copy swinging).found.begins.as_many
 
   weight_was : kept_weight (words_in_half half nodes book.spines) (book.owner f) ≡ 0
   weight_was =
-      let copies = to_copy heap state book rule copy swinging in
+      let copies = swung_is_to_copy heap state book rule copy swinging in
       let away : (book.spines n).half ≢ half = λ same. copies.left (ap (λ (p : Spot). p.half) copies.own ∙ same) in
       ap (kept_weight (words_in_half half nodes book.spines)) copies.found.begins.kept ∙ uncounted (book.spines n).half half (spine_words_of (nodes n)) away
 
@@ -110,49 +110,49 @@ module _ (heap : Heap) (state : State) (book : Book) (rule : Rule heap state boo
     where
       by : (o : Owner) → book.owner x ≡ o → kept_weight (words_in_half half nodes spines) o ≡ kept_weight (words_in_half half nodes book.spines) o
       by (Kept j zero) is = ap (λ (p : Spot). if p.half == half then spine_words_of (nodes j) else 0)
-          (spine_other n copy.to book.spines j (λ same. apart ((rule.heap_stands.objects.back x j 0 is).3 ∙ ap (λ m. fragment_at (book.fragments m) 0) same ∙ sym (its heap state book rule copy swinging).3)))
-      by (Kept j (suc k)) is = none_behind (suc k) (words_in_half half nodes spines j) (omega arith) ∙ sym (none_behind (suc k) (words_in_half half nodes book.spines j) (omega arith))
+          (other_spine_stays_at_swing n copy.to book.spines j (λ same. apart ((rule.heap_stands.objects.back x j 0 is).3 ∙ ap (λ m. fragment_at (book.fragments m) 0) same ∙ sym (swung_array_is_kept heap state book rule copy swinging).3)))
+      by (Kept j (suc k)) is = no_words_behind_first (suc k) (words_in_half half nodes spines j) (omega arith) ∙ sym (no_words_behind_first (suc k) (words_in_half half nodes book.spines j) (omega arith))
       by _ is = refl
 
   -- so as much is placed there
   placed_swung : kept_sum heap (words_in_half half nodes spines) book.owner ≡ kept_sum heap (words_in_half half nodes book.spines) book.owner + copy.array.words
   placed_swung =
-      let but = sum_but_one (16 * heap.groups) (λ x. kept_weight (words_in_half half nodes spines) (book.owner x)) (λ x. kept_weight (words_in_half half nodes book.spines) (book.owner x)) f
-      (inside heap state book rule copy swinging) (λ x below other. weight_else x other) in
+      let but = sum_but_one_number (16 * heap.groups) (λ x. kept_weight (words_in_half half nodes spines) (book.owner x)) (λ x. kept_weight (words_in_half half nodes book.spines) (book.owner x)) f
+      (swung_first_within_heap heap state book rule copy swinging) (λ x below other. weight_else x other) in
       omega (arith, but, weight_here, weight_was)
 
   -- the objects are as before
   nodes_same : nodes_in heap later ≡ nodes
-  nodes_same = ap (λ (g : Graph). node_at g book.made) (graph_swung heap state book rule copy swinging)
+  nodes_same = ap (λ (g : Graph). node_at g book.made) (graph_same_after_swing heap state book rule copy swinging)
 
-  pub free : IsFree stage
-  free = seen_free heap state.collector.phase visit.group visit.marked (next_place_of visit.marked (visit.place + 1))
+  pub swung_stage_is_free : IsFree stage
+  swung_stage_is_free = seen_stage_is_free heap state.collector.phase visit.group visit.marked (next_place_of visit.marked (visit.place + 1))
 
   -- the granted words stand
   pub budgets_swung : (log : List Entry) → BudgetsStand heap (turned log) later
   budgets_swung log =
       let old = rule.space.budgets in
       let told = entry heap state book rule copy swinging in
-      let none : returning stage ≡ returning state.collector.stage = none_returned stage free.of_copying ∙ ap returning (sym swinging) in
+      let none : returning stage ≡ returning state.collector.stage = copying_returns_none stage swung_stage_is_free.of_copying ∙ ap returning (sym swinging) in
       let was : copying_words state.collector.stage ≡ copy.array.words = ap copying_words swinging in
       let budget : at heap words Budget ≡ at heap state.words Budget = at-put_apart heap state.words (Word f 2) Budget _ (λ e. omega (arith, e)) in
-      let granted = none_granted_by book.history told refl in
-      let given = none_returned_by book.history told refl in
-      let in_cycle = still_returned book.history told refl refl in
+      let granted = granted_words_stay book.history told refl in
+      let given = returned_words_stay book.history told refl in
+      let in_cycle = returned_in_cycle_stays book.history told refl refl in
       let kept : kept_sum heap (words_of_object (nodes_in heap later)) book.owner ≡ kept_sum heap (words_of_object nodes) book.owner = ap (λ ns. kept_sum heap (words_of_object ns) book.owner) nodes_same in
       let dead : dead_sum heap (words_of_object (nodes_in heap later)) book.owner ≡ dead_sum heap (words_of_object nodes) book.owner = ap (λ ns. dead_sum heap (words_of_object ns) book.owner) nodes_same in
       let here : kept_sum heap (words_in_half half (nodes_in heap later) spines) book.owner ≡ kept_sum heap (words_in_half half nodes spines) book.owner
       = ap (λ ns. kept_sum heap (words_in_half half ns spines) book.owner) nodes_same in
       record {
-        level = λ goes. absurd (goes (leaving heap state book rule (Swinging copy) swinging stage));
-        leaving = λ _. rw (spot_same heap state book rule copy swinging)
-            (omega (arith, old.leaving (leaving heap state book rule (Swinging copy) swinging state.collector.stage), here, placed_swung, free.no_words, was));
+        level = λ goes. absurd (goes (copying_is_leaving heap state book rule (Swinging copy) swinging stage));
+        leaving = λ _. rw (spot_same_after_swing heap state book rule copy swinging)
+            (omega (arith, old.leaving (copying_is_leaving heap state book rule (Swinging copy) swinging state.collector.stage), here, placed_swung, swung_stage_is_free.no_words, was));
         word = omega (arith, budget, old.word, none, kept, dead);
         told = omega (arith, old.told, none, granted, given, kept, dead);
         low = omega (arith, old.low, none, kept, dead);
         returned = omega (arith, old.returned, none, in_cycle, dead);
         early = λ between. in_cycle ∙ old.early between;
-        counts = none_counted _ book.owner stage free.of_copying;
+        counts = sweep_counts_while_copying _ book.owner stage swung_stage_is_free.of_copying;
       }
 
   -- each array has its spine in this half, or is to be visited
@@ -160,12 +160,12 @@ module _ (heap : Heap) (state : State) (book : Book) (rule : Rule heap state boo
       → ((spines j).half ≡ half) ⊎ AwaitsCopy state.collector.phase stage (fragment_at (book.fragments j) 0)
   arrays_swung j below kept an_array = elim (cases_eq j n) [
     | inl same ↦ inl (ap (λ m. (spines m).half) same ∙ ap (λ (p : Spot). p.half) its_place ∙ there)
-    | inr other ↦ elim (arrays_from heap state book rule (Swinging copy) swinging j below kept an_array) [
-      | inl here ↦ inl (ap (λ (p : Spot). p.half) (spine_other n copy.to book.spines j other) ∙ here)
+    | inr other ↦ elim (arrays_await_visit heap state book rule (Swinging copy) swinging j below kept an_array) [
+      | inl here ↦ inl (ap (λ (p : Spot). p.half) (other_spine_stays_at_swing n copy.to book.spines j other) ∙ here)
       | inr to ↦
           let head : ℕ = fragment_at (book.fragments j) 0 in
-          inr (awaits_on heap state.collector.phase visit.group visit.marked (visit.place + 1) head (kept_within heap state.words book.owner head j 0 rule.heap_stands.control_words kept)
-          (to_visit_on visit head (λ same. other (begun_alone heap state book rule f copy.array.words (to_copy heap state book rule copy swinging).found.begins j same kept)) to))
+          inr (awaits_copy_after_seen heap state.collector.phase visit.group visit.marked (visit.place + 1) head (owned_within_heap heap state.words book.owner head j 0 rule.heap_stands.control_words kept)
+          (to_visit_at_next_place visit head (λ same. other (begun_by_one_object heap state book rule f copy.array.words (swung_is_to_copy heap state book rule copy swinging).found.begins j same kept)) to))
     ]
   ]
 
@@ -173,37 +173,37 @@ module _ (heap : Heap) (state : State) (book : Book) (rule : Rule heap state boo
   halves_have : (j : ℕ) → j < length book.made → IsKept book.owner book.fragments j → HasSwung (id_at book.made j) later.history → (spines j).half ≡ half
   halves_have j below kept swung = elim (cases_eq j n) [
     | inl same ↦ ap (λ m. (spines m).half) same ∙ ap (λ (p : Spot). p.half) its_place ∙ there
-    | inr other ↦ ap (λ (p : Spot). p.half) (spine_other n copy.to book.spines j other)
-        ∙ rule.space.halves.swung (in_copying heap state book rule (Swinging copy) swinging) j below kept (other_swung book.history (id_at book.made j) copy.array.id (λ same. other (one_number same)) swung)
+    | inr other ↦ ap (λ (p : Spot). p.half) (other_spine_stays_at_swing n copy.to book.spines j other)
+        ∙ rule.space.halves.swung (phase_is_copying heap state book rule (Swinging copy) swinging) j below kept (other_swung book.history (id_at book.made j) copy.array.id (λ same. other (one_number same)) swung)
   ]
     where
       one_number : copy.array.id ≡ id_at book.made j → j ≡ n
       one_number same =
-          sym (rule.heap_stands.ids.distinct j below) ∙ ap (object_number book.made) (sym same ∙ (to_copy heap state book rule copy swinging).found.named)
-          ∙ rule.heap_stands.ids.distinct n (its heap state book rule copy swinging).0
+          sym (rule.heap_stands.ids.distinct j below) ∙ ap (object_number book.made) (sym same ∙ (swung_is_to_copy heap state book rule copy swinging).found.named)
+          ∙ rule.heap_stands.ids.distinct n (swung_array_is_kept heap state book rule copy swinging).0
 
   pub halves_swung : (log : List Entry) → HalvesStand heap (turned log) later
   halves_swung log =
       let old = rule.space.halves in
-      let graph = graph_swung heap state book rule copy swinging in
-      let next = spot_same heap state book rule copy swinging in
-      let fourth = in_copying heap state book rule (Swinging copy) swinging in
+      let graph = graph_same_after_swing heap state book rule copy swinging in
+      let next = spot_same_after_swing heap state book rule copy swinging in
+      let fourth = phase_is_copying heap state book rule (Swinging copy) swinging in
       record {
-        half = rw next (half_next heap state book rule (Swinging copy) swinging ∙ sym (half_copying state.collector.phase stage fourth));
+        half = rw next (next_spine_in_next_half heap state book rule (Swinging copy) swinging ∙ sym (copying_half_is_next state.collector.phase stage fourth));
         before = rw next (λ h offset some. elim (old.before h offset (λ none. some (ap (swung_word heap.seats n) none))) [
           | inl here ↦ inl here
-          | inr behind ↦ inr record { leaving = leaving heap state book rule (Swinging copy) swinging stage; a_half = behind.a_half; other = behind.other; before = behind.before }
+          | inr behind ↦ inr record { leaving = copying_is_leaving heap state book rule (Swinging copy) swinging stage; a_half = behind.a_half; other = behind.other; before = behind.before }
         ]);
         arrays = rw (graph, next) arrays_swung;
         hands = rw next (λ r below has. elim (old.hands r below has) [
           | inl here ↦ inl here
-          | inr early ↦ inr record { leaving = leaving heap state book rule (Swinging copy) swinging stage; behind = early.behind }
+          | inr early ↦ inr record { leaving = copying_is_leaving heap state book rule (Swinging copy) swinging stage; behind = early.behind }
         ]);
         swung = rw next (λ copies j below kept swung. halves_have j below kept swung);
-        copies = rw (graph, next) (copies_seen heap nodes book.made book.owner book.colour book.fragments spines half state.collector.phase visit (to_copy heap state book rule copy swinging).found.marked
+        copies = rw (graph, next) (copying_stands_after_seen heap nodes book.made book.owner book.colour book.fragments spines half state.collector.phase visit (swung_is_to_copy heap state book rule copy swinging).found.marked
             (next_place_of visit.marked (visit.place + 1)));
-        copy = copy_away heap words later.spine_owner stage free.none (λ h offset j is. (placed_was heap.seats n (book.spine_owner h offset) heap.seats j is).1 refl);
+        copy = copy_in_hand_where_none heap words later.spine_owner stage swung_stage_is_free.none (λ h offset j is. (placed_before_swing heap.seats n (book.spine_owner h offset) heap.seats j is).1 refl);
       }
 
-  pub space_swung : (log : List Entry) → SpaceStands heap (turned log) later
-  space_swung log = record { budgets = budgets_swung log; halves = halves_swung log }
+  pub space_stands_after_swing : (log : List Entry) → SpaceStands heap (turned log) later
+  space_stands_after_swing log = record { budgets = budgets_swung log; halves = halves_swung log }

@@ -9,14 +9,14 @@ use Rattle.core_rule.proofs.Terms.{SpineOwner, Placed, Spined, Gone}
 abbrev pub swung_spines : ℕ → Spot → (ℕ → Spot) → ℕ → Spot
 swung_spines i to spines j = if j == i then to else spines j
 
-pub spine_here : (i : ℕ) (to : Spot) (spines : ℕ → Spot) → swung_spines i to spines i ≡ to
-spine_here i to spines = elim (eqb_tells i i) as (λ _. swung_spines i to spines i ≡ to) [
+pub swung_spine_is_copy : (i : ℕ) (to : Spot) (spines : ℕ → Spot) → swung_spines i to spines i ≡ to
+swung_spine_is_copy i to spines = elim (eqb_tells i i) as (λ _. swung_spines i to spines i ≡ to) [
   | inl same ↦ rw same.0 refl
   | inr other ↦ absurd (other.1 refl)
 ]
 
-pub spine_other : (i : ℕ) (to : Spot) (spines : ℕ → Spot) (j : ℕ) → j ≢ i → swung_spines i to spines j ≡ spines j
-spine_other i to spines j apart = elim (eqb_tells j i) as (λ _. swung_spines i to spines j ≡ spines j) [
+pub other_spine_stays_at_swing : (i : ℕ) (to : Spot) (spines : ℕ → Spot) (j : ℕ) → j ≢ i → swung_spines i to spines j ≡ spines j
+other_spine_stays_at_swing i to spines j apart = elim (eqb_tells j i) as (λ _. swung_spines i to spines j ≡ spines j) [
   | inl same ↦ absurd (apart same.1)
   | inr other ↦ rw other.0 refl
 ]
@@ -41,36 +41,36 @@ module _ (seats i : ℕ) where
   ]
 
   -- the array's words are gone
-  pub word_left : (o : SpineOwner) (k : ℕ) → o ≡ Spined i k → swung_word seats i o ≡ Gone
-  word_left o k is = ap (swung_word seats i) is ∙ by_array (λ n. n ≡ Gone) i k (λ same. refl) (λ apart. absurd (apart refl))
+  pub left_word_is_gone : (o : SpineOwner) (k : ℕ) → o ≡ Spined i k → swung_word seats i o ≡ Gone
+  left_word_is_gone o k is = ap (swung_word seats i) is ∙ by_array (λ n. n ≡ Gone) i k (λ same. refl) (λ apart. absurd (apart refl))
 
   -- those of the copy are its
-  pub word_own : (o : SpineOwner) (k : ℕ) → o ≡ Placed seats k → swung_word seats i o ≡ Spined i k
-  word_own o k is = ap (swung_word seats i) is ∙ by_party (λ n. n ≡ Spined i k) seats k (λ same. refl) (λ apart. absurd (apart refl))
+  pub copied_word_is_spined : (o : SpineOwner) (k : ℕ) → o ≡ Placed seats k → swung_word seats i o ≡ Spined i k
+  copied_word_is_spined o k is = ap (swung_word seats i) is ∙ by_party (λ n. n ≡ Spined i k) seats k (λ same. refl) (λ apart. absurd (apart refl))
 
   -- the other parties and arrays have what they had
-  pub placed_stays : (o : SpineOwner) (r k : ℕ) → r ≢ seats → o ≡ Placed r k → swung_word seats i o ≡ Placed r k
-  placed_stays o r k other is = ap (swung_word seats i) is ∙ by_party (λ n. n ≡ Placed r k) r k (λ same. absurd (other same)) (λ apart. refl)
+  pub placed_word_stays_at_swing : (o : SpineOwner) (r k : ℕ) → r ≢ seats → o ≡ Placed r k → swung_word seats i o ≡ Placed r k
+  placed_word_stays_at_swing o r k other is = ap (swung_word seats i) is ∙ by_party (λ n. n ≡ Placed r k) r k (λ same. absurd (other same)) (λ apart. refl)
 
-  pub spined_stays : (o : SpineOwner) (j k : ℕ) → j ≢ i → o ≡ Spined j k → swung_word seats i o ≡ Spined j k
-  spined_stays o j k other is = ap (swung_word seats i) is ∙ by_array (λ n. n ≡ Spined j k) j k (λ same. absurd (other same)) (λ apart. refl)
+  pub spined_word_stays_at_swing : (o : SpineOwner) (j k : ℕ) → j ≢ i → o ≡ Spined j k → swung_word seats i o ≡ Spined j k
+  spined_word_stays_at_swing o j k other is = ap (swung_word seats i) is ∙ by_array (λ n. n ≡ Spined j k) j k (λ same. absurd (other same)) (λ apart. refl)
 
   -- and nothing else
-  pub placed_was : (o : SpineOwner) (r k : ℕ) → swung_word seats i o ≡ Placed r k → (o ≡ Placed r k) × (r ≢ seats)
-  placed_was (Placed party j) r k = by_party (λ n. n ≡ Placed r k → (Placed party j ≡ Placed r k) × (r ≢ seats)) party j (λ same e. absurd (cc e))
+  pub placed_before_swing : (o : SpineOwner) (r k : ℕ) → swung_word seats i o ≡ Placed r k → (o ≡ Placed r k) × (r ≢ seats)
+  placed_before_swing (Placed party j) r k = by_party (λ n. n ≡ Placed r k → (Placed party j ≡ Placed r k) × (r ≢ seats)) party j (λ same e. absurd (cc e))
       (λ apart e. (e, λ same. apart (party_of e ∙ same)))
     where
       party_of : Placed party j ≡ Placed r k → party ≡ r
       party_of e = cc
-  placed_was (Spined j m) r k = by_array (λ n. n ≡ Placed r k → (Spined j m ≡ Placed r k) × (r ≢ seats)) j m (λ same e. absurd (cc e)) (λ apart e. absurd (cc e))
-  placed_was _ r k = λ e. absurd (cc e)
+  placed_before_swing (Spined j m) r k = by_array (λ n. n ≡ Placed r k → (Spined j m ≡ Placed r k) × (r ≢ seats)) j m (λ same e. absurd (cc e)) (λ apart e. absurd (cc e))
+  placed_before_swing _ r k = λ e. absurd (cc e)
 
-  pub spined_was : (o : SpineOwner) (j k : ℕ) → swung_word seats i o ≡ Spined j k → ((j ≡ i) × (o ≡ Placed seats k)) ⊎ ((j ≢ i) × (o ≡ Spined j k))
-  spined_was (Placed party m) j k = by_party (λ n. n ≡ Spined j k → ((j ≡ i) × (Placed party m ≡ Placed seats k)) ⊎ ((j ≢ i) × (Placed party m ≡ Spined j k))) party m
+  pub spined_before_swing : (o : SpineOwner) (j k : ℕ) → swung_word seats i o ≡ Spined j k → ((j ≡ i) × (o ≡ Placed seats k)) ⊎ ((j ≢ i) × (o ≡ Spined j k))
+  spined_before_swing (Placed party m) j k = by_party (λ n. n ≡ Spined j k → ((j ≡ i) × (Placed party m ≡ Placed seats k)) ⊎ ((j ≢ i) × (Placed party m ≡ Spined j k))) party m
       (λ same e. inl (cc, cc)) (λ apart e. absurd (cc e))
-  spined_was (Spined n m) j k = by_array (λ x. x ≡ Spined j k → ((j ≡ i) × (Spined n m ≡ Placed seats k)) ⊎ ((j ≢ i) × (Spined n m ≡ Spined j k))) n m
+  spined_before_swing (Spined n m) j k = by_array (λ x. x ≡ Spined j k → ((j ≡ i) × (Spined n m ≡ Placed seats k)) ⊎ ((j ≢ i) × (Spined n m ≡ Spined j k))) n m
       (λ same e. absurd (cc e)) (λ apart e. inr ((λ same. apart (array_of e ∙ same)), e))
     where
       array_of : Spined n m ≡ Spined j k → n ≡ j
       array_of e = cc
-  spined_was _ j k = λ e. absurd (cc e)
+  spined_before_swing _ j k = λ e. absurd (cc e)

@@ -8,9 +8,9 @@ use Rattle.core_machine.specs.collector.CopyingTurns.{visited}
 use Rattle.core_machine.specs.declared.collector.stage.Copying.TheVariants as copying
 use Rattle.core_machine.specs.declared.collector.stage.Stage.TheVariants as stages
 use Rattle.core_machine.specs.declared.collector.stage.Visit.{Visit}
-use Rattle.core_machine.proofs.table_lemmas.DeadBits.{place_none}
-use Rattle.core_rule.proofs.colours.MarkWords.{found_marked}
-use Rattle.core_rule.proofs.words.MarkedPlaces.{marked_tells, marked_within, next_first}
+use Rattle.core_machine.proofs.table_lemmas.DeadBits.{no_place_no_bit}
+use Rattle.core_rule.proofs.colours.MarkWords.{word_has_marked_bit}
+use Rattle.core_rule.proofs.words.MarkedPlaces.{marked_bit_is_words_bit, marked_place_within_group, none_marked_before_next}
 
 -- what is marked has its bit, and only that
 marked_one : (c : Colour) → c ≢ White → marked_bit c ≡ 1
@@ -28,16 +28,16 @@ module _ (heap : Heap) (words : List ℕ) (colour : ℕ → Colour) (group : ℕ
   bits = marked_bits_of (at heap words (Control group))
 
   bit_told : (f : ℕ) → f / 16 ≡ group → bit_at bits (taken_at f) ≡ marked_bit (colour f)
-  bit_told f here = marked_tells (at heap words (Control group)) (f % 16) (omega arith) ∙ found_marked heap words colour colour group 0 whole below marks f here
+  bit_told f here = marked_bit_is_words_bit (at heap words (Control group)) (f % 16) (omega arith) ∙ word_has_marked_bit heap words colour colour group 0 whole below marks f here
 
   -- so each marked fragment of the group has its bit
-  pub has_bit : (f : ℕ) → f / 16 ≡ group → IsMarked colour f → bit_at bits (taken_at f) ≡ 1
-  has_bit f here marked = bit_told f here ∙ marked_one (colour f) marked
+  pub marked_has_visit_bit : (f : ℕ) → f / 16 ≡ group → IsMarked colour f → bit_at bits (taken_at f) ≡ 1
+  marked_has_visit_bit f here marked = bit_told f here ∙ marked_one (colour f) marked
 
   -- and each bit is one's
-  pub are_marked : (place : ℕ) → VisitIsMarked colour (record { group = group; marked = bits; place = place })
-  are_marked first place one =
-      let within : place < 16 = marked_within (at heap words (Control group)) place one in
+  pub visit_bits_are_marked : (place : ℕ) → VisitIsMarked colour (record { group = group; marked = bits; place = place })
+  visit_bits_are_marked first place one =
+      let within : place < 16 = marked_place_within_group (at heap words (Control group)) place one in
       let rest : (16 * group + place) % 16 ≡ place = omega (arith, within) in
       one_marked (colour (16 * group + place)) (sym (bit_told (16 * group + place) (omega (arith, within))) ∙ ap (bit_at bits) rest ∙ one)
 
@@ -61,26 +61,26 @@ module _ (heap : Heap) (phase group : ℕ) where
     seen_cases P on end next (Some place) = next place
 
     -- what was yet to be visited from a place on is so where the visit goes on
-    pub awaits_on : (from f : ℕ) → f < 16 * heap.groups → IsToVisit (record { group = group; marked = marked; place = from }) f → AwaitsCopy phase (after_seen heap group marked (next_place_of marked from)) f
-    awaits_on from f below (inl later) = seen_later (next_place_of marked from)
+    pub awaits_copy_after_seen : (from f : ℕ) → f < 16 * heap.groups → IsToVisit (record { group = group; marked = marked; place = from }) f → AwaitsCopy phase (after_seen heap group marked (next_place_of marked from)) f
+    awaits_copy_after_seen from f below (inl later) = seen_later (next_place_of marked from)
       where
         seen_later : (o : Option ℕ) → AwaitsCopy phase (after_seen heap group marked o) f
         seen_later None = later_awaits f below later
         seen_later (Some place) = inl later
-    awaits_on from f below (inr here) = seen_here (next_place_of marked from) refl
+    awaits_copy_after_seen from f below (inr here) = seen_here (next_place_of marked from) refl
       where
         seen_here : (o : Option ℕ) → next_place_of marked from ≡ o → AwaitsCopy phase (after_seen heap group marked o) f
-        seen_here None none = absurd (omega (arith, place_none marked from (f % 16) none here.1 (omega arith), here.2))
+        seen_here None none = absurd (omega (arith, no_place_no_bit marked from (f % 16) none here.1 (omega arith), here.2))
         seen_here (Some place) is = inr (
           here.0,
           (elim (leb_tells place (f % 16)) as (λ _. place ≤ f % 16) [
             | inl from_ ↦ from_.1
-            | inr before ↦ absurd (omega (arith, next_first marked from place (f % 16) is here.1 (omega (arith, before.1)), here.2))
+            | inr before ↦ absurd (omega (arith, none_marked_before_next marked from place (f % 16) is here.1 (omega (arith, before.1)), here.2))
           ]),
           here.2,
         )
 
 -- what is yet to be visited and isn't where the visit stands is so from the next place on
-pub to_visit_on : (visit : Visit) (f : ℕ) → f ≢ visited visit → IsToVisit visit f → IsToVisit (record visit { place = visit.place + 1 }) f
-to_visit_on visit f other (inl later) = inl later
-to_visit_on visit f other (inr here) = inr (here.0, omega (arith, here.0, here.1, λ (same : f % 16 ≡ visit.place). other (omega (arith, here.0, same))), here.2)
+pub to_visit_at_next_place : (visit : Visit) (f : ℕ) → f ≢ visited visit → IsToVisit visit f → IsToVisit (record visit { place = visit.place + 1 }) f
+to_visit_at_next_place visit f other (inl later) = inl later
+to_visit_at_next_place visit f other (inr here) = inr (here.0, omega (arith, here.0, here.1, λ (same : f % 16 ≡ visit.place). other (omega (arith, here.0, same))), here.2)

@@ -9,20 +9,20 @@ use Rattle.core_machine.specs.collector.CopyingTurns.{visited}
 use Rattle.core_machine.specs.declared.collector.stage.Copying.{Copying}
 use Rattle.core_machine.specs.declared.collector.stage.Stage.TheVariants as stages
 use Rattle.core_machine.specs.declared.collector.stage.Visit.{Visit}
-use Rattle.core_rule.proofs.copies.CopyingStages.{IsFree, LeadsTo, leads_free, seen_free}
-use Rattle.core_rule.proofs.copies.Visits.{seen_cases, awaits_on, to_visit_on}
-use Rattle.core_rule.proofs.ways.KeptWords.{kept_within}
+use Rattle.core_rule.proofs.copies.CopyingStages.{IsFree, LeadsTo, leads_to_stage_without_copy, seen_stage_is_free}
+use Rattle.core_rule.proofs.copies.Visits.{seen_cases, awaits_copy_after_seen, to_visit_at_next_place}
+use Rattle.core_rule.proofs.ways.KeptWords.{owned_within_heap}
 
 -- once marking has ended what is kept is marked
-pub kept_marked : (owner : ℕ → Owner) (colour : ℕ → Colour) → AfterMarking owner colour → (f i k : ℕ) → owner f ≡ Kept i k → IsMarked colour f
-kept_marked owner colour after f i k kept white =
+pub kept_is_marked : (owner : ℕ → Owner) (colour : ℕ → Colour) → AfterMarking owner colour → (f i k : ℕ) → owner f ≡ Kept i k → IsMarked colour f
+kept_is_marked owner colour after f i k kept white =
     let dead = after.white_dead f record { unmarked = white; born = ap born_bit kept } in
     cc (kept, dead.2)
 
 -- copying has found what it is to have where a visit goes on
-pub copies_seen : (heap : Heap) (nodes : ℕ → Node) (made : List Id) (owner : ℕ → Owner) (colour : ℕ → Colour) (fragments : ℕ → List ℕ) (spines : ℕ → Spot) (half phase : ℕ) (visit : Visit)
+pub copying_stands_after_seen : (heap : Heap) (nodes : ℕ → Node) (made : List Id) (owner : ℕ → Owner) (colour : ℕ → Colour) (fragments : ℕ → List ℕ) (spines : ℕ → Spot) (half phase : ℕ) (visit : Visit)
     → VisitIsMarked colour visit → (o : Option ℕ) → WhileCopying (CopyingStands nodes made owner colour fragments spines half) (after_seen heap visit.group visit.marked o)
-copies_seen heap nodes made owner colour fragments spines half phase visit marked =
+copying_stands_after_seen heap nodes made owner colour fragments spines half phase visit marked =
     seen_cases heap phase visit.group visit.marked (WhileCopying (CopyingStands nodes made owner colour fragments spines half)) (λ more. tt) (λ last. tt) (λ place. marked)
 
 module _ (heap : Heap) (state : State) (book : Book) (rule : Rule heap state book) where
@@ -38,37 +38,37 @@ module _ (heap : Heap) (state : State) (book : Book) (rule : Rule heap state boo
   pub arrays_seen : (visit : Visit) → ArraysOr (IsToVisit visit) → ArraysOr (AwaitsCopy state.collector.phase (after_seen heap visit.group visit.marked (next_place_of visit.marked visit.place)))
   arrays_seen visit arrays i below kept an_array = elim (arrays i below kept an_array) [
     | inl here ↦ inl here
-    | inr to ↦ inr (awaits_on heap state.collector.phase visit.group visit.marked visit.place (head i) (kept_within heap state.words book.owner (head i) i 0 rule.heap_stands.control_words kept) to)
+    | inr to ↦ inr (awaits_copy_after_seen heap state.collector.phase visit.group visit.marked visit.place (head i) (owned_within_heap heap state.words book.owner (head i) i 0 rule.heap_stands.control_words kept) to)
   ]
 
   -- of those that were to be visited at a place on from the next one, where the array that begins there stands in this half already
-  pub arrays_behind : (visit : Visit)
+  pub arrays_to_visit_behind : (visit : Visit)
       → ((i : ℕ) → i < length book.made → head i ≡ visited visit → IsKept book.owner book.fragments i → (node_at (graph_of heap book.history) book.made i).array ≡ true
       → (book.spines i).half ≡ (next_spine heap state.words).half)
       → ArraysOr (IsToVisit visit) → ArraysOr (IsToVisit (record visit { place = visit.place + 1 }))
-  arrays_behind visit here arrays i below kept an_array = elim (arrays i below kept an_array) [
+  arrays_to_visit_behind visit here arrays i below kept an_array = elim (arrays i below kept an_array) [
     | inl there ↦ inl there
     | inr to ↦ elim (cases_eq (head i) (visited visit)) [
       | inl same ↦ inl (here i below same kept an_array)
-      | inr other ↦ inr (to_visit_on visit (head i) other to)
+      | inr other ↦ inr (to_visit_at_next_place visit (head i) other to)
     ]
   ]
 
   module _ (from : Copying) (was : state.collector.stage ≡ stages.Copying from) where
     -- what copying has found where it stands
-    pub found_from : CopyingStands (node_at (graph_of heap book.history) book.made) book.made book.owner book.colour book.fragments book.spines (next_spine heap state.words).half from
-    found_from = subst (WhileCopying (CopyingStands (node_at (graph_of heap book.history) book.made) book.made book.owner book.colour book.fragments book.spines (next_spine heap state.words).half)) was
+    pub copying_stands_from_stage : CopyingStands (node_at (graph_of heap book.history) book.made) book.made book.owner book.colour book.fragments book.spines (next_spine heap state.words).half from
+    copying_stands_from_stage = subst (WhileCopying (CopyingStands (node_at (graph_of heap book.history) book.made) book.made book.owner book.colour book.fragments book.spines (next_spine heap state.words).half)) was
         rule.space.halves.copies
 
     -- and which arrays it is to visit yet
-    pub arrays_from : ArraysOr (AwaitsVisit from)
-    arrays_from = λ i below kept an_array. subst (λ stage. ((book.spines i).half ≡ (next_spine heap state.words).half) ⊎ AwaitsCopy state.collector.phase stage (head i)) was
+    pub arrays_await_visit : ArraysOr (AwaitsVisit from)
+    arrays_await_visit = λ i below kept an_array. subst (λ stage. ((book.spines i).half ≡ (next_spine heap state.words).half) ⊎ AwaitsCopy state.collector.phase stage (head i)) was
         (rule.space.halves.arrays i below kept an_array)
 
     -- so the collector may go on there
-    pub leads_seen : IsFree (stages.Copying from) → (visit : Visit) → VisitIsMarked book.colour visit → ArraysOr (IsToVisit visit)
+    pub leads_to_seen_stage : IsFree (stages.Copying from) → (visit : Visit) → VisitIsMarked book.colour visit → ArraysOr (IsToVisit visit)
         → LeadsTo heap state book (after_seen heap visit.group visit.marked (next_place_of visit.marked visit.place))
-    leads_seen free visit marked arrays = leads_free heap state book rule from was free (after_seen heap visit.group visit.marked (next_place_of visit.marked visit.place))
-        (seen_free heap state.collector.phase visit.group visit.marked (next_place_of visit.marked visit.place)) (arrays_seen visit arrays)
-        (copies_seen heap (node_at (graph_of heap book.history) book.made) book.made book.owner book.colour book.fragments book.spines (next_spine heap state.words).half state.collector.phase visit marked
+    leads_to_seen_stage free visit marked arrays = leads_to_stage_without_copy heap state book rule from was free (after_seen heap visit.group visit.marked (next_place_of visit.marked visit.place))
+        (seen_stage_is_free heap state.collector.phase visit.group visit.marked (next_place_of visit.marked visit.place)) (arrays_seen visit arrays)
+        (copying_stands_after_seen heap (node_at (graph_of heap book.history) book.made) book.made book.owner book.colour book.fragments book.spines (next_spine heap state.words).half state.collector.phase visit marked
         (next_place_of visit.marked visit.place))

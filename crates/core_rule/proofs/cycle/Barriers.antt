@@ -14,30 +14,30 @@ is_inside low high n above below = grind (arith, nat_tests, above, below)
 
 module _ (seat : Seat) where
   -- a set's barrier is on from the answer to a cycle's phase of barriers on, up to that to its sweep
-  pub barrier_window : has_barrier_of seat ≡ true → IsBetween barriers sweep seat.answered
-  barrier_window on = let both = inside 0 6 (seat.answered % cycle_phases) on in record { from = omega (arith, both.0); upto = omega (arith, both.1) }
+  pub barrier_is_between : has_barrier_of seat ≡ true → IsBetween barriers sweep seat.answered
+  barrier_is_between on = let both = inside 0 6 (seat.answered % cycle_phases) on in record { from = omega (arith, both.0); upto = omega (arith, both.1) }
 
-  pub window_barrier : IsBetween barriers sweep seat.answered → has_barrier_of seat ≡ true
-  window_barrier between = is_inside 0 6 (seat.answered % cycle_phases) (omega (arith, between.from)) (omega (arith, between.upto))
+  pub between_has_barrier : IsBetween barriers sweep seat.answered → has_barrier_of seat ≡ true
+  between_has_barrier between = is_inside 0 6 (seat.answered % cycle_phases) (omega (arith, between.from)) (omega (arith, between.upto))
 
   -- births are black from the answer to its phase of black births on
-  pub black_window : bears_black_of seat ≡ true → IsBetween black_births sweep seat.answered
-  black_window black = let both = inside 1 6 (seat.answered % cycle_phases) black in record { from = omega (arith, both.0); upto = omega (arith, both.1) }
+  pub black_births_are_between : bears_black_of seat ≡ true → IsBetween black_births sweep seat.answered
+  black_births_are_between black = let both = inside 1 6 (seat.answered % cycle_phases) black in record { from = omega (arith, both.0); upto = omega (arith, both.1) }
 
-  pub window_black : IsBetween black_births sweep seat.answered → bears_black_of seat ≡ true
-  window_black between = is_inside 1 6 (seat.answered % cycle_phases) (omega (arith, between.from)) (omega (arith, between.upto))
+  pub between_bears_black : IsBetween black_births sweep seat.answered → bears_black_of seat ≡ true
+  between_bears_black between = is_inside 1 6 (seat.answered % cycle_phases) (omega (arith, between.from)) (omega (arith, between.upto))
 
 module _ (phase answer : ℕ) (near : IsNear phase answer) where
   -- while black fragments are made the barrier of a seat's sets is on
-  pub barrier_making : IsBetween black_births sweep phase → IsBetween barriers sweep answer
-  barrier_making making = elim near [
+  pub making_is_between_barriers : IsBetween black_births sweep phase → IsBetween barriers sweep answer
+  making_is_between_barriers making = elim near [
     | inl same ↦ record { from = omega (arith, same, making.from); upto = omega (arith, same, making.upto) }
     | inr before ↦ record { from = omega (arith, before, making.from, making.upto); upto = omega (arith, before, making.from, making.upto) }
   ]
 
   -- a seat whose barrier is on runs a cycle
-  pub barrier_runs : IsBetween barriers sweep answer → phase % cycle_phases ≢ resting
-  barrier_runs on = elim near [
+  pub barrier_is_not_resting : IsBetween barriers sweep answer → phase % cycle_phases ≢ resting
+  barrier_is_not_resting on = elim near [
     | inl same ↦ λ rests. omega (arith, same, rests, on.from)
     | inr before ↦ λ rests. omega (arith, before, rests, on.upto)
   ]

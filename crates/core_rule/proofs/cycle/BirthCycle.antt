@@ -7,15 +7,15 @@ use Rattle.core_machine.specs.declared.place.Place.TheVariants as places
 use Rattle.core_machine.specs.Moves.{bears_black_of}
 use Rattle.core_rule.specs.owners.Owners.{Kept as KeepsPart}
 use Rattle.core_rule.proofs.entries.AtRest.{seat_fits}
-use Rattle.core_rule.proofs.colours.BirthAhead.{born_ahead}
-use Rattle.core_rule.proofs.colours.Births.{birth_colour, AreBorne, births_are}
-use Rattle.core_rule.proofs.colours.BirthColours.{painted, was_white, marks_stay, birth_coloured, marks_birth}
-use Rattle.core_rule.proofs.hand.ClaimOrder.{born_in_order, last_run_is, before_last_is}
-use Rattle.core_rule.proofs.hand.HandMoves.{hand_once, part_held}
-use Rattle.core_rule.proofs.objects.LastBirth.{all_stored}
-use Rattle.core_rule.proofs.colours.LeadsFrames.{leads_control}
-use Rattle.core_rule.proofs.cycle.MakingCycle.{phase_after_control}
-use Rattle.core_rule.proofs.hand.MakingSeats.{bears_late, last_within, spine_listed}
+use Rattle.core_rule.proofs.colours.BirthAhead.{born_leads_to_born_or_marked}
+use Rattle.core_rule.proofs.colours.Births.{birth_colour, AreBorne, are_borne_as_seat_bears}
+use Rattle.core_rule.proofs.colours.BirthColours.{painted, born_was_white, marked_stays_at_birth, coloured_after_birth, marks_after_birth}
+use Rattle.core_rule.proofs.hand.ClaimOrder.{born_in_order, last_run_is_last_group, before_run_is_other_groups}
+use Rattle.core_rule.proofs.hand.HandMoves.{hand_has_each_once, part_fragment_is_taken}
+use Rattle.core_rule.proofs.objects.LastBirth.{all_words_are_stored}
+use Rattle.core_rule.proofs.colours.LeadsFrames.{led_before_control_write}
+use Rattle.core_rule.proofs.cycle.MakingCycle.{phase_same_after_control}
+use Rattle.core_rule.proofs.hand.MakingSeats.{making_bears_no_black, last_group_within_heap, listed_word_names_payload}
 
 module _ (heap : Heap) (state : State) (book : Book) (number : ℕ) (rule : Rule heap state book) (here : number < heap.seats) (place : (seat_at state number).place ≡ places.Making Bearing) where
   abbrev seat : Seat
@@ -40,48 +40,48 @@ module _ (heap : Heap) (state : State) (book : Book) (number : ℕ) (rule : Rule
   at_place = rw place at (seat_fits rule number here).at_place
 
   -- the group is the heap's, and the object's fragments are chosen
-  pub group_born : g < heap.groups
-  group_born = last_within heap seat (seat_fits rule number here) at_place.1
+  pub born_group_within_heap : g < heap.groups
+  born_group_within_heap = last_group_within_heap heap seat (seat_fits rule number here) at_place.1
 
-  pub some_born : 1 ≤ length seat.body
-  some_born = omega (arith, at_place.1, at_place.2)
+  pub born_body_is_some : 1 ≤ length seat.body
+  born_body_is_some = omega (arith, at_place.1, at_place.2)
 
   -- the last fragments of the hand are all that it has of the group, and the others are the rest
-  pub run_born : last_part seat ≡ part
-  run_born = last_run_is heap seat.cursor seat.tried seat.hand seat.body (seat_fits rule number here).hand.hand_within some_born stands.own.together
+  pub last_part_is_group_part : last_part seat ≡ part
+  last_part_is_group_part = last_run_is_last_group heap seat.cursor seat.tried seat.hand seat.body (seat_fits rule number here).hand.hand_within born_body_is_some stands.own.together
 
-  pub rest_born : before_run seat.hand ≡ part_out g seat.hand
-  rest_born = before_last_is heap seat.cursor seat.tried seat.hand seat.body (seat_fits rule number here).hand.hand_within some_born stands.own.together
+  pub before_run_is_part_out : before_run seat.hand ≡ part_out g seat.hand
+  before_run_is_part_out = before_run_is_other_groups heap seat.cursor seat.tried seat.hand seat.body (seat_fits rule number here).hand.hand_within born_body_is_some stands.own.together
 
   -- each word of the spine names a payload fragment
-  pub words_listed : (j : ℕ) → j < spine_need seat → at heap state.words (spine_place seat.spine j) ≡ spine_word (fragment_at seat.body (j + 1))
-  words_listed = spine_listed heap state.words book.spine_owner number seat stands.own.spine (λ an_array. subst (HasPlace seat) (sym place) an_array) at_place.0.makes.an_object at_place.4
+  pub spine_words_name_payload : (j : ℕ) → j < spine_need seat → at heap state.words (spine_place seat.spine j) ≡ spine_word (fragment_at seat.body (j + 1))
+  spine_words_name_payload = listed_word_names_payload heap state.words book.spine_owner number seat stands.own.spine (λ an_array. subst (HasPlace seat) (sym place) an_array) at_place.0.makes.an_object at_place.4
 
   -- nothing of the part was born
   unborn : (f : ℕ) → 1 ≤ tally f (part) → born_bit (book.owner f) ≡ 0
-  unborn f there = ap born_bit (part_held book.owner number seat.reserve seat.hand seat.body stands.own.holding g f there)
+  unborn f there = ap born_bit (part_fragment_is_taken book.owner number seat.reserve seat.hand seat.body stands.own.holding g f there)
 
   -- what was marked stays so
-  pub marks_born : (f : ℕ) → IsMarked book.colour f → IsMarked colours_born f
-  marks_born = marks_stay heap state.words words_born book.owner book.owner book.colour (part) (bears_black_of seat) unborn rule.heap_stands.cycle.coloured.born
+  pub marked_stays_when_born : (f : ℕ) → IsMarked book.colour f → IsMarked colours_born f
+  marked_stays_when_born = marked_stays_at_birth heap state.words words_born book.owner book.owner book.colour (part) (bears_black_of seat) unborn rule.heap_stands.cycle.coloured.born
 
   -- the heap's part stands
-  pub heap_born : (later : ℕ → Owner) (fragments : ℕ → List ℕ) → ((f : ℕ) → born_bit (later f) ≡ born_bit (book.owner f) + tally f (part))
+  pub heap_in_cycle_after_birth : (later : ℕ → Owner) (fragments : ℕ → List ℕ) → ((f : ℕ) → born_bit (later f) ≡ born_bit (book.owner f) + tally f (part))
       → (IsBetween 1 5 (phase book.history) → (f i k : ℕ) → later f ≡ KeepsPart i k → IsMarked colours_born f → IsMarked colours_born (fragment_at (fragments i) 0))
       → HeapInCycle heap words_born (phase book.history) later colours_born fragments
-  heap_born later fragments bears first =
+  heap_in_cycle_after_birth later fragments bears first =
       let cycle = rule.heap_stands.cycle in
       let black : Bool = bears_black_of seat in
       record {
-        word = phase_after_control heap state.words _ g ∙ cycle.word;
-        marks = marks_birth heap state.words book.colour g seat.hand black rule.machine.table group_born (hand_once book.owner number seat.reserve seat.hand seat.body stands.own.holding)
-            (was_white heap state.words words_born book.owner later book.colour (part) black unborn cycle.coloured.born) cycle.marks;
-        coloured = birth_coloured heap state.words words_born book.owner later book.colour (part) black unborn cycle.coloured.born book.fragments fragments (phase book.history)
-            (bears_late heap state book number Bearing rule here place) bears
-            (λ f k x leads. leads_control heap state.words g _ group_born f k x leads)
-            (λ dark. born_ahead heap state.words book.owner number seat rule.machine.limits here at_place.0 (seat_fits rule number here).hand stands.own.holding
-            (all_stored heap state.words seat.body (newborn_word_of number seat) seat.stored at_place.3 stands.own.stored) words_listed
-            book.colour (subst (AreBorne book.owner book.colour number) dark (births_are book.owner book.colour number seat stands.cycle.births))
-            g (born_in_order heap seat.cursor seat.tried seat.hand seat.body (seat_fits rule number here).hand.hand_within some_born stands.own.together))
+        word = phase_same_after_control heap state.words _ g ∙ cycle.word;
+        marks = marks_after_birth heap state.words book.colour g seat.hand black rule.machine.table born_group_within_heap (hand_has_each_once book.owner number seat.reserve seat.hand seat.body stands.own.holding)
+            (born_was_white heap state.words words_born book.owner later book.colour (part) black unborn cycle.coloured.born) cycle.marks;
+        coloured = coloured_after_birth heap state.words words_born book.owner later book.colour (part) black unborn cycle.coloured.born book.fragments fragments (phase book.history)
+            (making_bears_no_black heap state book number Bearing rule here place) bears
+            (λ f k x leads. led_before_control_write heap state.words g _ born_group_within_heap f k x leads)
+            (λ dark. born_leads_to_born_or_marked heap state.words book.owner number seat rule.machine.limits here at_place.0 (seat_fits rule number here).hand stands.own.holding
+            (all_words_are_stored heap state.words seat.body (newborn_word_of number seat) seat.stored at_place.3 stands.own.stored) spine_words_name_payload
+            book.colour (subst (AreBorne book.owner book.colour number) dark (are_borne_as_seat_bears book.owner book.colour number seat stands.cycle.births))
+            g (born_in_order heap seat.cursor seat.tried seat.hand seat.body (seat_fits rule number here).hand.hand_within born_body_is_some stands.own.together))
             first cycle.coloured;
       }

@@ -8,13 +8,13 @@ use Rattle.core_machine.specs.declared.place.Place.TheVariants as places
 use Rattle.core_machine.specs.declared.place.Polling.{Polling}
 use Rattle.core_machine.specs.declared.place.Polling.TheVariants.{Asking, Shading, Answering}
 use Rattle.core_machine.specs.declared.place.Access.{Access}
-use Rattle.core_rule.proofs.colours.Births.{births_stay}
-use Rattle.core_rule.proofs.lists.Options.{if_some}
+use Rattle.core_rule.proofs.colours.Births.{born_colours_stay}
+use Rattle.core_rule.proofs.lists.Options.{if_some_goes_on}
 
 -- what holds on the way goes on to hold
-pub while_access : (P Q : Access → Type 0) → ((place : Access) → P place → Q place) → (place : Place) → WhileAccess P place → WhileAccess Q place
-while_access P Q more (places.Access place) holds = more place holds
-while_access P Q more _ holds = tt
+pub while_access_goes_on : (P Q : Access → Type 0) → ((place : Access) → P place → Q place) → (place : Place) → WhileAccess P place → WhileAccess Q place
+while_access_goes_on P Q more (places.Access place) holds = more place holds
+while_access_goes_on P Q more _ holds = tt
 
 -- so does what holds while the phase is answered
 pub while_polling : (P Q : Polling → Type 0) → ((place : Polling) → P place → Q place) → (place : Place) → WhilePolling P place → WhilePolling Q place
@@ -25,8 +25,8 @@ while_polling P Q more _ holds = tt
 pub roots_stay : (colour coloured : ℕ → Colour) (seat : Seat) → ((f : ℕ) → IsMarked colour f → IsMarked coloured f)
     → (place : Polling) → RootsStand colour seat place → RootsStand coloured seat place
 roots_stay colour coloured seat marks Asking roots = tt
-roots_stay colour coloured seat marks Shading roots = λ r before. if_some (IsMarked colour) (IsMarked coloured) marks _ (roots r before)
-roots_stay colour coloured seat marks Answering roots = λ r. if_some (IsMarked colour) (IsMarked coloured) marks _ (roots r)
+roots_stay colour coloured seat marks Shading roots = λ r before. if_some_goes_on (IsMarked colour) (IsMarked coloured) marks _ (roots r before)
+roots_stay colour coloured seat marks Answering roots = λ r. if_some_goes_on (IsMarked colour) (IsMarked coloured) marks _ (roots r)
 
 -- a set has loaded its field's old value
 abbrev pub IsWatching : Access → Type 0
@@ -47,10 +47,10 @@ LeadsStay heap words now owner coloured phase =
     IsBetween 2 5 phase → (f source g : ℕ) → born_bit (owner f) ≡ 1 → WordPointsTo heap now f source g → WordPointsTo heap words f source g ⊎ IsMarked coloured g
 
 -- more is marked, and what is watched leads to no more than it did but for what is marked
-pub watches_stay : (heap : Heap) (words now : List ℕ) (colour coloured : ℕ → Colour) → ((f : ℕ) → IsMarked colour f → IsMarked coloured f)
+pub deletion_barrier_stays : (heap : Heap) (words now : List ℕ) (colour coloured : ℕ → Colour) → ((f : ℕ) → IsMarked colour f → IsMarked coloured f)
     → (f part : ℕ) → ((g : ℕ) → WordPointsTo heap now f part g → WordPointsTo heap words f part g ⊎ IsMarked coloured g)
     → (old : Option ℕ) → DeletionBarrier heap words colour f part old → DeletionBarrier heap now coloured f part old
-watches_stay heap words now colour coloured marks f part leads old watches g later = elim (leads g later) [
+deletion_barrier_stays heap words now colour coloured marks f part leads old watches g later = elim (leads g later) [
   | inl before ↦ elim (watches g before) [
     | inl same ↦ inl same
     | inr marked ↦ inr (marks g marked)
@@ -59,17 +59,17 @@ watches_stay heap words now colour coloured marks f part leads old watches g lat
 ]
 
 module _ (heap : Heap) (words now : List ℕ) (colour coloured : ℕ → Colour) (seat : Seat) (marks : (f : ℕ) → IsMarked colour f → IsMarked coloured f) where
-  pub field_stays : (place : Access)
+  pub field_stands_still : (place : Access)
       → (IsWatching place → (g : ℕ) → WordPointsTo heap now seat.reached seat.part g → WordPointsTo heap words seat.reached seat.part g ⊎ IsMarked coloured g)
       → FieldStands heap words colour seat place → FieldStands heap now coloured seat place
-  field_stays ShadingOld leads field = watches_stay heap words now colour coloured marks _ _ (leads tt) _ field
-  field_stays ShadingNew leads field = watches_stay heap words now colour coloured marks _ _ (leads tt) _ field
-  field_stays Swapping leads field = watches_stay heap words now colour coloured marks _ _ (leads tt) _ field
-  field_stays _ leads field = tt
+  field_stands_still ShadingOld leads field = deletion_barrier_stays heap words now colour coloured marks _ _ (leads tt) _ field
+  field_stands_still ShadingNew leads field = deletion_barrier_stays heap words now colour coloured marks _ _ (leads tt) _ field
+  field_stands_still Swapping leads field = deletion_barrier_stays heap words now colour coloured marks _ _ (leads tt) _ field
+  field_stands_still _ leads field = tt
 
   shaded_stays : (place : Access) → ShadedStands colour seat place → ShadedStands coloured seat place
-  shaded_stays ShadingNew shaded = if_some (IsMarked colour) (IsMarked coloured) marks _ shaded
-  shaded_stays Swapping shaded = λ on. (if_some (IsMarked colour) (IsMarked coloured) marks _ (shaded on).0, if_some (IsMarked colour) (IsMarked coloured) marks _ (shaded on).1)
+  shaded_stays ShadingNew shaded = if_some_goes_on (IsMarked colour) (IsMarked coloured) marks _ shaded
+  shaded_stays Swapping shaded = λ on. (if_some_goes_on (IsMarked colour) (IsMarked coloured) marks _ (shaded on).0, if_some_goes_on (IsMarked colour) (IsMarked coloured) marks _ (shaded on).1)
   shaded_stays _ shaded = tt
 
 -- what a step of another party leaves of what a seat needs: its answer, where the heap's fragments lead, what is marked, and what it bears
@@ -80,9 +80,9 @@ pub record LeavesCycle (heap : Heap) (words now : List ℕ) (owner later : ℕ �
   pub births : (f : ℕ) → later f ≡ Borne number → (owner f ≡ Borne number) × (coloured f ≡ colour f)
 
 -- a step that changes nothing leaves all of it
-pub leaves_same : (heap : Heap) (words : List ℕ) (owner : ℕ → Owner) (colour : ℕ → Colour) (phase number : ℕ)
+pub leaves_cycle_unchanged : (heap : Heap) (words : List ℕ) (owner : ℕ → Owner) (colour : ℕ → Colour) (phase number : ℕ)
     → LeavesCycle heap words words owner owner colour colour phase number
-leaves_same heap words owner colour phase number = record {
+leaves_cycle_unchanged heap words owner colour phase number = record {
   answer = refl;
   leads = λ marking f source g born leads. inl leads;
   marks = λ f marked. marked;
@@ -94,13 +94,13 @@ abbrev pub WatchesBorn : (ℕ → Owner) → Seat → Type 0
 WatchesBorn owner seat = (reaching : Access) → seat.place ≡ places.Access reaching → IsWatching reaching → born_bit (owner seat.reached) ≡ 1
 
 -- its part stands where its answer does, what is marked and what it bears, and where its field leads whose old value a set has loaded
-pub cycle_watched : (heap : Heap) (words now : List ℕ) (owner later : ℕ → Owner) (colour coloured : ℕ → Colour) (phase answers : ℕ) (gone : Bool) (number : ℕ) (seat : Seat)
+pub seat_in_cycle_where_watched : (heap : Heap) (words now : List ℕ) (owner later : ℕ → Owner) (colour coloured : ℕ → Colour) (phase answers : ℕ) (gone : Bool) (number : ℕ) (seat : Seat)
     → at heap now (Answer number) ≡ at heap words (Answer number) → ((f : ℕ) → IsMarked colour f → IsMarked coloured f)
     → ((f : ℕ) → later f ≡ Borne number → (owner f ≡ Borne number) × (coloured f ≡ colour f))
     → (IsBetween 2 5 phase → (reaching : Access) → seat.place ≡ places.Access reaching → IsWatching reaching → (g : ℕ) → WordPointsTo heap now seat.reached seat.part g
     → WordPointsTo heap words seat.reached seat.part g ⊎ IsMarked coloured g)
     → SeatInCycle heap words phase answers gone owner colour number seat → SeatInCycle heap now phase answers gone later coloured number seat
-cycle_watched heap words now owner later colour coloured phase answers gone number seat answer marks births watches cycle = record {
+seat_in_cycle_where_watched heap words now owner later colour coloured phase answers gone number seat answer marks births watches cycle = record {
   answers_told = record {
     told = cycle.answers_told.told;
     leaves = cycle.answers_told.leaves;
@@ -111,19 +111,19 @@ cycle_watched heap words now owner later colour coloured phase answers gone numb
   answer = cycle.answer;
   flight = record {
     set = λ marking snapped. access_at (FieldStands heap words colour seat) (FieldStands heap now coloured seat) seat.place
-        (λ reaching is. field_stays heap words now colour coloured seat marks reaching (watches marking reaching is)) (cycle.flight.set marking snapped);
-    shaded = λ marking. while_access (ShadedStands colour seat) (ShadedStands coloured seat) (shaded_stays heap words now colour coloured seat marks) seat.place (cycle.flight.shaded marking);
+        (λ reaching is. field_stands_still heap words now colour coloured seat marks reaching (watches marking reaching is)) (cycle.flight.set marking snapped);
+    shaded = λ marking. while_access_goes_on (ShadedStands colour seat) (ShadedStands coloured seat) (shaded_stays heap words now colour coloured seat marks) seat.place (cycle.flight.shaded marking);
     roots = λ begins. while_polling (RootsStand colour seat) (RootsStand coloured seat) (roots_stay colour coloured seat marks) seat.place (cycle.flight.roots begins);
   };
-  births = births_stay owner later colour coloured number seat.answered births cycle.births;
+  births = born_colours_stay owner later colour coloured number seat.answered births cycle.births;
 }
 
 -- so it does where a step leaves all of it
-pub cycle_stays : (heap : Heap) (words now : List ℕ) (owner later : ℕ → Owner) (colour coloured : ℕ → Colour) (phase answers : ℕ) (gone : Bool) (number : ℕ) (seat : Seat)
+pub seat_in_cycle_stays : (heap : Heap) (words now : List ℕ) (owner later : ℕ → Owner) (colour coloured : ℕ → Colour) (phase answers : ℕ) (gone : Bool) (number : ℕ) (seat : Seat)
     → LeavesCycle heap words now owner later colour coloured phase number → WatchesBorn owner seat
     → SeatInCycle heap words phase answers gone owner colour number seat → SeatInCycle heap now phase answers gone later coloured number seat
-cycle_stays heap words now owner later colour coloured phase answers gone number seat leaves watched =
-    cycle_watched heap words now owner later colour coloured phase answers gone number seat leaves.answer leaves.marks leaves.births
+seat_in_cycle_stays heap words now owner later colour coloured phase answers gone number seat leaves watched =
+    seat_in_cycle_where_watched heap words now owner later colour coloured phase answers gone number seat leaves.answer leaves.marks leaves.births
     (λ marking reaching is watching g lead. leaves.leads marking _ _ g (watched reaching is watching) lead)
 
 -- what it has answered, and whether it has left, is as before
@@ -132,10 +132,10 @@ pub record SameAnswer (seat next : Seat) : Type 0 where
   pub left : next.left ≡ seat.left
   pub asked : next.asked ≡ seat.asked
 
-pub answers_same : (heap : Heap) (words now : List ℕ) (phase answers : ℕ) (gone : Bool) (number : ℕ) (seat next : Seat) → SameAnswer seat next
+pub answers_agree_still : (heap : Heap) (words now : List ℕ) (phase answers : ℕ) (gone : Bool) (number : ℕ) (seat next : Seat) → SameAnswer seat next
     → at heap now (Answer number) ≡ at heap words (Answer number)
     → AnswersAgree heap words phase answers gone number seat.left seat.answered seat.asked → AnswersAgree heap now phase answers gone number next.left next.answered next.asked
-answers_same heap words now phase answers gone number seat next same word told = rw (same.answered, same.left, same.asked) record {
+answers_agree_still heap words now phase answers gone number seat next same word told = rw (same.answered, same.left, same.asked) record {
   told = told.told;
   leaves = told.leaves;
   word = word ∙ told.word;
@@ -144,22 +144,22 @@ answers_same heap words now phase answers gone number seat next same word told =
 }
 
 -- a seat that goes on, by what it has in flight then
-pub cycle_by_flight : (heap : Heap) (words now : List ℕ) (owner later : ℕ → Owner) (colour coloured : ℕ → Colour) (phase answers : ℕ) (gone : Bool) (number : ℕ) (seat next : Seat)
+pub seat_in_cycle_by_flight : (heap : Heap) (words now : List ℕ) (owner later : ℕ → Owner) (colour coloured : ℕ → Colour) (phase answers : ℕ) (gone : Bool) (number : ℕ) (seat next : Seat)
     → SameAnswer seat next → at heap now (Answer number) ≡ at heap words (Answer number) → AnswerStands phase next.answered next.asked next.place
     → Flight heap now coloured phase next → BornColours later coloured number next.answered
     → SeatInCycle heap words phase answers gone owner colour number seat → SeatInCycle heap now phase answers gone later coloured number next
-cycle_by_flight heap words now owner later colour coloured phase answers gone number seat next same word answer flight births cycle = record {
-  answers_told = answers_same heap words now phase answers gone number seat next same word cycle.answers_told;
+seat_in_cycle_by_flight heap words now owner later colour coloured phase answers gone number seat next same word answer flight births cycle = record {
+  answers_told = answers_agree_still heap words now phase answers gone number seat next same word cycle.answers_told;
   answer = answer;
   flight = flight;
   births = births;
 }
 
 -- the history tells the same
-pub cycle_told : (heap : Heap) (words : List ℕ) (phase later_phase answers later_answers : ℕ) (gone later_gone : Bool) (owner : ℕ → Owner) (colour : ℕ → Colour) (number : ℕ) (seat : Seat)
+pub seat_in_cycle_as_told : (heap : Heap) (words : List ℕ) (phase later_phase answers later_answers : ℕ) (gone later_gone : Bool) (owner : ℕ → Owner) (colour : ℕ → Colour) (number : ℕ) (seat : Seat)
     → later_phase ≡ phase → later_answers ≡ answers → later_gone ≡ gone
     → SeatInCycle heap words phase answers gone owner colour number seat → SeatInCycle heap words later_phase later_answers later_gone owner colour number seat
-cycle_told heap words phase later_phase answers later_answers gone later_gone owner colour number seat a b c cycle = rw (a, b, c) cycle
+seat_in_cycle_as_told heap words phase later_phase answers later_answers gone later_gone owner colour number seat a b c cycle = rw (a, b, c) cycle
 
 -- the colours stay right where so the heap's fragments lead, what is marked stays born, and what is kept was kept
 pub coloured_stays : (heap : Heap) (words now : List ℕ) (owner later : ℕ → Owner) (colour : ℕ → Colour) (fragments : ℕ → List ℕ) (phase : ℕ)

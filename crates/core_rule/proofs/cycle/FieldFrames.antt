@@ -5,13 +5,13 @@ use Rattle.core_rule.proofs.Terms.{Owner, Kept, born_bit, Finds, WayStands}
 use Rattle.core_machine.specs.declared.table.address.Address.TheVariants.{Phase, Answer}
 use Rattle.core_machine.specs.declared.place.Place.TheVariants as places
 use Rattle.core_machine.specs.declared.place.Access.{Access}
-use Rattle.core_rule.proofs.words.Addresses.{at-put_apart, control_after_word}
+use Rattle.core_rule.proofs.words.Addresses.{at-put_apart, control_same_after_word}
 use Rattle.core_rule.proofs.cycle.CycleFrames.{IsWatching, LeadsStay, LeavesCycle, WatchesBorn, coloured_stays}
-use Rattle.core_rule.proofs.ways.KeptWords.{row_ahead, behind_first}
+use Rattle.core_rule.proofs.ways.KeptWords.{way_row_within_object, way_is_behind_first}
 use Rattle.core_rule.proofs.colours.SourceCases.{TellsNoSpine}
-use Rattle.core_rule.proofs.marking.ObjectEdges.{kept_no_spine}
-use Rattle.core_rule.proofs.colours.LeadsFrames.{same_beside, leads_same}
-use Rattle.core_rule.proofs.colours.MarkWords.{marks_same}
+use Rattle.core_rule.proofs.marking.ObjectEdges.{kept_tells_no_spine}
+use Rattle.core_rule.proofs.colours.LeadsFrames.{same_sources_beside, led_before_where_same}
+use Rattle.core_rule.proofs.colours.MarkWords.{marks_where_controls_same}
 
 module _ (nodes : ℕ → Node) (made : List Id) (owner : ℕ → Owner) (fragments : ℕ → List ℕ) (seat : Seat) where
   way_found : (reaching : Access) → IsWatching reaching → WayStands nodes made owner fragments seat (places.Access reaching) → Finds nodes made owner fragments seat
@@ -34,32 +34,32 @@ module _ (heap : Heap) (state : State) (book : Book) (rule : Rule heap state boo
   watched_owned =
       let stands = rule.heap_stands in
       let finds = watched_finds in
-      let row = row_ahead heap state.words (graph_of heap book.history) book.made book.owner book.fragments rule.machine.limits stands.control_words stands.ids stands.objects (seat_at state r) finds in
+      let row = way_row_within_object heap state.words (graph_of heap book.history) book.made book.owner book.fragments rule.machine.limits stands.control_words stands.ids stands.objects (seat_at state r) finds in
       ap book.owner finds.way.here ∙ (stands.objects.kept finds.index finds.way.below finds.way.kept).owned finds.row (omega (arith, row))
 
-  pub watched_part : IsPart book.owner (seat_at state r).reached
-  watched_part = record { index = watched_finds.index; place = watched_finds.row; kept = watched_owned }
+  pub watched_is_part : IsPart book.owner (seat_at state r).reached
+  watched_is_part = record { index = watched_finds.index; place = watched_finds.row; kept = watched_owned }
 
   -- and has no spine, since no cell stands in an array's first one
-  pub watched_no_spine : TellsNoSpine heap state.words (seat_at state r).reached
-  watched_no_spine =
+  pub watched_tells_no_spine : TellsNoSpine heap state.words (seat_at state r).reached
+  watched_tells_no_spine =
       let stands = rule.heap_stands in
-      kept_no_spine heap state book rule (seat_at state r).reached watched_finds.index watched_finds.row watched_owned
-      (behind_first heap state.words (graph_of heap book.history) book.made book.owner book.fragments rule.machine.limits stands.control_words stands.ids stands.objects (seat_at state r) watched_finds)
+      kept_tells_no_spine heap state book rule (seat_at state r).reached watched_finds.index watched_finds.row watched_owned
+      (way_is_behind_first heap state.words (graph_of heap book.history) book.made book.owner book.fragments rule.machine.limits stands.control_words stands.ids stands.objects (seat_at state r) watched_finds)
 
 -- so it is born
-pub watched_born : (heap : Heap) (state : State) (book : Book) (rule : Rule heap state book) (r : ℕ) → r < heap.seats → WatchesBorn book.owner (seat_at state r)
-watched_born heap state book rule r below reaching is watches = ap born_bit (watched_part heap state book rule r below reaching is watches).kept
+pub watched_is_born : (heap : Heap) (state : State) (book : Book) (rule : Rule heap state book) (r : ℕ) → r < heap.seats → WatchesBorn book.owner (seat_at state r)
+watched_is_born heap state book rule r below reaching is watches = ap born_bit (watched_is_part heap state book rule r below reaching is watches).kept
 
 module _ (heap : Heap) (words : List ℕ) (owner : ℕ → Owner) (colour : ℕ → Colour) (now f part word : ℕ) (within : f < 16 * heap.groups) (fits : part < 4) (unborn : born_bit (owner f) ≡ 0) where
   -- a word of a fragment that isn't born is written
   leads_store : LeadsStay heap words (put heap words (Word f part) word) owner colour now
-  leads_store making x k g born leads = inl (leads_same heap words (put heap words (Word f part) word) x (same_beside heap words f part word within fits x
+  leads_store making x k g born leads = inl (led_before_where_same heap words (put heap words (Word f part) word) x (same_sources_beside heap words f part word within fits x
       (λ same. let bit : born_bit (owner x) ≡ born_bit (owner f) = ap (λ y. born_bit (owner y)) same in omega (arith, bit, born, unborn))) k g leads)
 
   -- that leaves what another seat needs
-  pub leaves_store : (r : ℕ) → r < 16 → LeavesCycle heap words (put heap words (Word f part) word) owner owner colour colour now r
-  leaves_store r few = record {
+  pub leaves_cycle_after_store : (r : ℕ) → r < 16 → LeavesCycle heap words (put heap words (Word f part) word) owner owner colour colour now r
+  leaves_cycle_after_store r few = record {
     answer = at-put_apart heap words (Word f part) (Answer r) word (λ e. omega (arith, e, few));
     leads = leads_store;
     marks = λ x marked. marked;
@@ -67,9 +67,9 @@ module _ (heap : Heap) (words : List ℕ) (owner : ℕ → Owner) (colour : ℕ 
   }
 
   -- and the heap's part
-  pub heap_store : (fragments : ℕ → List ℕ) → HeapInCycle heap words now owner colour fragments → HeapInCycle heap (put heap words (Word f part) word) now owner colour fragments
-  heap_store fragments cycle = record {
+  pub heap_in_cycle_after_store : (fragments : ℕ → List ℕ) → HeapInCycle heap words now owner colour fragments → HeapInCycle heap (put heap words (Word f part) word) now owner colour fragments
+  heap_in_cycle_after_store fragments cycle = record {
     word = at-put_apart heap words (Word f part) Phase word (λ e. omega (arith, e)) ∙ cycle.word;
-    marks = marks_same heap words (put heap words (Word f part) word) colour (λ group below. control_after_word heap words word f part group below) cycle.marks;
+    marks = marks_where_controls_same heap words (put heap words (Word f part) word) colour (λ group below. control_same_after_word heap words word f part group below) cycle.marks;
     coloured = coloured_stays heap words (put heap words (Word f part) word) owner owner colour fragments now leads_store (λ x marked born. born) (λ x i k keeps. keeps) cycle.coloured;
   }

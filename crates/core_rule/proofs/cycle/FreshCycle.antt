@@ -6,7 +6,7 @@ use Rattle.core_machine.specs.declared.place.Place.TheVariants as places
 use Rattle.core_machine.specs.declared.place.Polling.{Polling}
 use Rattle.core_machine.specs.declared.place.Polling.TheVariants.{Asking, Shading, Answering}
 use Rattle.core_machine.specs.declared.place.Access.{Access}
-use Rattle.core_rule.proofs.cycle.CycleFrames.{SameAnswer, cycle_by_flight}
+use Rattle.core_rule.proofs.cycle.CycleFrames.{SameAnswer, seat_in_cycle_by_flight}
 use Rattle.core_rule.proofs.entries.Starting.{IsFresh}
 
 fresh_answers : (phase answer asked : ℕ) (place : Place) → IsFresh place → AnswerStands phase answer asked place
@@ -30,11 +30,11 @@ fresh_polling P asks (places.Polling Shading) fresh = absurd fresh
 fresh_polling P asks (places.Polling Answering) fresh = absurd fresh
 fresh_polling P asks _ fresh = tt
 
-pub cycle_fresh : (heap : Heap) (words : List ℕ) (owner : ℕ → Owner) (colour : ℕ → Colour) (now answers : ℕ) (gone : Bool) (number : ℕ) (seat next : Seat)
+pub seat_in_cycle_when_fresh : (heap : Heap) (words : List ℕ) (owner : ℕ → Owner) (colour : ℕ → Colour) (now answers : ℕ) (gone : Bool) (number : ℕ) (seat next : Seat)
     → SameAnswer seat next → IsFresh next.place
     → SeatInCycle heap words now answers gone owner colour number seat → SeatInCycle heap words now answers gone owner colour number next
-cycle_fresh heap words owner colour now answers gone number seat next same fresh cycle =
-    cycle_by_flight heap words words owner owner colour colour now answers gone number seat next same refl (fresh_answers now next.answered next.asked next.place fresh)
+seat_in_cycle_when_fresh heap words owner colour now answers gone number seat next same fresh cycle =
+    seat_in_cycle_by_flight heap words words owner owner colour colour now answers gone number seat next same refl (fresh_answers now next.answered next.asked next.place fresh)
     record {
       set = λ marking snapped. fresh_access (FieldStands heap words colour next) tt next.place fresh;
       shaded = λ marking. fresh_access (ShadedStands colour next) tt next.place fresh;

@@ -7,14 +7,14 @@ use Rattle.heap_model.specs.PhasePlan.{clearing as clearing_phase, rest as resti
 use Rattle.core_machine.specs.declared.table.address.Address.TheVariants.{Answer}
 use Rattle.core_machine.specs.declared.place.Place.TheVariants as places
 use Rattle.core_machine.specs.declared.place.Polling.TheVariants.{Asking, Shading, Answering}
-use Rattle.core_rule.proofs.cycle.Barriers.{barrier_window}
-use Rattle.core_rule.proofs.cycle.CycleFrames.{while_access, field_stays}
+use Rattle.core_rule.proofs.cycle.Barriers.{barrier_is_between}
+use Rattle.core_rule.proofs.cycle.CycleFrames.{while_access_goes_on, field_stands_still}
 
 -- no fragment is black in the first phase, and none is marked before it
-pub coloured_next : (heap : Heap) (words now : List ℕ) (owner : ℕ → Owner) (colour : ℕ → Colour) (fragments : ℕ → List ℕ) (phase : ℕ) → phase % cycle_phases ≢ clearing_phase
+pub coloured_in_next_phase : (heap : Heap) (words now : List ℕ) (owner : ℕ → Owner) (colour : ℕ → Colour) (fragments : ℕ → List ℕ) (phase : ℕ) → phase % cycle_phases ≢ clearing_phase
     → ((f source g : ℕ) → WordPointsTo heap now f source g → WordPointsTo heap words f source g)
     → Coloured heap words owner colour fragments phase → Coloured heap now owner colour fragments (phase + 1)
-coloured_next heap words now owner colour fragments phase within leads stands = record {
+coloured_in_next_phase heap words now owner colour fragments phase within leads stands = record {
   rest = λ ended f. absurd (omega (arith, ended, within));
   early = λ first f black. absurd (cc (black, stands.rest (omega (arith, first)) f));
   born = stands.born;
@@ -29,9 +29,9 @@ coloured_next heap words now owner colour fragments phase within leads stands = 
 }
 
 -- where nothing is marked any more the next phase is one of rest
-pub coloured_rest : (heap : Heap) (words now : List ℕ) (owner : ℕ → Owner) (colour : ℕ → Colour) (fragments : ℕ → List ℕ) (phase : ℕ) → phase % cycle_phases ≡ clearing_phase
+pub coloured_at_rest : (heap : Heap) (words now : List ℕ) (owner : ℕ → Owner) (colour : ℕ → Colour) (fragments : ℕ → List ℕ) (phase : ℕ) → phase % cycle_phases ≡ clearing_phase
     → ((f : ℕ) → colour f ≡ White) → Coloured heap words owner colour fragments phase → Coloured heap now owner colour fragments (phase + 1)
-coloured_rest heap words now owner colour fragments phase last white stands = record {
+coloured_at_rest heap words now owner colour fragments phase last white stands = record {
   rest = λ ended. white;
   early = λ first f black. absurd (cc (black, white f));
   born = stands.born;
@@ -49,7 +49,7 @@ present_or_idle heap seat fits = by seat.left (λ gone. (fits.gone gone).idle)
 
 -- without the barrier no set shades
 unshaded : (colour : ℕ → Colour) (seat : Seat) (place : Place) → FitsWay seat place → seat.answered % cycle_phases ≡ resting → WhileAccess (ShadedStands colour seat) place
-unshaded colour seat (places.Access ShadingNew) fits off = let on = barrier_window seat fits.1 in absurd (omega (arith, on.from, off))
+unshaded colour seat (places.Access ShadingNew) fits off = let on = barrier_is_between seat fits.1 in absurd (omega (arith, on.from, off))
 unshaded colour seat (places.Access Swapping) fits off = λ on. absurd (omega (arith, on.from, off))
 unshaded colour seat _ fits off = tt
 
@@ -68,11 +68,11 @@ module _ (seat : Seat) (phase : ℕ) where
   waits _ asks same = tt
 
 -- where every seat that is there has answered the phase, each seat's part stands when the next one begins
-pub cycle_next : (heap : Heap) (words now : List ℕ) (owner : ℕ → Owner) (colour : ℕ → Colour) (phase answers : ℕ) (gone : Bool) (number : ℕ) (seat : Seat)
+pub seat_in_cycle_next_phase : (heap : Heap) (words now : List ℕ) (owner : ℕ → Owner) (colour : ℕ → Colour) (phase answers : ℕ) (gone : Bool) (number : ℕ) (seat : Seat)
     → at heap now (Answer number) ≡ at heap words (Answer number) → ((f source g : ℕ) → WordPointsTo heap now f source g → WordPointsTo heap words f source g)
     → Fits heap seat → (gone ≡ false → answers ≡ phase)
     → SeatInCycle heap words phase answers gone owner colour number seat → SeatInCycle heap now (phase + 1) answers gone owner colour number seat
-cycle_next heap words now owner colour phase answers gone number seat word leads fits done cycle =
+seat_in_cycle_next_phase heap words now owner colour phase answers gone number seat word leads fits done cycle =
     let told = cycle.answers_told in
     let has : seat.left ≡ false → seat.answered ≡ phase = λ present. sym told.told ∙ done (told.leaves ∙ present) in
     record {
@@ -89,8 +89,8 @@ cycle_next heap words now owner colour phase answers gone number seat word leads
       ];
       flight = record {
         set = λ marking snapped. elim (present_or_idle heap seat fits) [
-          | inl present ↦ while_access (FieldStands heap words colour seat) (FieldStands heap now colour seat)
-              (λ reaching. field_stays heap words now colour colour seat (λ f marked. marked) reaching (λ watching g later. inl (leads _ _ g later))) seat.place
+          | inl present ↦ while_access_goes_on (FieldStands heap words colour seat) (FieldStands heap now colour seat)
+              (λ reaching. field_stands_still heap words now colour colour seat (λ f marked. marked) reaching (λ watching g later. inl (leads _ _ g later))) seat.place
               (cycle.flight.set (subst (IsBetween 2 5) (has present) snapped) snapped)
           | inr idle ↦ subst (WhileAccess (FieldStands heap now colour seat)) (sym idle) tt
         ];

@@ -8,34 +8,34 @@ use Rattle.core_machine.specs.seat.FitsAccess.{FitsAccess}
 use Rattle.core_machine.specs.seat.AccessMoves.{new_register_of}
 use Rattle.core_machine.specs.seat.Registers.{register_head as head_of_register}
 use Rattle.core_rule.proofs.entries.AtRest.{seat_fits}
-use Rattle.core_rule.proofs.words.Addresses.{at-put_apart, control_after_word}
-use Rattle.core_rule.proofs.ways.AtObject.{is_near}
-use Rattle.core_rule.proofs.cycle.Barriers.{barrier_making}
+use Rattle.core_rule.proofs.words.Addresses.{at-put_apart, control_same_after_word}
+use Rattle.core_rule.proofs.ways.AtObject.{answer_is_near_phase}
+use Rattle.core_rule.proofs.cycle.Barriers.{making_is_between_barriers}
 use Rattle.core_rule.proofs.cycle.CycleFrames.{LeadsStay, LeavesCycle, coloured_stays}
-use Rattle.core_rule.proofs.ways.KeptWords.{has_room}
-use Rattle.core_rule.proofs.colours.LeadsFrames.{put_no_spine, leads_put}
-use Rattle.core_rule.proofs.colours.NoSpines.{value_no_spine}
+use Rattle.core_rule.proofs.ways.KeptWords.{named_value_has_room}
+use Rattle.core_rule.proofs.colours.LeadsFrames.{tells_no_spine_after_put, led_before_or_by_written}
+use Rattle.core_rule.proofs.colours.NoSpines.{value_tells_no_spine}
 use Rattle.core_rule.proofs.colours.SourceCases.{TellsNoSpine}
-use Rattle.core_rule.proofs.cycle.FieldFrames.{watched_no_spine}
-use Rattle.core_rule.proofs.ways.ArrayWords.{plain_lead, value_plain}
-use Rattle.core_rule.proofs.ways.LoadedObjects.{held_head}
-use Rattle.core_rule.proofs.colours.MarkWords.{marks_same}
-use Rattle.core_rule.proofs.lists.Options.{of_some}
+use Rattle.core_rule.proofs.cycle.FieldFrames.{watched_tells_no_spine}
+use Rattle.core_rule.proofs.ways.ArrayWords.{plain_pointer_is_head, value_word_is_not_fixed}
+use Rattle.core_rule.proofs.ways.LoadedObjects.{register_head_is_named_head}
+use Rattle.core_rule.proofs.colours.MarkWords.{marks_where_controls_same}
+use Rattle.core_rule.proofs.lists.Options.{holds_of_some}
 use Rattle.core_rule.proofs.ways.Told.{HasRoom, head_in-value}
 
 -- a swap's word is one of its fragment's four
-pub swap_part : (heap : Heap) (state : State) (book : Book) (number : ℕ) → Rule heap state book → number < heap.seats → (seat_at state number).place ≡ places.Access Swapping
+pub swap_part_is_small : (heap : Heap) (state : State) (book : Book) (number : ℕ) → Rule heap state book → number < heap.seats → (seat_at state number).place ≡ places.Access Swapping
     → (seat_at state number).part < 4
-swap_part heap state book number rule here place = let fits : FitsAccess (seat_at state number) Swapping = rw place at (seat_fits rule number here).way_at_place in fits.0.2.part_within
+swap_part_is_small heap state book number rule here place = let fits : FitsAccess (seat_at state number) Swapping = rw place at (seat_fits rule number here).way_at_place in fits.0.2.part_within
 
 -- its fragment is one of the heap's, and has no spine, since a cell stands in it
-pub swap_within : (heap : Heap) (state : State) (book : Book) (number : ℕ) → Rule heap state book → number < heap.seats → (seat_at state number).reached < 16 * heap.groups
-swap_within heap state book number rule here = (seat_fits rule number here).way.reached_within
+pub swap_within_heap : (heap : Heap) (state : State) (book : Book) (number : ℕ) → Rule heap state book → number < heap.seats → (seat_at state number).reached < 16 * heap.groups
+swap_within_heap heap state book number rule here = (seat_fits rule number here).way.reached_within
 
-pub swap_no_spine : (heap : Heap) (state : State) (book : Book) (number : ℕ) → Rule heap state book → number < heap.seats → (seat_at state number).place ≡ places.Access Swapping
+pub swap_tells_no_spine : (heap : Heap) (state : State) (book : Book) (number : ℕ) → Rule heap state book → number < heap.seats → (seat_at state number).place ≡ places.Access Swapping
     → TellsNoSpine heap state.words (seat_at state number).reached
-swap_no_spine heap state book number rule here place =
-    watched_no_spine heap state book rule number here Swapping place tt
+swap_tells_no_spine heap state book number rule here place =
+    watched_tells_no_spine heap state book rule number here Swapping place tt
 
 module _ (heap : Heap) (state : State) (book : Book) (number : ℕ) (rule : Rule heap state book) (here : number < heap.seats)
     (place : (seat_at state number).place ≡ places.Access Swapping)
@@ -51,19 +51,19 @@ module _ (heap : Heap) (state : State) (book : Book) (number : ℕ) (rule : Rule
   words_swapped = put heap state.words (Word seat.reached seat.part) word
 
   room : HasRoom (object_head book.made book.fragments) value
-  room = has_room heap state.words (graph_of heap book.history) book.made book.owner book.fragments rule.machine.limits rule.heap_stands.control_words value names
+  room = named_value_has_room heap state.words (graph_of heap book.history) book.made book.owner book.fragments rule.machine.limits rule.heap_stands.control_words value names
 
   -- the new word is a cell's, so the fragment has no spine after it either
-  pub swapped_no_spine : TellsNoSpine heap words_swapped seat.reached
-  swapped_no_spine = put_no_spine heap state.words seat.reached seat.part word rule.machine.table (swap_within heap state book number rule here)
-      (ap spine_words_in is_word ∙ value_no_spine (object_head book.made book.fragments) value stamp room small) (swap_no_spine heap state book number rule here place)
+  pub swapped_tells_no_spine : TellsNoSpine heap words_swapped seat.reached
+  swapped_tells_no_spine = tells_no_spine_after_put heap state.words seat.reached seat.part word rule.machine.table (swap_within_heap heap state book number rule here)
+      (ap spine_words_in is_word ∙ value_tells_no_spine (object_head book.made book.fragments) value stamp room small) (swap_tells_no_spine heap state book number rule here place)
 
   -- the new word leads to the register's object
   new_leads : pointer_in seat.part word ≡ head_of_register (new_register_of seat)
   new_leads =
-      plain_lead seat.part word (ap is_meta is_word ∙ value_plain (object_head book.made book.fragments) value stamp room small) ∙ ap head_of is_word
+      plain_pointer_is_head seat.part word (ap is_meta is_word ∙ value_word_is_not_fixed (object_head book.made book.fragments) value stamp room small) ∙ ap head_of is_word
       ∙ head_in-value (object_head book.made book.fragments) value stamp room small
-      ∙ sym (held_head book.made book.owner book.fragments (new_register_of seat) value holds)
+      ∙ sym (register_head_is_named_head book.made book.owner book.fragments (new_register_of seat) value holds)
 
   -- which is marked while black fragments are made
   new_marked : IsBetween 2 5 p → (x : ℕ) → pointer_in seat.part word ≡ Some x → IsMarked book.colour x
@@ -71,35 +71,35 @@ module _ (heap : Heap) (state : State) (book : Book) (number : ℕ) (rule : Rule
       let stands = rule.seats_stand number here in
       let shaded : ShadedStands book.colour seat Swapping
       = subst (λ y. WhileAccess (ShadedStands book.colour seat) y) place (stands.cycle.flight.shaded (record { from = omega (arith, making.from); upto = making.upto })) in
-      let on = barrier_making p seat.answered (is_near heap state book number rule here Swapping place) making in
-      of_some (IsMarked book.colour) (head_of_register (new_register_of seat)) x (sym new_leads ∙ leads) (shaded on).1
+      let on = making_is_between_barriers p seat.answered (answer_is_near_phase heap state book number rule here Swapping place) making in
+      holds_of_some (IsMarked book.colour) (head_of_register (new_register_of seat)) x (sym new_leads ∙ leads) (shaded on).1
 
-  pub leads_now : LeadsStay heap state.words words_swapped book.owner book.colour p
-  leads_now making f source x born leads = elim (leads_put heap state.words seat.reached seat.part word (swap_within heap state book number rule here) (swap_part heap state book number rule here place)
-      (swap_no_spine heap state book number rule here place) swapped_no_spine rule.machine.table f source x leads) [
+  pub leads_stay_after_swap : LeadsStay heap state.words words_swapped book.owner book.colour p
+  leads_stay_after_swap making f source x born leads = elim (led_before_or_by_written heap state.words seat.reached seat.part word (swap_within_heap heap state book number rule here) (swap_part_is_small heap state book number rule here place)
+      (swap_tells_no_spine heap state book number rule here place) swapped_tells_no_spine rule.machine.table f source x leads) [
         | inl before ↦ inl before
         | inr new ↦ inr (new_marked making x new.2)
       ]
 
   -- the heap stands
-  pub heap_swapped : HeapInCycle heap words_swapped p book.owner book.colour book.fragments
-  heap_swapped =
+  pub heap_in_cycle_after_swap : HeapInCycle heap words_swapped p book.owner book.colour book.fragments
+  heap_in_cycle_after_swap =
       let cycle = rule.heap_stands.cycle in
       record {
         word = at-put_apart heap state.words (Word seat.reached seat.part) Phase word (λ e. omega (arith, e)) ∙ cycle.word;
-        marks = marks_same heap state.words words_swapped book.colour (λ group below. control_after_word heap state.words word seat.reached seat.part group below) cycle.marks;
-        coloured = coloured_stays heap state.words words_swapped book.owner book.owner book.colour book.fragments p leads_now (λ x marked born. born) (λ x i k keeps. keeps) cycle.coloured;
+        marks = marks_where_controls_same heap state.words words_swapped book.colour (λ group below. control_same_after_word heap state.words word seat.reached seat.part group below) cycle.marks;
+        coloured = coloured_stays heap state.words words_swapped book.owner book.owner book.colour book.fragments p leads_stay_after_swap (λ x marked born. born) (λ x i k keeps. keeps) cycle.coloured;
       }
 
   -- no answer changes
-  pub answer_swapped : (r : ℕ) → r < heap.seats → at heap words_swapped (Answer r) ≡ at heap state.words (Answer r)
-  answer_swapped r below = at-put_apart heap state.words (Word seat.reached seat.part) (Answer r) word (λ e. omega (arith, e, below, rule.machine.limits.seats_fit))
+  pub answer_same_after_swap : (r : ℕ) → r < heap.seats → at heap words_swapped (Answer r) ≡ at heap state.words (Answer r)
+  answer_same_after_swap r below = at-put_apart heap state.words (Word seat.reached seat.part) (Answer r) word (λ e. omega (arith, e, below, rule.machine.limits.seats_fit))
 
   -- and what the others need is left
-  pub leaves_swapped : (r : ℕ) → r < heap.seats → r ≢ number → LeavesCycle heap state.words words_swapped book.owner book.owner book.colour book.colour p r
-  leaves_swapped r below apart = record {
-    answer = answer_swapped r below;
-    leads = leads_now;
+  pub leaves_cycle_after_swap : (r : ℕ) → r < heap.seats → r ≢ number → LeavesCycle heap state.words words_swapped book.owner book.owner book.colour book.colour p r
+  leaves_cycle_after_swap r below apart = record {
+    answer = answer_same_after_swap r below;
+    leads = leads_stay_after_swap;
     marks = λ f marked. marked;
     births = λ f borne. (borne, refl);
   }

@@ -6,8 +6,8 @@ use Rattle.core_machine.specs.declared.table.address.Address.TheVariants.{Answer
 use Rattle.core_machine.specs.declared.place.Place.TheVariants as places
 use Rattle.core_machine.specs.declared.place.Polling.{Polling}
 use Rattle.core_machine.specs.declared.place.Access.{Access}
-use Rattle.core_rule.proofs.cycle.Barriers.{window_barrier}
-use Rattle.core_rule.proofs.cycle.CycleFrames.{SameAnswer, answers_same}
+use Rattle.core_rule.proofs.cycle.Barriers.{between_has_barrier}
+use Rattle.core_rule.proofs.cycle.CycleFrames.{SameAnswer, answers_agree_still}
 
 -- the place is none of a set or an answer
 abbrev pub IsApart : Place → Type 0
@@ -55,21 +55,21 @@ unwatched_field : (heap : Heap) (words : List ℕ) (colour : ℕ → Colour) (se
 unwatched_field heap words colour seat snapped ShadingOld unwatched = absurd unwatched
 unwatched_field heap words colour seat snapped ShadingNew unwatched = absurd unwatched
 unwatched_field heap words colour seat snapped Swapping unwatched =
-    absurd (not_both (has_barrier_of seat) unwatched (window_barrier seat record { from = omega (arith, snapped.from); upto = snapped.upto }))
+    absurd (not_both (has_barrier_of seat) unwatched (between_has_barrier seat record { from = omega (arith, snapped.from); upto = snapped.upto }))
 unwatched_field heap words colour seat snapped _ unwatched = tt
 
 unwatched_shaded : (colour : ℕ → Colour) (seat : Seat) (place : Access) → IsUnwatched (has_barrier_of seat) place → ShadedStands colour seat place
 unwatched_shaded colour seat ShadingNew unwatched = absurd unwatched
-unwatched_shaded colour seat Swapping unwatched = λ on. absurd (not_both (has_barrier_of seat) unwatched (window_barrier seat on))
+unwatched_shaded colour seat Swapping unwatched = λ on. absurd (not_both (has_barrier_of seat) unwatched (between_has_barrier seat on))
 unwatched_shaded colour seat _ unwatched = tt
 
 -- a seat that goes to such a place has its part in the cycle
-pub cycle_unwatched : (heap : Heap) (words now : List ℕ) (owner later : ℕ → Owner) (colour coloured : ℕ → Colour) (phase answers : ℕ) (gone : Bool) (number : ℕ) (seat next : Seat)
+pub seat_in_cycle_unwatched : (heap : Heap) (words now : List ℕ) (owner later : ℕ → Owner) (colour coloured : ℕ → Colour) (phase answers : ℕ) (gone : Bool) (number : ℕ) (seat next : Seat)
     → SameAnswer seat next → IsUnwatchedAt (has_barrier_of next) next.place → at heap now (Answer number) ≡ at heap words (Answer number)
     → BornColours later coloured number next.answered
     → SeatInCycle heap words phase answers gone owner colour number seat → SeatInCycle heap now phase answers gone later coloured number next
-cycle_unwatched heap words now owner later colour coloured phase answers gone number seat next same unwatched word births cycle = record {
-  answers_told = answers_same heap words now phase answers gone number seat next same word cycle.answers_told;
+seat_in_cycle_unwatched heap words now owner later colour coloured phase answers gone number seat next same unwatched word births cycle = record {
+  answers_told = answers_agree_still heap words now phase answers gone number seat next same word cycle.answers_told;
   answer = unwatched_answers phase next.answered next.asked (has_barrier_of next) next.place unwatched;
   flight = record {
     set = λ marking snapped. unwatched_access (FieldStands heap now coloured next) (has_barrier_of next) (unwatched_field heap now coloured next snapped) next.place unwatched;
@@ -80,9 +80,9 @@ cycle_unwatched heap words now owner later colour coloured phase answers gone nu
 }
 
 -- so has one that goes to a place of neither a set nor an answer
-pub cycle_apart : (heap : Heap) (words now : List ℕ) (owner later : ℕ → Owner) (colour coloured : ℕ → Colour) (phase answers : ℕ) (gone : Bool) (number : ℕ) (seat next : Seat)
+pub seat_in_cycle_apart : (heap : Heap) (words now : List ℕ) (owner later : ℕ → Owner) (colour coloured : ℕ → Colour) (phase answers : ℕ) (gone : Bool) (number : ℕ) (seat next : Seat)
     → SameAnswer seat next → IsApart next.place → at heap now (Answer number) ≡ at heap words (Answer number)
     → BornColours later coloured number next.answered
     → SeatInCycle heap words phase answers gone owner colour number seat → SeatInCycle heap now phase answers gone later coloured number next
-cycle_apart heap words now owner later colour coloured phase answers gone number seat next same apart =
-    cycle_unwatched heap words now owner later colour coloured phase answers gone number seat next same (apart_unwatched (has_barrier_of next) next.place apart)
+seat_in_cycle_apart heap words now owner later colour coloured phase answers gone number seat next same apart =
+    seat_in_cycle_unwatched heap words now owner later colour coloured phase answers gone number seat next same (apart_unwatched (has_barrier_of next) next.place apart)

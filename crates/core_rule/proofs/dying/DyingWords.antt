@@ -3,8 +3,8 @@ use Rattle.std.proofs.Common.{◌≡◌, ◌≢◌, ℕ, ◌<◌, ◌⊎◌, Lis
 use Rattle.heap_words.specs.declared.spot.Spot.{Spot}
 use Rattle.core_rule.proofs.Terms.{Heap, Node, Place, Seat, Book, Colour, White, Grey, Black, fragment_at, Owner, Kept, SpineOwner, Placed, Spined, Gone, IsLeftReplica}
 use Rattle.core_rule.proofs.Terms.{AddressStands, SpinesStand, SpineInHand, TellsWords, Word, at}
-use Rattle.core_rule.proofs.marking.Settled.{settled_owners, settled_was, settled_stays, settled_dies}
-use Rattle.core_rule.proofs.ways.LoadedPlaces.{loaded_goes}
+use Rattle.core_rule.proofs.marking.Settled.{settled_owners, settled_kept_was_marked, marked_kept_stays_kept, settled_dead_was_or_kept}
+use Rattle.core_rule.proofs.ways.LoadedPlaces.{while_loaded_goes_on}
 
 -- what becomes of an array's spine word by the colour of the array's first fragment
 abbrev pub settled_array : Colour → ℕ → ℕ → SpineOwner
@@ -29,14 +29,14 @@ settled_book book = record book {
 
 module _ (heads : ℕ → Colour) where
   -- what a seat has it had
-  pub placed_was : (o : SpineOwner) (number k : ℕ) → settled_word heads o ≡ Placed number k → o ≡ Placed number k
-  placed_was (Spined i j) number k is = absurd (by (heads i) is)
+  pub placed_before_settling : (o : SpineOwner) (number k : ℕ) → settled_word heads o ≡ Placed number k → o ≡ Placed number k
+  placed_before_settling (Spined i j) number k is = absurd (by (heads i) is)
     where
       by : (c : Colour) → settled_array c i j ≢ Placed number k
       by White e = cc
       by Grey e = cc
       by Black e = cc
-  placed_was _ number k is = is
+  placed_before_settling _ number k is = is
 
   -- and an array, whose first fragment is marked
   spined_was : (o : SpineOwner) (i k : ℕ) → settled_word heads o ≡ Spined i k → (o ≡ Spined i k) × (heads i ≢ White)
@@ -75,38 +75,38 @@ module _ (heap : Heap) (words : List ℕ) (owner : ℕ → Owner) (colour : ℕ 
   words_later half offset = settled_word heads (spine_owner half offset)
 
   -- so the spine words stand, where what is kept tells how many it has
-  pub spines_settle : (seats made : ℕ) (nodes : ℕ → Node) (spines : ℕ → Spot) → ((f i k : ℕ) → owner f ≡ Kept i k → (i < made) × TellsWords (nodes i) k (at heap words (Word f 0)))
+  pub spines_stand_after_settling : (seats made : ℕ) (nodes : ℕ → Node) (spines : ℕ → Spot) → ((f i k : ℕ) → owner f ≡ Kept i k → (i < made) × TellsWords (nodes i) k (at heap words (Word f 0)))
       → SpinesStand heap words seats made nodes owner fragments spines spine_owner
       → SpinesStand heap words seats made nodes later fragments spines words_later
-  spines_settle seats made nodes spines kept_tell old = record {
+  spines_stand_after_settling seats made nodes spines kept_tell old = record {
     spot = old.spot;
-    parties = λ half offset party k is. old.parties half offset party k (placed_was heads (spine_owner half offset) party k is);
+    parties = λ half offset party k is. old.parties half offset party k (placed_before_settling heads (spine_owner half offset) party k is);
     kept = λ i j below is within.
-        let was = settled_was (owner (fragment_at (fragments i) 0)) (colour (fragment_at (fragments i) 0)) i 0 is in
+        let was = settled_kept_was_marked (owner (fragment_at (fragments i) 0)) (colour (fragment_at (fragments i) 0)) i 0 is in
         spined_stays heads _ i j (old.kept i j below was.0 within) was.1;
     back = λ half offset i j is.
         let was = spined_was heads (spine_owner half offset) i j is in
         let one = old.back half offset i j was.0 in
-        (one.0, settled_stays _ _ i 0 one.1 was.1, one.2, one.3);
-    tells = λ f i k is. elim (settled_dies (owner f) (colour f) i k is) as (λ _. (i < made) × TellsWords (nodes i) k (at heap words (Word f 0))) [
+        (one.0, marked_kept_stays_kept _ _ i 0 one.1 was.1, one.2, one.3);
+    tells = λ f i k is. elim (settled_dead_was_or_kept (owner f) (colour f) i k is) as (λ _. (i < made) × TellsWords (nodes i) k (at heap words (Word f 0))) [
       | inl dead ↦ old.tells f i k dead
       | inr kept ↦ kept_tell f i k kept
     ];
   }
 
   -- and those that a seat has
-  pub spine_settles : (number : ℕ) (seat : Seat) → SpineInHand heap words spine_owner number seat → SpineInHand heap words words_later number seat
-  spine_settles number seat old = record {
+  pub spine_in_hand_after_settling : (number : ℕ) (seat : Seat) → SpineInHand heap words spine_owner number seat → SpineInHand heap words words_later number seat
+  spine_in_hand_after_settling number seat old = record {
     placed = λ has j less. placed_stays heads _ number j (old.placed has j less);
-    own = λ half offset j is. old.own half offset j (placed_was heads (spine_owner half offset) number j is);
+    own = λ half offset j is. old.own half offset j (placed_before_settling heads (spine_owner half offset) number j is);
     stored = old.stored;
   }
 
   -- and the place of a spine that a call has loaded
-  pub address_settles : (nodes : ℕ → Node) (spines : ℕ → Spot) (seat : Seat) (place : Place)
+  pub address_stands_after_settling : (nodes : ℕ → Node) (spines : ℕ → Spot) (seat : Seat) (place : Place)
       → AddressStands heap words nodes owner fragments spines spine_owner seat place → AddressStands heap words nodes later fragments spines words_later seat place
-  address_settles nodes spines seat place = loaded_goes place (λ has reads i f calls is an_array.
-      elim (reads i f calls (settled_was (owner f) (colour f) i 0 is).0 an_array)
+  address_stands_after_settling nodes spines seat place = while_loaded_goes_on place (λ has reads i f calls is an_array.
+      elim (reads i f calls (settled_kept_was_marked (owner f) (colour f) i 0 is).0 an_array)
       as (λ _. (seat.address ≡ spines i) ⊎ IsLeftReplica heap words (nodes i) (fragments i) words_later seat.answered seat.address) [
         | inl own ↦ inl own
         | inr replica ↦ inr record { late = replica.late; left = λ k less. ap (settled_word heads) (replica.left k less); listed = replica.listed }

@@ -5,12 +5,12 @@ use Rattle.core_rule.proofs.Terms.{words_in_half, nodes_in, returning, copying_w
 use Rattle.core_rule.proofs.Terms.{SpaceStands, next_spine}
 use Rattle.heap_model.specs.PhasePlan.{marking as marking_phase}
 use Rattle.core_machine.specs.declared.collector.stage.Stage.TheVariants as stages
-use Rattle.core_rule.proofs.marking.Settled.{settled_was, settled_same}
-use Rattle.core_rule.proofs.dying.DyingWords.{settled_book, head_colour, settled_word, placed_was}
-use Rattle.core_rule.proofs.halves.HalfSums.{kept_sum_agrees, words_here, both_sums_same}
+use Rattle.core_rule.proofs.marking.Settled.{settled_kept_was_marked, settled_bit_same}
+use Rattle.core_rule.proofs.dying.DyingWords.{settled_book, head_colour, settled_word, placed_before_settling}
+use Rattle.core_rule.proofs.halves.HalfSums.{kept_sum_of_equal_weights, words_in_own_half, kept_and_dead_sums_same}
 use Rattle.core_rule.proofs.halves.HalvesFrames.{IsPlain}
-use Rattle.core_rule.proofs.halves.StagesOn.{plain_goes_on}
-use Rattle.core_rule.proofs.halves.Leaving.{not_leaving, none_copied, copy_away, arrays_here, hands_here}
+use Rattle.core_rule.proofs.halves.StagesOn.{plain_stage_goes_on}
+use Rattle.core_rule.proofs.halves.Leaving.{marking_is_not_leaving, uncopied_is_not_placed, copy_in_hand_where_none, arrays_in_next_spine_half, seat_spine_in_next_half}
 use Rattle.core_rule.proofs.steps.TurnSteps.{after_turn}
 
 module _ (heap : Heap) (state : State) (book : Book) (rule : Rule heap state book) (group : ℕ) (found : Bool) (passing : state.collector.stage ≡ stages.Passing group found)
@@ -32,23 +32,23 @@ module _ (heap : Heap) (state : State) (book : Book) (rule : Rule heap state boo
 
   -- all arrays stand in the half of the next spine
   stand_here : (i : ℕ) → i < length book.made → IsKept book.owner book.fragments i → (nodes_in heap book i).array ≡ true → (book.spines i).half ≡ half
-  stand_here = arrays_here heap state book rule.space.halves (λ f waits. subst (λ stage. AwaitsCopy state.collector.phase stage f) passing waits)
+  stand_here = arrays_in_next_spine_half heap state book rule.space.halves (λ f waits. subst (λ stage. AwaitsCopy state.collector.phase stage f) passing waits)
 
   -- so what is kept has all its words there, before and after
   kept_here : (f i k : ℕ) → book.owner f ≡ Kept i k → words_in_half half (nodes_in heap book) book.spines i ≡ words i
-  kept_here f i k kept = let one = rule.heap_stands.objects.back f i k kept in words_here half (nodes_in heap book) book.spines i (stand_here i one.0 one.1)
+  kept_here f i k kept = let one = rule.heap_stands.objects.back f i k kept in words_in_own_half half (nodes_in heap book) book.spines i (stand_here i one.0 one.1)
 
   was_here : kept_sum heap (words_in_half half (nodes_in heap book) book.spines) book.owner ≡ kept_sum heap words book.owner
-  was_here = kept_sum_agrees heap book.owner words (words_in_half half (nodes_in heap book) book.spines) kept_here
+  was_here = kept_sum_of_equal_weights heap book.owner words (words_in_half half (nodes_in heap book) book.spines) kept_here
 
   is_here : kept_sum heap (words_in_half half (nodes_in heap book) book.spines) now.owner ≡ kept_sum heap words now.owner
-  is_here = kept_sum_agrees heap now.owner words (words_in_half half (nodes_in heap book) book.spines)
-      (λ f i k kept. kept_here f i k (settled_was (book.owner f) (book.colour f) i k kept).0)
+  is_here = kept_sum_of_equal_weights heap now.owner words (words_in_half half (nodes_in heap book) book.spines)
+      (λ f i k kept. kept_here f i k (settled_kept_was_marked (book.owner f) (book.colour f) i k kept).0)
 
   -- the words of what dies are those that are to be returned
   both_same : kept_sum heap words now.owner + dead_sum heap words now.owner ≡ kept_sum heap words book.owner + dead_sum heap words book.owner
-  both_same = both_sums_same heap words book.owner now.owner
-      (λ f. settled_same (λ o. kept_weight words o + dead_weight words o) (λ i k. omega arith) (book.owner f) (book.colour f))
+  both_same = kept_and_dead_sums_same heap words book.owner now.owner
+      (λ f. settled_bit_same (λ o. kept_weight words o + dead_weight words o) (λ i k. omega arith) (book.owner f) (book.colour f))
 
   none_returning : returning state.collector.stage ≡ 0
   none_returning = rw passing refl
@@ -63,8 +63,8 @@ module _ (heap : Heap) (state : State) (book : Book) (rule : Rule heap state boo
   budgets_settle =
       let old = rule.space.budgets in
       record {
-        level = λ unleft. omega (arith, old.level (not_leaving state.collector.phase state.collector.stage third before_flip), was_here, is_here, both_same, none_returning, none_copying);
-        leaving = λ leaving. absurd (not_leaving state.collector.phase stages.Flipping third (λ e. cc) leaving);
+        level = λ unleft. omega (arith, old.level (marking_is_not_leaving state.collector.phase state.collector.stage third before_flip), was_here, is_here, both_same, none_returning, none_copying);
+        leaving = λ leaving. absurd (marking_is_not_leaving state.collector.phase stages.Flipping third (λ e. cc) leaving);
         word = omega (arith, old.word, both_same, none_returning);
         told = omega (arith, old.told, both_same, none_returning);
         low = omega (arith, old.low, both_same, none_returning);
@@ -76,22 +76,22 @@ module _ (heap : Heap) (state : State) (book : Book) (rule : Rule heap state boo
   halves_settle : HalvesStand heap (after_turn state state.words is) now
   halves_settle =
       let old = rule.space.halves in
-      let on = plain_goes_on heap state.words state.words book state.collector is refl (subst IsPlain (sym passing) tt) tt (λ half offset. refl) old.copy in
+      let on = plain_stage_goes_on heap state.words state.words book state.collector is refl (subst IsPlain (sym passing) tt) tt (λ half offset. refl) old.copy in
       record {
         half = old.half ∙ sym on.half;
         before = λ half offset some. elim (old.before half offset (λ none. some (ap (settled_word (head_colour book.colour book.fragments)) none)))
             as (λ _. IsBeforeNext (next_spine heap state.words) half offset ⊎ IsLeftBehind heap (next_spine heap state.words) state.collector.phase stages.Flipping half offset) [
               | inl here ↦ inl here
-              | inr behind ↦ absurd (not_leaving state.collector.phase state.collector.stage third before_flip behind.leaving)
+              | inr behind ↦ absurd (marking_is_not_leaving state.collector.phase state.collector.stage third before_flip behind.leaving)
             ];
-        arrays = λ i below kept kind. inl (stand_here i below (settled_was (book.owner (fragment_at (book.fragments i) 0)) (book.colour (fragment_at (book.fragments i) 0)) i 0 kept).0 kind);
-        hands = λ r below has. inl (hands_here heap state book old r below (λ range. not_leaving state.collector.phase state.collector.stage third before_flip range.leaving) has);
+        arrays = λ i below kept kind. inl (stand_here i below (settled_kept_was_marked (book.owner (fragment_at (book.fragments i) 0)) (book.colour (fragment_at (book.fragments i) 0)) i 0 kept).0 kind);
+        hands = λ r below has. inl (seat_spine_in_next_half heap state book old r below (λ range. marking_is_not_leaving state.collector.phase state.collector.stage third before_flip range.leaving) has);
         swung = λ copies. absurd (omega (arith, copies, third));
         copies = tt;
-        copy = copy_away heap state.words now.spine_owner stages.Flipping refl (λ half offset k placed. none_copied heap state.words book.spine_owner state.collector.stage (rw passing refl) old.copy half offset k
-            (placed_was (head_colour book.colour book.fragments) (book.spine_owner half offset) heap.seats k placed));
+        copy = copy_in_hand_where_none heap state.words now.spine_owner stages.Flipping refl (λ half offset k placed. uncopied_is_not_placed heap state.words book.spine_owner state.collector.stage (rw passing refl) old.copy half offset k
+            (placed_before_settling (head_colour book.colour book.fragments) (book.spine_owner half offset) heap.seats k placed));
       }
 
   -- the spine space stands before the flip
-  pub space_settles : SpaceStands heap (after_turn state state.words is) now
-  space_settles = record { budgets = budgets_settle; halves = halves_settle }
+  pub space_stands_after_settling : SpaceStands heap (after_turn state state.words is) now
+  space_stands_after_settling = record { budgets = budgets_settle; halves = halves_settle }

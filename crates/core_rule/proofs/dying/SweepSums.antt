@@ -7,15 +7,15 @@ use Rattle.heap_words.specs.Control.{next_place_of}
 use Rattle.core_rule.proofs.Terms.{Heap, sum_upto, SweepCounts, dead_weight, dead_sum, Owner, Free, Dead, dead_bit, owner_after, AreDead}
 use Rattle.core_machine.specs.collector.Sweeping.{after_swept, after_examined}
 use Rattle.core_machine.specs.declared.collector.stage.Stage.TheVariants as stages
-use Rattle.core_machine.proofs.table_lemmas.DeadBits.{place_found, place_none}
-use Rattle.core_machine.proofs.table_lemmas.Free.{sum_same, sum_zero, sum_but_one}
+use Rattle.core_machine.proofs.table_lemmas.DeadBits.{found_place_has_bit, no_place_no_bit}
+use Rattle.core_machine.proofs.table_lemmas.Free.{sum_of_same_functions, sum_of_nothing_is_zero, sum_but_one_number}
 use Rattle.core_rule.proofs.lists.SumLemmas.{sum_parts, sum_blocks}
 use Rattle.core_rule.proofs.marking.SweepMarks.{after_swept_either}
-use Rattle.core_rule.proofs.owners.DeadOwners.{dead_told}
-use Rattle.core_rule.proofs.owners.Handed.{handed_out, handed_cases}
-use Rattle.core_rule.proofs.turns.NextPlaces.{place_after}
-use Rattle.core_rule.proofs.words.MarkedPlaces.{next_first}
-use Rattle.core_rule.proofs.words.SetBits.{set_in, set_here, set_away}
+use Rattle.core_rule.proofs.owners.DeadOwners.{dead_has_its_bit}
+use Rattle.core_rule.proofs.owners.Handed.{unhanded_keeps_owner, handed_cases}
+use Rattle.core_rule.proofs.turns.NextPlaces.{next_place_is_not_before}
+use Rattle.core_rule.proofs.words.MarkedPlaces.{none_marked_before_next}
+use Rattle.core_rule.proofs.words.SetBits.{set_in, set_tally_is_bit, no_other_is_set}
 
 -- what isn't to be freed weighs nothing
 pub undead_weight : (words : ℕ → ℕ) (o : Owner) → dead_bit o ≡ 0 → dead_weight words o ≡ 0
@@ -35,7 +35,7 @@ module _ (heap : Heap) (words : ℕ → ℕ) (owner : ℕ → Owner) (group dead
   sum_on : (from place : ℕ) → from ≤ place → place ≤ 16 → ((i : ℕ) → from ≤ i → i < place → bit_at dead i ≡ 0) → sum_upto place at_place ≡ sum_upto from at_place
   sum_on from place before within unset =
       let whole : from + (place - from) ≡ place = omega (arith, before) in
-      let none = sum_zero (place - from) (λ i. at_place (from + i)) (λ i below. unset_none (from + i) (omega (arith, below, within)) (unset (from + i) (omega arith) (omega (arith, below)))) in
+      let none = sum_of_nothing_is_zero (place - from) (λ i. at_place (from + i)) (λ i below. unset_none (from + i) (omega (arith, below, within)) (unset (from + i) (omega arith) (omega (arith, below)))) in
       let parts = sum_parts from (place - from) at_place in
       subst (λ n. sum_upto n at_place ≡ sum_upto from at_place) whole (omega (arith, parts, none))
 
@@ -43,17 +43,17 @@ module _ (heap : Heap) (words : ℕ → ℕ) (owner : ℕ → Owner) (group dead
       → SweepCounts words owner (if dead == 0 then after_swept heap group else stages.Freeing group dead counted)
   freed_counts counted from is few none = elim (eqb_tells dead 0) as (λ _. SweepCounts words owner (if dead == 0 then after_swept heap group else stages.Freeing group dead counted)) [
     | inl nothing ↦ rw nothing.0 (after_swept_either (SweepCounts words owner) heap group tt (λ last. tt))
-    | inr some ↦ rw some.0 (is ∙ sym (sum_on from 16 few (omega arith) (λ i after below. place_none dead from i none after below)))
+    | inr some ↦ rw some.0 (is ∙ sym (sum_on from 16 few (omega arith) (λ i after below. no_place_no_bit dead from i none after below)))
   ]
 
   -- where so many were counted before a place, so many are before the next one whose bit is set, or in all
-  pub counts_on : (counted from : ℕ) → counted ≡ sum_upto from at_place → from ≤ 16 → (next : Option ℕ) → next_place_of dead from ≡ next
+  pub sweep_counts_after_examined : (counted from : ℕ) → counted ≡ sum_upto from at_place → from ≤ 16 → (next : Option ℕ) → next_place_of dead from ≡ next
       → SweepCounts words owner (after_examined heap group dead counted next)
-  counts_on counted from is few None none = freed_counts counted from is few none
-  counts_on counted from is few (Some place) found =
-      let after : from ≤ place = rw found at (place_after dead from) in
-      let within = (place_found dead from place found).0 in
-      is ∙ sym (sum_on from place after (omega (arith, within)) (λ i upon below. next_first dead from place i found upon below))
+  sweep_counts_after_examined counted from is few None none = freed_counts counted from is few none
+  sweep_counts_after_examined counted from is few (Some place) found =
+      let after : from ≤ place = rw found at (next_place_is_not_before dead from) in
+      let within = (found_place_has_bit dead from place found).0 in
+      is ∙ sym (sum_on from place after (omega (arith, within)) (λ i upon below. none_marked_before_next dead from place i found upon below))
 
 module _ (heap : Heap) (words : ℕ → ℕ) (owner : ℕ → Owner) (group dead : ℕ) (below : group < heap.groups) (small : dead < 2 ^ 16) (are : AreDead owner group dead) where
   abbrev freed : ℕ → Owner
@@ -63,17 +63,17 @@ module _ (heap : Heap) (words : ℕ → ℕ) (owner : ℕ → Owner) (group dead
   none_left : (j : ℕ) → j < 16 → dead_weight words (freed (16 * group + j)) ≡ 0
   none_left j less = handed_cases (λ o. dead_weight words o ≡ 0) Free owner (set_in group dead) (16 * group + j) (λ there. refl) (λ away.
       let here : (16 * group + j) / 16 ≡ group = omega (arith, less) in
-      undead_weight words (owner (16 * group + j)) (omega (arith, away, set_here group dead small (16 * group + j) here, dead_told owner group dead small are (16 * group + j) here)))
+      undead_weight words (owner (16 * group + j)) (omega (arith, away, set_tally_is_bit group dead small (16 * group + j) here, dead_has_its_bit owner group dead small are (16 * group + j) here)))
 
   -- and in each other group what began there
   others_stay : (g j : ℕ) → g ≢ group → j < 16 → freed (16 * g + j) ≡ owner (16 * g + j)
-  others_stay g j apart less = handed_out Free owner (set_in group dead) (16 * g + j) (set_away group dead (16 * g + j) (λ here. apart (omega (arith, here, less))))
+  others_stay g j apart less = unhanded_keeps_owner Free owner (set_in group dead) (16 * g + j) (no_other_is_set group dead (16 * g + j) (λ here. apart (omega (arith, here, less))))
 
   -- so the words of what is to be freed are fewer by those of the group
-  pub dead_less : dead_sum heap words freed + sum_upto 16 (at_place heap words owner group dead are) ≡ dead_sum heap words owner
-  dead_less =
+  pub dead_sum_falls_by_group : dead_sum heap words freed + sum_upto 16 (at_place heap words owner group dead are) ≡ dead_sum heap words owner
+  dead_sum_falls_by_group =
       let block : (ℕ → Owner) → ℕ → ℕ = λ o g. sum_upto 16 (λ j. dead_weight words (o (16 * g + j))) in
-      let change = sum_but_one heap.groups (block freed) (block owner) group below
-      (λ g less apart. sum_same 16 (λ j. dead_weight words (freed (16 * g + j))) (λ j. dead_weight words (owner (16 * g + j))) (λ j few. ap (dead_weight words) (others_stay g j apart few))) in
-      let none = sum_zero 16 (λ j. dead_weight words (freed (16 * group + j))) none_left in
+      let change = sum_but_one_number heap.groups (block freed) (block owner) group below
+      (λ g less apart. sum_of_same_functions 16 (λ j. dead_weight words (freed (16 * g + j))) (λ j. dead_weight words (owner (16 * g + j))) (λ j few. ap (dead_weight words) (others_stay g j apart few))) in
+      let none = sum_of_nothing_is_zero 16 (λ j. dead_weight words (freed (16 * group + j))) none_left in
       omega (arith, change, none, sum_blocks 16 heap.groups (λ f. dead_weight words (freed f)), sum_blocks 16 heap.groups (λ f. dead_weight words (owner f)))

@@ -9,9 +9,9 @@ use Rattle.core_machine.specs.declared.collector.stage.Copying.{Copying}
 use Rattle.core_machine.specs.declared.collector.stage.Stage.TheVariants as stages
 use Rattle.core_rule.proofs.objects.ObjectFrames.{SameKept}
 use Rattle.core_rule.proofs.budgets.BudgetFrames.{kept_sum_stays}
-use Rattle.core_rule.proofs.halves.Leaving.{arrays_here}
+use Rattle.core_rule.proofs.halves.Leaving.{arrays_in_next_spine_half}
 use Rattle.core_rule.proofs.spines.OtherWords.{LeavesPlaces}
-use Rattle.core_rule.proofs.halves.StagesOn.{copy_moves}
+use Rattle.core_rule.proofs.halves.StagesOn.{copy_in_hand_at_stage}
 use Rattle.core_rule.proofs.steps.TurnSteps.{after_turn}
 
 -- nothing is copied at the stage
@@ -105,15 +105,15 @@ module _ (heap : Heap) (state : State) (book : Book) (rule : Rule heap state boo
         ]);
         swung = λ copies. absurd (omega (arith, copies, swept));
         copies = none_copies _ stage none;
-        copy = copy_moves heap state.words words book.spine_owner state.collector.stage stage places.spines (none_copy stage none ∙ sym (none_copy state.collector.stage was_none)) old.copy;
+        copy = copy_in_hand_at_stage heap state.words words book.spine_owner state.collector.stage stage places.spines (none_copy stage none ∙ sym (none_copy state.collector.stage was_none)) old.copy;
       }
     where
       half_same : half_at p state.collector.stage ≡ half_at p stage
       half_same = rw swept refl
 
       array_here : (i : ℕ) → i < length book.made → IsKept book.owner book.fragments i → (nodes_in heap book i).array ≡ true → (book.spines i).half ≡ next.half
-      array_here = arrays_here heap state book rule.space.halves (λ f. none_awaits p state.collector.stage f swept was_none)
+      array_here = arrays_in_next_spine_half heap state book rule.space.halves (λ f. none_awaits p state.collector.stage f swept was_none)
 
   -- so it stands
-  pub space_swept : (returns : ℕ) → Sweeps returns → SpaceStands heap turned later
-  space_swept returns sweeps = record { budgets = budgets_swept returns sweeps; halves = halves_swept }
+  pub space_stands_after_sweep : (returns : ℕ) → Sweeps returns → SpaceStands heap turned later
+  space_stands_after_sweep returns sweeps = record { budgets = budgets_swept returns sweeps; halves = halves_swept }

@@ -9,8 +9,8 @@ use Rattle.heap_model.specs.Command.{IsCommand}
 use Rattle.heap_model.specs.account.Phases.{ShowsPhases}
 use Rattle.heap_model.specs.graph.Replies.{Says}
 use Rattle.heap_model.proofs.Histories.{graph_after-more}
-use Rattle.core_rule.proofs.entries.Legality.{keeps_answers, keeps_said}
-use Rattle.core_rule.proofs.entries.OwnEntries.{total_of-own}
+use Rattle.core_rule.proofs.entries.Legality.{keeps_space_of_answers, keeps_space_of_plain_said}
+use Rattle.core_rule.proofs.entries.OwnEntries.{total_of_grows_by_own}
 use Rattle.core_rule.proofs.entries.PhaseEntries.{phase_stays, answered_rises}
 use Rattle.core_rule.proofs.frames.SeatFrames.{with_entry}
 
@@ -38,35 +38,35 @@ module _ (heap : Heap) (book : Book) (number p : ℕ) (command : Command) (polls
   own = eq-eqb number number refl
 
   -- the graph is the same after each of the two
-  pub graph_answer : middle ≡ g
-  graph_answer = graph_after-more (opening heap) book.history answer_entry
+  pub graph_same_after_answer : middle ≡ g
+  graph_same_after_answer = graph_after-more (opening heap) book.history answer_entry
 
-  pub graph_reply : graph_of heap answered_book.history ≡ middle
-  graph_reply = graph_after-more (opening heap) middle_book.history reply_entry ∙ ap (λ c. after_reply middle number c (replies.Phase p)) polls
+  pub graph_same_after_reply : graph_of heap answered_book.history ≡ middle
+  graph_same_after_reply = graph_after-more (opening heap) middle_book.history reply_entry ∙ ap (λ c. after_reply middle number c (replies.Phase p)) polls
 
   -- and so is the phase
-  pub phase_answer : phase middle_book.history ≡ phase book.history
-  phase_answer = phase_stays book.history answer_entry refl
+  pub phase_same_after_answer : phase middle_book.history ≡ phase book.history
+  phase_same_after_answer = phase_stays book.history answer_entry refl
 
   -- the reply is the graph's
   pub accepts_reply : (graph_seat g number).left ≡ false → Accepts middle reply_entry
-  accepts_reply present = (rw graph_answer present, subst IsCommand (sym polls) tt, subst (λ c. Says middle number c (replies.Phase p)) (sym polls) tt)
+  accepts_reply present = (rw graph_same_after_answer present, subst IsCommand (sym polls) tt, subst (λ c. Says middle number c (replies.Phase p)) (sym polls) tt)
 
   module _ (now : p ≡ phase book.history) (next : p ≡ last_answer number book.history + 1) where
     -- the seat has answered the phase
-    pub has_answered : last_answer number middle_book.history ≡ p
-    has_answered = answered_rises book.history answer_entry number own refl ∙ omega (arith, next)
+    pub seat_has_answered_phase : last_answer number middle_book.history ≡ p
+    seat_has_answered_phase = answered_rises book.history answer_entry number own refl ∙ omega (arith, next)
 
     -- each keeps the rules
-    pub keeps_answer : KeepsSpace heap false book.history answer_entry
-    keeps_answer = keeps_answers heap false book.history number p (now, omega (arith, next))
+    pub keeps_space_of_answer : KeepsSpace heap false book.history answer_entry
+    keeps_space_of_answer = keeps_space_of_answers heap false book.history number p (now, omega (arith, next))
 
-    pub keeps_reply : spent_of number book.history ≤ taken_of number book.history → taken_of number book.history ≤ spent_of number book.history + 15 → KeepsSpace heap false middle_book.history reply_entry
-    keeps_reply enough little =
-        let taken : taken_of number middle_book.history ≡ taken_of number book.history = omega (arith, total_of-own number (λ e. e.taken) book.history answer_entry own) in
+    pub keeps_space_of_reply : spent_of number book.history ≤ taken_of number book.history → taken_of number book.history ≤ spent_of number book.history + 15 → KeepsSpace heap false middle_book.history reply_entry
+    keeps_space_of_reply enough little =
+        let taken : taken_of number middle_book.history ≡ taken_of number book.history = omega (arith, total_of_grows_by_own number (λ e. e.taken) book.history answer_entry own) in
         let spent : spent_of number middle_book.history ≡ spent_of number book.history
-        = omega (arith, total_of-own number (λ e. e.given) book.history answer_entry own, total_of-own number (λ e. e.born) book.history answer_entry own) in
-        keeps_said heap false middle_book.history number command (replies.Phase p) refl tt tt
-        (subst (λ c. ShowsPhases heap false middle_book.history number c (replies.Phase p)) (sym polls) (now ∙ sym phase_answer, sym has_answered))
+        = omega (arith, total_of_grows_by_own number (λ e. e.given) book.history answer_entry own, total_of_grows_by_own number (λ e. e.born) book.history answer_entry own) in
+        keeps_space_of_plain_said heap false middle_book.history number command (replies.Phase p) refl tt tt
+        (subst (λ c. ShowsPhases heap false middle_book.history number c (replies.Phase p)) (sym polls) (now ∙ sym phase_same_after_answer, sym seat_has_answered_phase))
         (omega (arith, taken, spent, enough))
         (subst (λ c. taken_of number middle_book.history ≤ spent_of number middle_book.history + most_kept c) (sym polls) (omega (arith, taken, spent, little)))

@@ -3,36 +3,36 @@ use Rattle.std.proofs.Common.{◌≡◌, ◌≢◌, ℕ, ◌+◌, ◌<◌, ◌�
 use Rattle.std.proofs.lemmas.Bool.{false_from_ne_true}
 use Rattle.core_rule.proofs.Terms.{Heap, taken_of, spent_of, Place, Fits, IsAtRest, SeatIsRefusing, State, seat_at, Seat, Book, IsAwaited, Rule}
 use Rattle.core_machine.specs.declared.place.Place.TheVariants as places
-use Rattle.core_rule.proofs.hand.Bodies.{bare_hand}
+use Rattle.core_rule.proofs.hand.Bodies.{bare_seat_holds_reserve}
 
 -- each seat's own data fit together, as the machine says
 pub seat_fits : {heap : Heap} {state : State} {book : Book} → Rule heap state book → (number : ℕ) → number < heap.seats → Fits heap (seat_at state number)
 seat_fits rule number here = rule.machine.fit number (rw rule.machine.seated here)
 
 -- a seat with a call in flight hasn't left
-pub in_flight : {heap : Heap} {state : State} {book : Book} → Rule heap state book → (number : ℕ) → number < heap.seats → (seat_at state number).place ≢ places.Idle → (seat_at state number).left ≡ false
-in_flight {heap} {state} rule number here busy = false_from_ne_true (seat_at state number).left (λ left. busy ((seat_fits rule number here).gone left).idle)
+pub in_flight_has_not_left : {heap : Heap} {state : State} {book : Book} → Rule heap state book → (number : ℕ) → number < heap.seats → (seat_at state number).place ≢ places.Idle → (seat_at state number).left ≡ false
+in_flight_has_not_left {heap} {state} rule number here busy = false_from_ne_true (seat_at state number).left (λ left. busy ((seat_fits rule number here).gone left).idle)
 
 -- a place at which no name is awaited
-pub none_awaited : (place now : Place) (d r : ℕ) → place ≡ now → ¬ IsAwaited now d r → ¬ IsAwaited place d r
-none_awaited place now d r is none awaited = none (subst (λ p. IsAwaited p d r) is awaited)
+pub place_awaits_none : (place now : Place) (d r : ℕ) → place ≡ now → ¬ IsAwaited now d r → ¬ IsAwaited place d r
+place_awaits_none place now d r is none awaited = none (subst (λ p. IsAwaited p d r) is awaited)
 
 -- a seat with nothing at hand has little, and spent no more than it took
 module _ (heap : Heap) (state : State) (book : Book) (number : ℕ) (rule : Rule heap state book) (here : number < heap.seats) (rest : IsAtRest (seat_at state number)) where
-  pub own_reserve : length (seat_at state number).reserve + spent_of number book.history ≡ taken_of number book.history
-  own_reserve =
+  pub reserve_and_spent_is_taken : length (seat_at state number).reserve + spent_of number book.history ≡ taken_of number book.history
+  reserve_and_spent_is_taken =
       let seat : Seat = seat_at state number in
-      bare_hand seat.reserve seat.hand seat.body (spent_of number book.history) (taken_of number book.history) rest.empty_hand rest.no_body (rule.seats_stand number here).told.counts.unborn
+      bare_seat_holds_reserve seat.reserve seat.hand seat.body (spent_of number book.history) (taken_of number book.history) rest.empty_hand rest.no_body (rule.seats_stand number here).told.counts.unborn
 
-  pub spent_own : spent_of number book.history ≤ taken_of number book.history
-  spent_own = omega (arith, own_reserve)
+  pub spent_within_taken : spent_of number book.history ≤ taken_of number book.history
+  spent_within_taken = omega (arith, reserve_and_spent_is_taken)
 
-  pub few_own : taken_of number book.history ≤ spent_of number book.history + 15
-  few_own = omega (arith, own_reserve, (seat_fits rule number here).own.small_reserve)
+  pub taken_is_few_unspent : taken_of number book.history ≤ spent_of number book.history + 15
+  taken_is_few_unspent = omega (arith, reserve_and_spent_is_taken, (seat_fits rule number here).own.small_reserve)
 
 -- nor has one that refuses, once it has given all back
-pub refusing_reserve : (heap : Heap) (state : State) (book : Book) (number : ℕ) → Rule heap state book → number < heap.seats → SeatIsRefusing heap (seat_at state number) × ((seat_at state number).hand ≡ [])
+pub refusing_reserve_is_taken : (heap : Heap) (state : State) (book : Book) (number : ℕ) → Rule heap state book → number < heap.seats → SeatIsRefusing heap (seat_at state number) × ((seat_at state number).hand ≡ [])
     → length (seat_at state number).reserve + spent_of number book.history ≡ taken_of number book.history
-refusing_reserve heap state book number rule here refuses =
+refusing_reserve_is_taken heap state book number rule here refuses =
     let seat : Seat = seat_at state number in
-    bare_hand seat.reserve seat.hand seat.body (spent_of number book.history) (taken_of number book.history) refuses.1 refuses.0.no_body (rule.seats_stand number here).told.counts.unborn
+    bare_seat_holds_reserve seat.reserve seat.hand seat.body (spent_of number book.history) (taken_of number book.history) refuses.1 refuses.0.no_body (rule.seats_stand number here).told.counts.unborn

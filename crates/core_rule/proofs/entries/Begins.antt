@@ -3,7 +3,7 @@ use Rattle.std.specs.Prelude.{if◌then◌else◌}
 use Rattle.std.proofs.Common.{◌≡◌, ◌≢◌, ℕ, ◌==◌, length, refl, sym, arith, List}
 use Rattle.std.proofs.lemmas.Bool.{eq-eqb}
 use Rattle.core_rule.proofs.Terms.{Command, Heap, Place, Seat, Book, Began, HeapStands, SeatStands}
-use Rattle.core_rule.proofs.entries.Others.{of_other}
+use Rattle.core_rule.proofs.entries.Others.{seat_is_not_other}
 use Rattle.core_rule.proofs.gather.SinceCall.{no_reply_yet}
 
 -- the call of q begins when the history has this length
@@ -21,9 +21,9 @@ pub record SameData (seat next : Seat) : Type 0 where
   pub left : next.left ≡ seat.left
   pub asked : next.asked ≡ seat.asked
 
-pub same_data : (seat : Seat) (place : Place) (command : Command) (reached cursor tried given : ℕ) (reserve hand body : List ℕ)
+pub begun_has_same_data : (seat : Seat) (place : Place) (command : Command) (reached cursor tried given : ℕ) (reserve hand body : List ℕ)
     → SameData seat (record seat { place = place; command = command; reached = reached; cursor = cursor; tried = tried; given = given; reserve = reserve; hand = hand; body = body })
-same_data seat place command reached cursor tried given reserve hand body =
+begun_has_same_data seat place command reached cursor tried given reserve hand body =
     record { registers = refl; stored = refl; mine = refl; made = refl; sets = refl; answered = refl; left = refl; asked = refl }
 
 module _ (heap : Heap) (words : List ℕ) (book : Book) (number : ℕ) where
@@ -32,8 +32,8 @@ module _ (heap : Heap) (words : List ℕ) (book : Book) (number : ℕ) where
   book_begun = record book { begun = begins number (length book.history) book.begun }
 
   -- the heap stands
-  pub heap_begins : HeapStands heap words book → HeapStands heap words book_begun
-  heap_begins stands = record {
+  pub heap_stands_after_begin : HeapStands heap words book → HeapStands heap words book_begun
+  heap_stands_after_begin stands = record {
     control_words = stands.control_words;
     owners = stands.owners;
     ids = stands.ids;
@@ -45,17 +45,17 @@ module _ (heap : Heap) (words : List ℕ) (book : Book) (number : ℕ) where
   }
 
   -- the call began, and isn't answered yet
-  pub began_now : (place : Place) → Began book.history number (book_begun.begun number) place
-  began_now place = rw begun_now record { earlier = omega arith; unanswered = λ active. no_reply_yet number book.history }
+  pub began_at_begin : (place : Place) → Began book.history number (book_begun.begun number) place
+  began_at_begin place = rw begun_now record { earlier = omega arith; unanswered = λ active. no_reply_yet number book.history }
     where
       begun_now : book_begun.begun number ≡ length book.history
       begun_now = rw (eq-eqb number number refl) refl
 
   -- each other seat stands
-  pub other_begins : (r : ℕ) (seat : Seat) → r ≢ number → SeatStands heap words book r seat → SeatStands heap words book_begun r seat
-  other_begins r seat apart other = record {
+  pub other_seat_stands_after_begin : (r : ℕ) (seat : Seat) → r ≢ number → SeatStands heap words book r seat → SeatStands heap words book_begun r seat
+  other_seat_stands_after_begin r seat apart other = record {
     own = other.own;
     names = other.names;
-    told = rw (of_other r number (λ e. apart (sym e))) other.told;
+    told = rw (seat_is_not_other r number (λ e. apart (sym e))) other.told;
     cycle = other.cycle;
   }

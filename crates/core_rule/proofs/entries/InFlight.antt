@@ -3,66 +3,66 @@ use Rattle.std.proofs.Common.{◌≡◌, ℕ, ◌*◌, ◌≤◌, false, List, [
 use Rattle.std.proofs.lemmas.List.{drop-append-le, length-append}
 use Rattle.core_rule.proofs.Terms.{Entry, Heap, is_reply_to, Granting, Withdrawing, Gathering, GivingBack, Refusing, Placing, Listing, Bearing, Place, FitsPlace, Seat, Began}
 use Rattle.core_rule.proofs.Terms.{IsAnswered, IsAwaited}
-use Rattle.heap_model.proofs.account_lemmas.Windows.{any-more}
+use Rattle.heap_model.proofs.account_lemmas.Windows.{any_with_entry_more}
 use Rattle.core_machine.specs.declared.place.Making.{Making}
 use Rattle.core_machine.specs.declared.place.Making.TheVariants.{Storing}
 use Rattle.core_machine.specs.declared.place.Place.TheVariants as places
 
 -- whoever makes an object has no reply yet
-pub is_busy : (making : Making) (place : Place) → place ≡ places.Making making → ¬ IsAnswered place
-is_busy making place is answered = subst IsAnswered is answered
+pub making_is_not_answered : (making : Making) (place : Place) → place ≡ places.Making making → ¬ IsAnswered place
+making_is_not_answered making place is answered = subst IsAnswered is answered
 
 -- and awaits no name
-pub awaits_none : (making : Making) (place : Place) (d r : ℕ) → place ≡ places.Making making → ¬ IsAwaited place d r
-awaits_none making place d r is awaited = subst (λ p. IsAwaited p d r) is awaited
+pub making_awaits_none : (making : Making) (place : Place) (d r : ℕ) → place ≡ places.Making making → ¬ IsAwaited place d r
+making_awaits_none making place d r is awaited = subst (λ p. IsAwaited p d r) is awaited
 
 -- no more groups are tried than there are
-pub tried_within : (heap : Heap) (seat : Seat) (place : Place) → FitsPlace heap seat place → seat.tried ≤ heap.groups
-tried_within heap seat places.Idle fits = omega (arith, fits.none_tried)
-tried_within heap seat (places.Access place) fits = omega (arith, fits.none_tried)
-tried_within heap seat (places.Polling place) fits = omega (arith, fits.none_tried)
-tried_within heap seat (places.Making Withdrawing) fits = omega (arith, fits.rests.none_tried)
-tried_within heap seat (places.Making Gathering) fits = omega (arith, fits.groups_left)
-tried_within heap seat (places.Making GivingBack) fits = omega (arith, fits.0.all_tried)
-tried_within heap seat (places.Making Refusing) fits = omega (arith, fits.0.all_tried)
-tried_within heap seat (places.Making Placing) fits = omega (arith, fits.0.0.none_tried)
-tried_within heap seat (places.Making Listing) fits = omega (arith, fits.0.0.none_tried)
-tried_within heap seat _ fits = omega (arith, fits.0.none_tried)
+pub tried_within_groups : (heap : Heap) (seat : Seat) (place : Place) → FitsPlace heap seat place → seat.tried ≤ heap.groups
+tried_within_groups heap seat places.Idle fits = omega (arith, fits.none_tried)
+tried_within_groups heap seat (places.Access place) fits = omega (arith, fits.none_tried)
+tried_within_groups heap seat (places.Polling place) fits = omega (arith, fits.none_tried)
+tried_within_groups heap seat (places.Making Withdrawing) fits = omega (arith, fits.rests.none_tried)
+tried_within_groups heap seat (places.Making Gathering) fits = omega (arith, fits.groups_left)
+tried_within_groups heap seat (places.Making GivingBack) fits = omega (arith, fits.0.all_tried)
+tried_within_groups heap seat (places.Making Refusing) fits = omega (arith, fits.0.all_tried)
+tried_within_groups heap seat (places.Making Placing) fits = omega (arith, fits.0.0.none_tried)
+tried_within_groups heap seat (places.Making Listing) fits = omega (arith, fits.0.0.none_tried)
+tried_within_groups heap seat _ fits = omega (arith, fits.0.none_tried)
 
 -- no more is stored than the object has
-pub stored_within : (heap : Heap) (seat : Seat) (place : Place) → FitsPlace heap seat place → seat.stored ≤ 4 * length seat.body
-stored_within heap seat places.Local fits = omega (arith, fits.0.none_stored)
-stored_within heap seat (places.Leaving place) fits = omega (arith, fits.0.none_stored)
-stored_within heap seat (places.Collecting place) fits = omega (arith, fits.0.none_stored)
-stored_within heap seat (places.Making Granting) fits = omega (arith, fits.0.none_stored)
-stored_within heap seat (places.Making Withdrawing) fits = omega (arith, fits.rests.none_stored)
-stored_within heap seat (places.Making Placing) fits = omega (arith, fits.0.2.none_stored)
-stored_within heap seat (places.Making Listing) fits = omega (arith, fits.0.2.none_stored)
-stored_within heap seat (places.Making GivingBack) fits = omega (arith, fits.0.none_stored)
-stored_within heap seat (places.Making Refusing) fits = omega (arith, fits.0.none_stored)
-stored_within heap seat (places.Making Storing) fits = omega (arith, fits.2)
-stored_within heap seat (places.Making Bearing) fits = omega (arith, fits.3)
-stored_within heap seat _ fits = omega (arith, fits.none_stored)
+pub stored_within_body : (heap : Heap) (seat : Seat) (place : Place) → FitsPlace heap seat place → seat.stored ≤ 4 * length seat.body
+stored_within_body heap seat places.Local fits = omega (arith, fits.0.none_stored)
+stored_within_body heap seat (places.Leaving place) fits = omega (arith, fits.0.none_stored)
+stored_within_body heap seat (places.Collecting place) fits = omega (arith, fits.0.none_stored)
+stored_within_body heap seat (places.Making Granting) fits = omega (arith, fits.0.none_stored)
+stored_within_body heap seat (places.Making Withdrawing) fits = omega (arith, fits.rests.none_stored)
+stored_within_body heap seat (places.Making Placing) fits = omega (arith, fits.0.2.none_stored)
+stored_within_body heap seat (places.Making Listing) fits = omega (arith, fits.0.2.none_stored)
+stored_within_body heap seat (places.Making GivingBack) fits = omega (arith, fits.0.none_stored)
+stored_within_body heap seat (places.Making Refusing) fits = omega (arith, fits.0.none_stored)
+stored_within_body heap seat (places.Making Storing) fits = omega (arith, fits.2)
+stored_within_body heap seat (places.Making Bearing) fits = omega (arith, fits.3)
+stored_within_body heap seat _ fits = omega (arith, fits.none_stored)
 
 -- the window of a call grows by the entry
-pub window_more : (history : List Entry) (begun : ℕ) (entry : Entry) → begun ≤ length history → drop begun (history ++ entry ∷ []) ≡ drop begun history ++ entry ∷ []
-window_more history begun entry earlier = drop-append-le begun history (entry ∷ []) earlier
+pub window_grows_by_entry : (history : List Entry) (begun : ℕ) (entry : Entry) → begun ≤ length history → drop begun (history ++ entry ∷ []) ≡ drop begun history ++ entry ∷ []
+window_grows_by_entry history begun entry earlier = drop-append-le begun history (entry ∷ []) earlier
 
 -- a call goes on past an entry that is no reply to it
-pub began_past : (history : List Entry) (entry : Entry) (number begun : ℕ) (place now : Place) → is_reply_to number entry ≡ false → (¬ IsAnswered now → ¬ IsAnswered place)
+pub began_after_entry : (history : List Entry) (entry : Entry) (number begun : ℕ) (place now : Place) → is_reply_to number entry ≡ false → (¬ IsAnswered now → ¬ IsAnswered place)
     → Began history number begun place → Began (history ++ entry ∷ []) number begun now
-began_past history entry number begun place now no_reply busy began = record {
+began_after_entry history entry number begun place now no_reply busy began = record {
   earlier = rw (length-append history (entry ∷ [])) (omega (arith, began.earlier));
-  unanswered = λ still. rw (window_more history begun entry began.earlier, any-more (is_reply_to number) (drop begun history) entry, began.unanswered (busy still), no_reply) refl;
+  unanswered = λ still. rw (window_grows_by_entry history begun entry began.earlier, any_with_entry_more (is_reply_to number) (drop begun history) entry, began.unanswered (busy still), no_reply) refl;
 }
 
 -- and where no entry is added
-pub began_on : (history : List Entry) (number begun : ℕ) (place now : Place) → ¬ IsAnswered place → Began history number begun place → Began history number begun now
-began_on history number begun place now busy began = record { earlier = began.earlier; unanswered = λ still. began.unanswered busy }
+pub began_without_entry : (history : List Entry) (number begun : ℕ) (place now : Place) → ¬ IsAnswered place → Began history number begun place → Began history number begun now
+began_without_entry history number begun place now busy began = record { earlier = began.earlier; unanswered = λ still. began.unanswered busy }
 
 -- a seat that is told stands idle
-pub began_idle : (history : List Entry) (entry : Entry) (number begun : ℕ) (place : Place) → Began history number begun place → Began (history ++ entry ∷ []) number begun places.Idle
-began_idle history entry number begun place began = record {
+pub began_idle_after_reply : (history : List Entry) (entry : Entry) (number begun : ℕ) (place : Place) → Began history number begun place → Began (history ++ entry ∷ []) number begun places.Idle
+began_idle_after_reply history entry number begun place began = record {
   earlier = rw (length-append history (entry ∷ [])) (omega (arith, began.earlier));
   unanswered = λ busy. absurd (busy tt);
 }

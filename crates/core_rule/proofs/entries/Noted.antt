@@ -7,7 +7,7 @@ use Rattle.std.proofs.lemmas.List.Elements.{Contains-append_left, Contains-appen
 use Rattle.core_rule.proofs.Terms.{Entry, Heap, KeepsSpace, KeepsSpaceAfter, IsLegal, effect_of, phase, HasEnded, BeganSince, up_to_reply, since_reply, is_reply_to}
 use Rattle.heap_model.specs.declared.entry.Entry.TheVariants as entries
 use Rattle.heap_model.proofs.Histories.{total-more}
-use Rattle.heap_model.proofs.account_lemmas.Windows.{parts}
+use Rattle.heap_model.proofs.account_lemmas.Windows.{window_parts_make_whole}
 
 -- an entry that begins this phase
 pub record IsBegun (heap : Heap) (before more : List Entry) (q : ℕ) : Type 0 where
@@ -81,16 +81,16 @@ begins_there heap before _ cycle keeps last begins = cc
 
 module _ (heap : Heap) (history : List Entry) (legal : IsLegal heap false history) (cycle : ℕ) where
   -- a cycle after which a phase has begun has ended
-  pub has_ended : 7 * (cycle + 1) ≤ phase history → HasEnded cycle history
-  has_ended over =
+  pub cycle_has_ended : 7 * (cycle + 1) ≤ phase history → HasEnded cycle history
+  cycle_has_ended over =
       let begun = each_begun heap [] history (7 * (cycle + 1)) legal.space (omega arith) over in
       let its = ends_there heap begun.earlier begun.entry cycle begun.keeps begun.last begun.begins in
       (its.0, subst (Contains history) its.1 (subst (λ es. Contains es begun.entry) (sym begun.there) (is_there begun.earlier begun.rest begun.entry)))
 
   -- one whose first phase was still to come at the seat's last reply has begun since
-  pub began_since : (number : ℕ) → phase (up_to_reply number history) ≤ 7 * cycle → 7 * (cycle + 1) ≤ phase history → BeganSince number cycle history
-  began_since number before over =
-      let whole : up_to_reply number history ++ since_reply number history ≡ history = parts (is_reply_to number) history in
+  pub cycle_began_since : (number : ℕ) → phase (up_to_reply number history) ≤ 7 * cycle → 7 * (cycle + 1) ≤ phase history → BeganSince number cycle history
+  cycle_began_since number before over =
+      let whole : up_to_reply number history ++ since_reply number history ≡ history = window_parts_make_whole (is_reply_to number) history in
       let begun = each_begun heap (up_to_reply number history) (since_reply number history) (7 * cycle + 1)
       (later_keeps heap false [] (up_to_reply number history) (since_reply number history) (subst (KeepsSpaceAfter heap false []) (sym whole) legal.space))
       (omega (arith, before)) (omega (arith, over, ap phase whole)) in

@@ -6,17 +6,17 @@ use Rattle.core_rule.proofs.Terms.{Entry, effect_of, is_of, graph_seat, total_of
 use Rattle.heap_model.proofs.Histories.{total_of-more}
 
 -- its own entries, and sums of what they did
-pub own_entries : (number : ℕ) (history : List Entry) (entry : Entry) → is_of number entry ≡ true → filter (is_of number) (history ++ entry ∷ []) ≡ filter (is_of number) history ++ entry ∷ []
-own_entries number history entry own = rw (filter-append (is_of number) history (entry ∷ []), own) refl
+pub own_entries_grow : (number : ℕ) (history : List Entry) (entry : Entry) → is_of number entry ≡ true → filter (is_of number) (history ++ entry ∷ []) ≡ filter (is_of number) history ++ entry ∷ []
+own_entries_grow number history entry own = rw (filter-append (is_of number) history (entry ∷ []), own) refl
 
 -- its own list grows as the history's part does
-pub own_grows : (number : ℕ) (history mine : List Entry) (entry : Entry) → is_of number entry ≡ true → mine ≡ filter (is_of number) history
+pub own_list_grows : (number : ℕ) (history mine : List Entry) (entry : Entry) → is_of number entry ≡ true → mine ≡ filter (is_of number) history
     → mine ++ entry ∷ [] ≡ filter (is_of number) (history ++ entry ∷ [])
-own_grows number history mine entry own was = rw (own_entries number history entry own, was) refl
+own_list_grows number history mine entry own was = rw (own_entries_grow number history entry own, was) refl
 
-pub total_of-own : (number : ℕ) (part : Effect → ℕ) (history : List Entry) (entry : Entry) → is_of number entry ≡ true
+pub total_of_grows_by_own : (number : ℕ) (part : Effect → ℕ) (history : List Entry) (entry : Entry) → is_of number entry ≡ true
     → total_of number part (history ++ entry ∷ []) ≡ total_of number part history + part (effect_of entry)
-total_of-own number part history entry own = rw (total_of-more number part history entry, own) refl
+total_of_grows_by_own number part history entry own = rw (total_of-more number part history entry, own) refl
 
 -- what a seat has at hand
 abbrev pub at_hand : Seat → ℕ
@@ -24,23 +24,23 @@ at_hand seat = length seat.reserve + length (fragments_in_hand seat.hand seat.bo
 
 module _ (g grown : Graph) (history : List Entry) (number : ℕ) (seat now : Seat) (counts : CountsAgree g history number seat) where
   -- its counts once an entry of its own is added, by what that gave, made and took
-  pub counts_own : (entry : Entry) → is_of number entry ≡ true → now.made ≡ length (graph_seat grown number).objects → now.sets ≡ (graph_seat grown number).sets → (graph_seat grown number).left ≡ now.left
+  pub counts_agree_after_own : (entry : Entry) → is_of number entry ≡ true → now.made ≡ length (graph_seat grown number).objects → now.sets ≡ (graph_seat grown number).sets → (graph_seat grown number).left ≡ now.left
       → at_hand now + (effect_of entry).given + (effect_of entry).born ≡ at_hand seat + (effect_of entry).taken → CountsAgree grown (history ++ entry ∷ []) number now
-  counts_own entry own numbered stamped leaves sum = record {
+  counts_agree_after_own entry own numbered stamped leaves sum = record {
     numbered = numbered;
     stamped = stamped;
     leaves = leaves;
     unborn = rw (
-      total_of-own number (λ e. e.given) history entry own,
-      total_of-own number (λ e. e.born) history entry own,
-      total_of-own number (λ e. e.taken) history entry own,
+      total_of_grows_by_own number (λ e. e.given) history entry own,
+      total_of_grows_by_own number (λ e. e.born) history entry own,
+      total_of_grows_by_own number (λ e. e.taken) history entry own,
     ) (omega (arith, counts.unborn, sum));
   }
 
 -- no entry is added
-pub counts_same : (g : Graph) (history : List Entry) (number : ℕ) (seat now : Seat) → now.made ≡ seat.made → now.sets ≡ seat.sets → now.left ≡ seat.left → at_hand now ≡ at_hand seat
+pub counts_agree_without_entry : (g : Graph) (history : List Entry) (number : ℕ) (seat now : Seat) → now.made ≡ seat.made → now.sets ≡ seat.sets → now.left ≡ seat.left → at_hand now ≡ at_hand seat
     → CountsAgree g history number seat → CountsAgree g history number now
-counts_same g history number seat now made sets left sum counts = record {
+counts_agree_without_entry g history number seat now made sets left sum counts = record {
   numbered = made ∙ counts.numbered;
   stamped = sets ∙ counts.stamped;
   leaves = counts.leaves ∙ sym left;

@@ -19,12 +19,12 @@ over_cases P commands.Collect seat ends replies = ends
 over_cases P _ seat ends replies = replies
 
 -- where the seat has answered the phase it is told
-pub told_if : (P : List Entry → Type 0) (number : ℕ) (command : Command) (p : ℕ) (b : Bool) → P [] → P (Said number command (replies.Phase p) ∷ []) → P (if b then phase_told number command p else [])
-told_if P number command p true none told = told_cases P number command p none told
-told_if P number command p false none told = none
+pub told_if_cases : (P : List Entry → Type 0) (number : ℕ) (command : Command) (p : ℕ) (b : Bool) → P [] → P (Said number command (replies.Phase p) ∷ []) → P (if b then phase_told number command p else [])
+told_if_cases P number command p true none told = told_cases P number command p none told
+told_if_cases P number command p false none told = none
 
 -- the command is a poll or a collect
-pub answers_by : (command : Command) → AnswersThePhase command → (command ≡ commands.Poll) ⊎ (command ≡ commands.Collect)
-answers_by commands.Poll answers = inl refl
-answers_by commands.Collect answers = inr refl
-answers_by _ answers = absurd answers
+pub command_polls_or_collects : (command : Command) → AnswersThePhase command → (command ≡ commands.Poll) ⊎ (command ≡ commands.Collect)
+command_polls_or_collects commands.Poll answers = inl refl
+command_polls_or_collects commands.Collect answers = inr refl
+command_polls_or_collects _ answers = absurd answers

@@ -17,10 +17,10 @@ pub record NamesStay (made now_made : List Id) (owner now_owner : ℕ → Owner)
 
 -- so a register that held a value holds it
 module _ (made now_made : List Id) (owner now_owner : ℕ → Owner) (fragments now_fragments : ℕ → List ℕ) (stay : NamesStay made now_made owner now_owner fragments now_fragments) where
-  pub holds_stays : (held : Register) (value : Value) → regs.HoldsValue made owner fragments held value → regs.HoldsValue now_made now_owner now_fragments held value
-  holds_stays registers.Nil value holds = holds
-  holds_stays (registers.Number n) value holds = holds
-  holds_stays (registers.Object head id) value holds = (holds.0, stay.names id holds.1, holds.2 ∙ sym (stay.heads id holds.1))
+  pub holds_value_still : (held : Register) (value : Value) → regs.HoldsValue made owner fragments held value → regs.HoldsValue now_made now_owner now_fragments held value
+  holds_value_still registers.Nil value holds = holds
+  holds_value_still (registers.Number n) value holds = holds
+  holds_value_still (registers.Object head id) value holds = (holds.0, stay.names id holds.1, holds.2 ∙ sym (stay.heads id holds.1))
 
 module _ (g now : Graph) (made now_made : List Id) (owner now_owner : ℕ → Owner) (fragments now_fragments : ℕ → List ℕ) (number : ℕ) (seat : Seat)
     (stay : NamesStay made now_made owner now_owner fragments now_fragments) (same : (r : ℕ) → register_value now number r ≡ register_value g number r) where
@@ -35,35 +35,35 @@ module _ (g now : Graph) (made now_made : List Id) (owner now_owner : ℕ → Ow
   awaits_stay _ awaited waits = waits
 
   -- another seat's list stays, and what it awaits
-  pub list_stays : (history more : List Entry) → filter (is_of number) more ≡ filter (is_of number) history
+  pub own_list_stays : (history more : List Entry) → filter (is_of number) more ≡ filter (is_of number) history
       → OwnList g history made owner fragments number seat → OwnList now more now_made now_owner now_fragments number seat
-  list_stays history more entries list = record {
+  own_list_stays history more entries list = record {
     awaited = list.awaited;
     own = list.own ∙ sym entries;
     awaits = awaits_stay seat.place list.awaited list.awaits;
   }
 
 -- where nothing is awaited, a seat's own list has all of its entries
-pub all_told : {g : Graph} {history : List Entry} {made : List Id} {owner : ℕ → Owner} {fragments : ℕ → List ℕ} {number : ℕ} {seat : Seat} (list : OwnList g history made owner fragments number seat)
+pub own_list_is_all_told : {g : Graph} {history : List Entry} {made : List Id} {owner : ℕ → Owner} {fragments : ℕ → List ℕ} {number : ℕ} {seat : Seat} (list : OwnList g history made owner fragments number seat)
     → list.awaited ≡ [] → seat.mine ≡ filter (is_of number) history
-all_told {g} {history} {made} {owner} {fragments} {number} {seat} list none = sym (append-nil seat.mine) ∙ (rw none at list.own)
+own_list_is_all_told {g} {history} {made} {owner} {fragments} {number} {seat} list none = sym (append-nil seat.mine) ∙ (rw none at list.own)
 
 module _ (g : Graph) (history : List Entry) (made : List Id) (owner : ℕ → Owner) (fragments : ℕ → List ℕ) (number : ℕ) (seat : Seat) where
   -- a seat that makes an object awaits nothing
-  pub making_list : (making : Making) → seat.place ≡ places.Making making → OwnList g history made owner fragments number seat → seat.mine ≡ filter (is_of number) history
-  making_list making placed list = all_told list (subst (λ p. Awaits g made owner fragments number seat p list.awaited) placed list.awaits)
+  pub making_list_is_all_told : (making : Making) → seat.place ≡ places.Making making → OwnList g history made owner fragments number seat → seat.mine ≡ filter (is_of number) history
+  making_list_is_all_told making placed list = own_list_is_all_told list (subst (λ p. Awaits g made owner fragments number seat p list.awaited) placed list.awaits)
 
   -- an idle seat awaits nothing
-  pub idle_list : seat.place ≡ places.Idle → OwnList g history made owner fragments number seat → seat.mine ≡ filter (is_of number) history
-  idle_list idle list = all_told list (subst (λ p. Awaits g made owner fragments number seat p list.awaited) idle list.awaits)
+  pub idle_list_is_all_told : seat.place ≡ places.Idle → OwnList g history made owner fragments number seat → seat.mine ≡ filter (is_of number) history
+  idle_list_is_all_told idle list = own_list_is_all_told list (subst (λ p. Awaits g made owner fragments number seat p list.awaited) idle list.awaits)
 
   -- a list that awaits nothing
-  pub whole_list : Awaits g made owner fragments number seat seat.place [] → seat.mine ≡ filter (is_of number) history → OwnList g history made owner fragments number seat
-  whole_list none own = record { awaited = []; own = append-nil seat.mine ∙ own; awaits = none }
+  pub own_list_where_all_told : Awaits g made owner fragments number seat seat.place [] → seat.mine ≡ filter (is_of number) history → OwnList g history made owner fragments number seat
+  own_list_where_all_told none own = record { awaited = []; own = append-nil seat.mine ∙ own; awaits = none }
 
   -- while an object is made
-  pub list_of_making : (making : Making) → seat.place ≡ places.Making making → seat.mine ≡ filter (is_of number) history → OwnList g history made owner fragments number seat
-  list_of_making making placed own = whole_list (subst (λ p. Awaits g made owner fragments number seat p []) (sym placed) refl) own
+  pub own_list_of_making : (making : Making) → seat.place ≡ places.Making making → seat.mine ≡ filter (is_of number) history → OwnList g history made owner fragments number seat
+  own_list_of_making making placed own = own_list_where_all_told (subst (λ p. Awaits g made owner fragments number seat p []) (sym placed) refl) own
 
 module _ (g : Graph) (made : List Id) (owner : ℕ → Owner) (fragments : ℕ → List ℕ) (number : ℕ) (seat : Seat) where
   -- a call that isn't answered awaits nothing
@@ -74,13 +74,13 @@ module _ (g : Graph) (made : List Id) (owner : ℕ → Owner) (fragments : ℕ �
   module _ (history : List Entry) (busy : ¬ IsAnswered seat.place) (list : OwnList g history made owner fragments number seat) where
     -- so its own list has all of its entries
     has_all : seat.mine ≡ filter (is_of number) history
-    has_all = all_told list (nothing_awaited seat.place list.awaited busy list.awaits)
+    has_all = own_list_is_all_told list (nothing_awaited seat.place list.awaited busy list.awaits)
 
     -- what is shown then is told at once, or awaited
-    pub list_more : (now : Graph) (later : List Entry) (new : Seat) (added awaited shown : List Entry) → new.mine ≡ seat.mine ++ added
+    pub own_list_after_entry : (now : Graph) (later : List Entry) (new : Seat) (added awaited shown : List Entry) → new.mine ≡ seat.mine ++ added
         → added ++ awaited ≡ shown → filter (is_of number) later ≡ filter (is_of number) history ++ shown → Awaits now made owner fragments number new new.place awaited
         → OwnList now later made owner fragments number new
-    list_more now later new added awaited shown mine parts grown awaits = record {
+    own_list_after_entry now later new added awaited shown mine parts grown awaits = record {
       awaited = awaited;
       own = ap (λ (own : List Entry). own ++ awaited) mine ∙ append_assoc seat.mine added awaited ∙ ap (λ (x : List Entry). seat.mine ++ x) parts
           ∙ ap (λ (own : List Entry). own ++ shown) has_all ∙ sym grown;

@@ -8,8 +8,8 @@ use Rattle.heap_model.specs.declared.command.Command.TheVariants as commands
 use Rattle.core_machine.specs.declared.place.Place.TheVariants as places
 use Rattle.core_machine.specs.declared.place.Polling.TheVariants.{Asking}
 use Rattle.core_machine.specs.declared.seat.register.Register.TheVariants as registers
-use Rattle.core_rule.proofs.entries.Begins.{SameData, same_data}
-use Rattle.core_rule.proofs.graph.Numbering.{id_at-number_of}
+use Rattle.core_rule.proofs.entries.Begins.{SameData, begun_has_same_data}
+use Rattle.core_rule.proofs.graph.Numbering.{id_at_own_number}
 
 -- all that the seat had is as before, whatever its place and its way
 pub record SameOwn (old now : Seat) : Type 0 where
@@ -22,7 +22,7 @@ pub record SameOwn (old now : Seat) : Type 0 where
 
 -- a seat that has another place, command or way
 at_place : (seat : Seat) (place : Place) (command : Command) (reached : ℕ) → SameOwn seat (record seat { place = place; command = command; reached = reached })
-at_place seat place command reached = record { same = same_data seat _ _ _ _ _ _ _ _ _; reserve = refl; hand = refl; body = refl; tried = refl; given = refl }
+at_place seat place command reached = record { same = begun_has_same_data seat _ _ _ _ _ _ _ _ _; reserve = refl; hand = refl; body = refl; tried = refl; given = refl }
 
 -- the place is no later than the first of a way or of an answer
 abbrev pub IsFresh : Place → Type 0
@@ -50,14 +50,14 @@ pub record IsSpineless (number : ℕ) (seat : Seat) (place : Place) : Type 0 whe
   pub none_placed : (half : ℕ) → placed_at half seat place ≡ 0
   pub none_refused : refused_at seat place ≡ 0
 
-pub bare_spineless : (number : ℕ) (seat : Seat) (place : Place) → IsBare place → IsSpineless number seat place
-bare_spineless number seat (places.Making Granting) bare =
+pub bare_is_spineless : (number : ℕ) (seat : Seat) (place : Place) → IsBare place → IsSpineless number seat place
+bare_is_spineless number seat (places.Making Granting) bare =
     record { no_place = λ has. has; no_address = λ heap words nodes owner fragments spines spine_owner. tt; none_used = λ heap history. tt; none_granted = refl; none_placed = λ half. refl; none_refused = refl }
-bare_spineless number seat (places.Making _) bare = absurd bare
-bare_spineless number seat (places.Access LoadingMeta) bare =
+bare_is_spineless number seat (places.Making _) bare = absurd bare
+bare_is_spineless number seat (places.Access LoadingMeta) bare =
     record { no_place = λ has. has; no_address = λ heap words nodes owner fragments spines spine_owner. tt; none_used = λ heap history. tt; none_granted = refl; none_placed = λ half. refl; none_refused = refl }
-bare_spineless number seat (places.Access _) bare = absurd bare
-bare_spineless number seat _ bare =
+bare_is_spineless number seat (places.Access _) bare = absurd bare
+bare_is_spineless number seat _ bare =
     record { no_place = λ has. has; no_address = λ heap words nodes owner fragments spines spine_owner. tt; none_used = λ heap history. tt; none_granted = refl; none_placed = λ half. refl; none_refused = refl }
 
 module _ (g : Graph) (nodes : ℕ → Node) (made : List Id) (owner : ℕ → Owner) (fragments : ℕ → List ℕ) (number : ℕ) where
@@ -77,7 +77,7 @@ module _ (g : Graph) (nodes : ℕ → Node) (made : List Id) (owner : ℕ → Ow
     way = record {
       below = holds.1.0;
       kept = holds.1.1;
-      holds = sym is ∙ ap (λ f. registers.Object f id) holds.2 ∙ ap (λ i. registers.Object (fragment_at (fragments (object_number made id)) 0) i) (sym (id_at-number_of made id holds.1.0));
+      holds = sym is ∙ ap (λ f. registers.Object f id) holds.2 ∙ ap (λ i. registers.Object (fragment_at (fragments (object_number made id)) 0) i) (sym (id_at_own_number made id holds.1.0));
       here = holds.2;
     };
   }
@@ -90,11 +90,11 @@ module _ (g : Graph) (nodes : ℕ → Node) (made : List Id) (owner : ℕ → Ow
   opened_starts seat (registers.Object head id) value holds is = record { own = at_place seat _ _ _; awaits = refl; way = sets_out seat head id value holds is; fresh = tt; bare = tt }
 
   -- any other call stands at its first step
-  pub starts_other : (heap : Heap) (seat : Seat) (command : Command) → (IsRecordCall command → ⊥) → IsServed command → seat.command ≡ command
+  pub other_call_starts : (heap : Heap) (seat : Seat) (command : Command) → (IsRecordCall command → ⊥) → IsServed command → seat.command ≡ command
       → ((r : ℕ) → (value : Value) × HoldsValue made owner fragments (register_in seat.registers r) value) → Starts seat (call_start heap seat command)
-  starts_other heap seat (commands.Get d r i) other served is holds = opened_starts seat (register_in seat.registers r) (holds r).0 (holds r).1 (ap (λ c. register_in seat.registers (object_of c)) (sym is))
-  starts_other heap seat (commands.Set r i v) other served is holds = opened_starts seat (register_in seat.registers r) (holds r).0 (holds r).1 (ap (λ c. register_in seat.registers (object_of c)) (sym is))
-  starts_other heap seat (commands.Len r) other served is holds = opened_starts seat (register_in seat.registers r) (holds r).0 (holds r).1 (ap (λ c. register_in seat.registers (object_of c)) (sym is))
-  starts_other heap seat (commands.New d fields) other served is holds = absurd (other tt)
-  starts_other heap seat commands.Collect other served is holds = absurd served
-  starts_other heap seat _ other served is holds = record { own = at_place seat _ _ _; awaits = refl; way = tt; fresh = tt; bare = tt }
+  other_call_starts heap seat (commands.Get d r i) other served is holds = opened_starts seat (register_in seat.registers r) (holds r).0 (holds r).1 (ap (λ c. register_in seat.registers (object_of c)) (sym is))
+  other_call_starts heap seat (commands.Set r i v) other served is holds = opened_starts seat (register_in seat.registers r) (holds r).0 (holds r).1 (ap (λ c. register_in seat.registers (object_of c)) (sym is))
+  other_call_starts heap seat (commands.Len r) other served is holds = opened_starts seat (register_in seat.registers r) (holds r).0 (holds r).1 (ap (λ c. register_in seat.registers (object_of c)) (sym is))
+  other_call_starts heap seat (commands.New d fields) other served is holds = absurd (other tt)
+  other_call_starts heap seat commands.Collect other served is holds = absurd served
+  other_call_starts heap seat _ other served is holds = record { own = at_place seat _ _ _; awaits = refl; way = tt; fresh = tt; bare = tt }

@@ -15,8 +15,8 @@ use Rattle.core_machine.specs.seat.HandshakeMoves.{phase_told}
 use Rattle.core_machine.specs.seat.Looks.{noted_reply}
 use Rattle.heap_model.specs.declared.command.Command.TheVariants as commands
 use Rattle.core_machine.specs.seat.Local.{answer_of, local_reply_of}
-use Rattle.core_rule.proofs.entries.PhasesTold.{told_cases, told_if}
-use Rattle.core_rule.proofs.footprint.Mute.{AreMute, one_mute}
+use Rattle.core_rule.proofs.entries.PhasesTold.{told_cases, told_if_cases}
+use Rattle.core_rule.proofs.footprint.Mute.{AreMute, one_entry_is_mute}
 use Rattle.core_rule.proofs.runs.Plays.{IsPlainReply}
 
 -- the seat may tell this entry at the place: it takes or gives fragments, it is refused, it waits, or it has another reply
@@ -39,19 +39,19 @@ answer_plain : (b : Bool) → IsPlainReply (answer_of b)
 answer_plain true = tt
 answer_plain false = tt
 
-pub local_plain : (registers : List Register) (command : Command) → IsPlainReply (local_reply_of registers command)
-local_plain registers (commands.Same a b) = answer_plain (is_same_value (value_of (register_in registers a)) (value_of (register_in registers b)))
-local_plain registers _ = tt
+pub local_reply_is_plain : (registers : List Register) (command : Command) → IsPlainReply (local_reply_of registers command)
+local_reply_is_plain registers (commands.Same a b) = answer_plain (is_same_value (value_of (register_in registers a)) (value_of (register_in registers b)))
+local_reply_is_plain registers _ = tt
 
 field_plain : (b : Bool) → IfSome (if b then None else Some replies.NoField) IsPlainReply
 field_plain true = tt
 field_plain false = tt
 
-pub meta_plain : (command : Command) (found : ℕ) → IfSome (meta_reply_of command found) IsPlainReply
-meta_plain (commands.Len r) found = tt
-meta_plain (commands.Get d r i) found = field_plain _
-meta_plain (commands.Set r i v) found = field_plain _
-meta_plain _ found = tt
+pub meta_reply_is_plain : (command : Command) (found : ℕ) → IfSome (meta_reply_of command found) IsPlainReply
+meta_reply_is_plain (commands.Len r) found = tt
+meta_reply_is_plain (commands.Get d r i) found = field_plain _
+meta_reply_is_plain (commands.Set r i v) found = field_plain _
+meta_reply_is_plain _ found = tt
 
 module _ (number : ℕ) (seat : Seat) (place : Place) where
   pub shows_plain : (reply : Reply) → IsPlainReply reply → SeatShows number seat place (entries.Said number seat.command reply ∷ [])
@@ -66,11 +66,11 @@ module _ (number : ℕ) (seat : Seat) (place : Place) where
       by false = shows_one _ (takes count)
 
   pub shows_poll : (b : Bool) (p : ℕ) → SeatShows number seat place (if b then phase_told number seat.command p else [])
-  shows_poll b p = told_if (SeatShows number seat place) number seat.command p b shows_none (shows_plain (replies.Phase p) tt)
+  shows_poll b p = told_if_cases (SeatShows number seat place) number seat.command p b shows_none (shows_plain (replies.Phase p) tt)
 
-  pub shows_some : (reply : Option Reply) → IfSome reply IsPlainReply → SeatShows number seat place (reply_entries_if number seat reply)
-  shows_some None plain = shows_none
-  shows_some (Some reply) plain = shows_plain reply plain
+  pub shows_reply_if : (reply : Option Reply) → IfSome reply IsPlainReply → SeatShows number seat place (reply_entries_if number seat reply)
+  shows_reply_if None plain = shows_none
+  shows_reply_if (Some reply) plain = shows_plain reply plain
 
   pub shows_get : (heap : Heap) (words : List ℕ) (found : ℕ) (head : Option ℕ) → SeatShows number seat place (got_shows heap number seat words found head)
   shows_get heap words found None = shows_plain _ tt
@@ -78,17 +78,17 @@ module _ (number : ℕ) (seat : Seat) (place : Place) where
 
   -- no phase begins by it
   tells_mute : (entry : Entry) → SeatTells number seat place entry → AreMute (entry ∷ [])
-  tells_mute _ (takes count) = one_mute _ refl refl
-  tells_mute _ (gives count) = one_mute _ refl refl
-  tells_mute _ (says reply plain) = one_mute _ refl refl
-  tells_mute _ (refuses is) = one_mute _ refl refl
-  tells_mute _ (refuses_words is) = one_mute _ refl refl
-  tells_mute _ (waits other answered p is) = one_mute _ refl refl
+  tells_mute _ (takes count) = one_entry_is_mute _ refl refl
+  tells_mute _ (gives count) = one_entry_is_mute _ refl refl
+  tells_mute _ (says reply plain) = one_entry_is_mute _ refl refl
+  tells_mute _ (refuses is) = one_entry_is_mute _ refl refl
+  tells_mute _ (refuses_words is) = one_entry_is_mute _ refl refl
+  tells_mute _ (waits other answered p is) = one_entry_is_mute _ refl refl
 
-  pub shows_mute : (added : List Entry) → SeatShows number seat place added → AreMute added
-  shows_mute _ shows_none = tt
-  shows_mute _ (shows_one entry tells) = tells_mute entry tells
-  shows_mute _ (shows_answer is) = (record { no_begin = refl; no_phase = refl }, told_cases AreMute number seat.command seat.asked tt (one_mute (entries.Said number seat.command (replies.Phase seat.asked)) refl refl))
+  pub shown_are_mute : (added : List Entry) → SeatShows number seat place added → AreMute added
+  shown_are_mute _ shows_none = tt
+  shown_are_mute _ (shows_one entry tells) = tells_mute entry tells
+  shown_are_mute _ (shows_answer is) = (record { no_begin = refl; no_phase = refl }, told_cases AreMute number seat.command seat.asked tt (one_entry_is_mute (entries.Said number seat.command (replies.Phase seat.asked)) refl refl))
 
 pub shows_note : (number : ℕ) (seat : Seat) (reply : CollectReply) → SeatShows number seat (places.Collecting (Noting reply)) (entries.Said number seat.command (noted_reply reply) ∷ [])
 shows_note number seat (notes.Cycle j) = shows_one _ (says (replies.Cycle j) tt)

@@ -6,11 +6,11 @@ use Rattle.heap_model.specs.declared.entry.Entry.TheVariants as entries
 use Rattle.heap_model.specs.account.Noting.{is_collectors}
 use Rattle.heap_model.specs.account.Sweep.{HasSwung}
 use Rattle.heap_model.proofs.account_lemmas.Windows.{after_last-no, after_last-yes}
-use Rattle.core_rule.proofs.budgets.BudgetFrames.{SameTold, none_granted_by, none_returned_by}
+use Rattle.core_rule.proofs.budgets.BudgetFrames.{SameTold, granted_words_stay, returned_words_stay}
 
 -- nothing has swung by it
-pub still_swung : (history : List Entry) (entry : Entry) → ((id : Id) → entry ≢ Swings id) → (id : Id) → HasSwung id (history ++ entry ∷ []) → HasSwung id history
-still_swung history entry none id = by (begins_phase entry) refl
+pub has_swung_before_entry : (history : List Entry) (entry : Entry) → ((id : Id) → entry ≢ Swings id) → (id : Id) → HasSwung id (history ++ entry ∷ []) → HasSwung id history
+has_swung_before_entry history entry none id = by (begins_phase entry) refl
   where
     none_there : Contains [] (Swings id) → HasSwung id history
     none_there there = absurd (omega (arith, there.1))
@@ -23,8 +23,8 @@ still_swung history entry none id = by (begins_phase entry) refl
     ]
 
 -- the cycle under way has returned as many words
-pub still_returned : (history : List Entry) (entry : Entry) → begins_cycle entry ≡ false → (effect_of entry).returned ≡ 0 → returned_in_cycle (history ++ entry ∷ []) ≡ returned_in_cycle history
-still_returned history entry goes none = rw (after_last-no begins_cycle history entry goes) (none_returned_by (since_cycle history) entry none)
+pub returned_in_cycle_stays : (history : List Entry) (entry : Entry) → begins_cycle entry ≡ false → (effect_of entry).returned ≡ 0 → returned_in_cycle (history ++ entry ∷ []) ≡ returned_in_cycle history
+returned_in_cycle_stays history entry goes none = rw (after_last-no begins_cycle history entry goes) (returned_words_stay (since_cycle history) entry none)
 
 -- so no entry does that tells of none
 pub record TellsNoSpine (entry : Entry) : Type 0 where
@@ -33,18 +33,18 @@ pub record TellsNoSpine (entry : Entry) : Type 0 where
   pub begins_none : begins_cycle entry ≡ false
   pub swings_none : (id : Id) → entry ≢ Swings id
 
-pub told_spines : (history : List Entry) (entry : Entry) → TellsNoSpine entry → SameTold history (history ++ entry ∷ [])
-told_spines history entry tells = record {
-  granted = none_granted_by history entry tells.granted;
-  returned = none_returned_by history entry tells.returned;
-  in_cycle = still_returned history entry tells.begins_none tells.returned;
-  swung = still_swung history entry tells.swings_none;
+pub same_told_after_entry : (history : List Entry) (entry : Entry) → TellsNoSpine entry → SameTold history (history ++ entry ∷ [])
+same_told_after_entry history entry tells = record {
+  granted = granted_words_stay history entry tells.granted;
+  returned = returned_words_stay history entry tells.returned;
+  in_cycle = returned_in_cycle_stays history entry tells.begins_none tells.returned;
+  swung = has_swung_before_entry history entry tells.swings_none;
 }
 
 -- an entry of a seat is such a one where it grants no words
-pub seats_tell : (entry : Entry) → is_collectors entry ≡ false → (effect_of entry).words ≡ 0 → TellsNoSpine entry
-seats_tell (entries.Said number command reply) seats none = record { granted = none; returned = refl; begins_none = refl; swings_none = λ id e. absurd (cc) }
-seats_tell (entries.Takes number count) seats none = record { granted = refl; returned = refl; begins_none = refl; swings_none = λ id e. absurd (cc) }
-seats_tell (entries.GivesBack number count) seats none = record { granted = refl; returned = refl; begins_none = refl; swings_none = λ id e. absurd (cc) }
-seats_tell (entries.Answers number p) seats none = record { granted = refl; returned = refl; begins_none = refl; swings_none = λ id e. absurd (cc) }
-seats_tell _ seats none = absurd (cc)
+pub seat_entry_tells_no_spine : (entry : Entry) → is_collectors entry ≡ false → (effect_of entry).words ≡ 0 → TellsNoSpine entry
+seat_entry_tells_no_spine (entries.Said number command reply) seats none = record { granted = none; returned = refl; begins_none = refl; swings_none = λ id e. absurd (cc) }
+seat_entry_tells_no_spine (entries.Takes number count) seats none = record { granted = refl; returned = refl; begins_none = refl; swings_none = λ id e. absurd (cc) }
+seat_entry_tells_no_spine (entries.GivesBack number count) seats none = record { granted = refl; returned = refl; begins_none = refl; swings_none = λ id e. absurd (cc) }
+seat_entry_tells_no_spine (entries.Answers number p) seats none = record { granted = refl; returned = refl; begins_none = refl; swings_none = λ id e. absurd (cc) }
+seat_entry_tells_no_spine _ seats none = absurd (cc)

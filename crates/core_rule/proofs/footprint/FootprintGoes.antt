@@ -7,9 +7,9 @@ use Rattle.core_machine.specs.declared.collector.stage.Stage.TheVariants as stag
 use Rattle.core_machine.specs.declared.place.Place.TheVariants as places
 use Rattle.core_rule.specs.footprint.Footprint.{Footprint, StageStandsInside, is_inside}
 use Rattle.core_rule.proofs.book.BookGoing.{BookGoesOn}
-use Rattle.core_rule.proofs.footprint.Named.{named_inside}
-use Rattle.core_rule.proofs.footprint.StaysInside.{inside_from, new_apart}
-use Rattle.core_rule.proofs.kept.WeightGrowth.{size_grows, cleared_goes_on}
+use Rattle.core_rule.proofs.footprint.Named.{named_is_inside}
+use Rattle.core_rule.proofs.footprint.StaysInside.{kept_stays_inside, new_is_not_begun}
+use Rattle.core_rule.proofs.kept.WeightGrowth.{inside_grows_within_taken, cleared_within_goes_on}
 
 module _ (heap : Heap) (state new : State) (book now : Book) (added : List Entry) (rule : Rule heap state book) (after : Rule heap new now) (grown : now.history ≡ book.history ++ added)
     (goes : BookGoesOn heap state book now) (begun : List Id) (reach : IsReach (graph_of heap (up_to_cycle book.history)) begun) (most : ℕ) where
@@ -26,39 +26,39 @@ module _ (heap : Heap) (state new : State) (book now : Book) (added : List Entry
   used_now = subst (AreUsed heap now.owner) grown after.heap_stands.used
 
   -- what was said of a stage
-  pub stage_goes : (stage : Stage) → StageStandsInside heap book.made begun inside book.owner most stage → StageStandsInside heap now.made begun inside now.owner (most + taken) stage
-  stage_goes (stages.Shading scan target next) stands = λ i k owned. inside_from heap state new book now rule after goes begun reach target i k owned (λ was below. stands i k was)
-  stage_goes (stages.Spreading s target) stands = λ i k owned. inside_from heap state new book now rule after goes begun reach target i k owned (λ was below. stands i k was)
-  stage_goes (stages.Clearing group kept) stands =
-      cleared_goes_on heap book.made now.made book.owner now.owner goes.owners goes.made within begun (new_apart heap state new book now rule after goes begun reach)
+  pub stage_stands_inside_still : (stage : Stage) → StageStandsInside heap book.made begun inside book.owner most stage → StageStandsInside heap now.made begun inside now.owner (most + taken) stage
+  stage_stands_inside_still (stages.Shading scan target next) stands = λ i k owned. kept_stays_inside heap state new book now rule after goes begun reach target i k owned (λ was below. stands i k was)
+  stage_stands_inside_still (stages.Spreading s target) stands = λ i k owned. kept_stays_inside heap state new book now rule after goes begun reach target i k owned (λ was below. stands i k was)
+  stage_stands_inside_still (stages.Clearing group kept) stands =
+      cleared_within_goes_on heap book.made now.made book.owner now.owner goes.owners goes.made within begun (new_is_not_begun heap state new book now rule after goes begun reach)
       book.history added rule.heap_stands.used used_now most group kept stands
-  stage_goes (stages.Ending kept) stands =
-      cleared_goes_on heap book.made now.made book.owner now.owner goes.owners goes.made within begun (new_apart heap state new book now rule after goes begun reach)
+  stage_stands_inside_still (stages.Ending kept) stands =
+      cleared_within_goes_on heap book.made now.made book.owner now.owner goes.owners goes.made within begun (new_is_not_begun heap state new book now rule after goes begun reach)
       book.history added rule.heap_stands.used used_now most heap.groups kept stands
-  stage_goes _ stands = tt
+  stage_stands_inside_still _ stands = tt
 
   module _ (foot : Footprint heap state book begun inside most) where
     -- an old value that was loaded before
-    pub old_goes : (number f i k : ℕ) → number < heap.seats → (seat_at state number).place ≡ places.Access ShadingOld → head_of (seat_at state number).loaded ≡ Some f
+    pub old_value_is_inside : (number f i k : ℕ) → number < heap.seats → (seat_at state number).place ≡ places.Access ShadingOld → head_of (seat_at state number).loaded ≡ Some f
         → now.owner f ≡ Kept i k → inside (id_at now.made i) ≡ true
-    old_goes number f i k here placed loads owned =
-        inside_from heap state new book now rule after goes begun reach f i k owned (λ was below. foot.olds number f i k here placed loads was)
+    old_value_is_inside number f i k here placed loads owned =
+        kept_stays_inside heap state new book now rule after goes begun reach f i k owned (λ was below. foot.olds number f i k here placed loads was)
 
     -- the footprint goes on where all that is kept is inside in the last phase, and what sets and the collector have loaded is
-    pub footprint_goes : (phase now.history % cycle_phases ≡ clearing_phase → (f i k : ℕ) → book.owner f ≡ Kept i k → inside (id_at book.made i) ≡ true)
+    pub footprint_goes_on : (phase now.history % cycle_phases ≡ clearing_phase → (f i k : ℕ) → book.owner f ≡ Kept i k → inside (id_at book.made i) ≡ true)
         → ((number f i k : ℕ) → number < heap.seats → (seat_at new number).place ≡ places.Access ShadingOld → head_of (seat_at new number).loaded ≡ Some f
         → now.owner f ≡ Kept i k → inside (id_at now.made i) ≡ true)
         → StageStandsInside heap now.made begun inside now.owner (most + taken) new.collector.stage
         → Footprint heap new now begun inside (most + taken)
-    footprint_goes last olds stage = record {
-      kept = λ f i k owned why. inside_from heap state new book now rule after goes begun reach f i k owned (λ was below. elim why [
+    footprint_goes_on last olds stage = record {
+      kept = λ f i k owned why. kept_stays_inside heap state new book now rule after goes begun reach f i k owned (λ was below. elim why [
         | inl marked ↦ elim (goes.marked f i k owned below marked) [
           | inl before ↦ foot.kept f i k was (inl before)
-          | inr named ↦ named_inside heap state book rule begun reach most foot f i k named was
+          | inr named ↦ named_is_inside heap state book rule begun reach most foot f i k named was
         ]
         | inr ends ↦ last ends f i k was
       ]);
       olds = olds;
       stage = stage;
-      size = let grows = size_grows heap book.made now.made book.owner now.owner goes.owners goes.made within book.history added rule.heap_stands.used used_now inside in omega (arith, foot.size, grows);
+      size = let grows = inside_grows_within_taken heap book.made now.made book.owner now.owner goes.owners goes.made within book.history added rule.heap_stands.used used_now inside in omega (arith, foot.size, grows);
     }

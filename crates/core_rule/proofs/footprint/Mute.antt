@@ -13,14 +13,14 @@ abbrev pub AreMute : List Entry → Type 0
 AreMute entries = AllByRecursion IsMute entries
 
 -- so their sums are none
-pub mute_begins : (entries : List Entry) → AreMute entries → list_any begins_cycle entries ≡ false
-mute_begins [] mute = refl
-mute_begins (entry ∷ entries) mute = rw (mute.0.no_begin) (mute_begins entries mute.1)
+pub mute_begin_no_cycle : (entries : List Entry) → AreMute entries → list_any begins_cycle entries ≡ false
+mute_begin_no_cycle [] mute = refl
+mute_begin_no_cycle (entry ∷ entries) mute = rw (mute.0.no_begin) (mute_begin_no_cycle entries mute.1)
 
-pub mute_phase : (entries : List Entry) → AreMute entries → phase entries ≡ 0
-mute_phase [] mute = refl
-mute_phase (entry ∷ entries) mute = omega (arith, sum_by-cons (λ e. (effect_of e).phases) entry entries, mute.0.no_phase, mute_phase entries mute.1)
+pub mute_tell_no_phase : (entries : List Entry) → AreMute entries → phase entries ≡ 0
+mute_tell_no_phase [] mute = refl
+mute_tell_no_phase (entry ∷ entries) mute = omega (arith, sum_by-cons (λ e. (effect_of e).phases) entry entries, mute.0.no_phase, mute_tell_no_phase entries mute.1)
 
 -- one entry
-pub one_mute : (entry : Entry) → begins_cycle entry ≡ false → (effect_of entry).phases ≡ 0 → AreMute (entry ∷ [])
-one_mute entry begin phases = (record { no_begin = begin; no_phase = phases }, tt)
+pub one_entry_is_mute : (entry : Entry) → begins_cycle entry ≡ false → (effect_of entry).phases ≡ 0 → AreMute (entry ∷ [])
+one_entry_is_mute entry begin phases = (record { no_begin = begin; no_phase = phases }, tt)

@@ -3,7 +3,7 @@ use Rattle.std.proofs.Common.{◌≡◌, ℕ, ◌<◌, inl, inr, length, sym, ap
 use Rattle.std.proofs.lemmas.Bool.{cases_lt}
 use Rattle.core_rule.proofs.Terms.{Heap, graph_of, IsMade, State, Book, id_at, object_number, Kept, Rule}
 use Rattle.core_rule.proofs.book.BookGoing.{BookGoesOn}
-use Rattle.core_rule.proofs.footprint.StaysInside.{kept_came}
+use Rattle.core_rule.proofs.footprint.StaysInside.{kept_before_or_new}
 
 module _ (heap : Heap) (state new : State) (book now : Book) (rule : Rule heap state book) (after : Rule heap new now) (goes : BookGoesOn heap state book now) (graph : graph_of heap now.history ≡ graph_of heap book.history) where
   -- no object is new
@@ -23,10 +23,10 @@ module _ (heap : Heap) (state new : State) (book now : Book) (rule : Rule heap s
       ]
 
   -- what is kept was kept as part of the same object
-  pub kept_before : (f i k : ℕ) → now.owner f ≡ Kept i k → (i < length book.made) × (book.owner f ≡ Kept i k)
-  kept_before f i k owned =
+  pub kept_was_kept : (f i k : ℕ) → now.owner f ≡ Kept i k → (i < length book.made) × (book.owner f ≡ Kept i k)
+  kept_was_kept f i k owned =
       let below : i < length book.made = made_before i (after.heap_stands.objects.back f i k owned).0 in
-      elim (kept_came (length book.made) (book.owner f) (now.owner f) i k (goes.owners.each f) owned) [
+      elim (kept_before_or_new (length book.made) (book.owner f) (now.owner f) i k (goes.owners.each f) owned) [
         | inl same ↦ (below, same)
         | inr above ↦ absurd (omega (arith, below, above))
       ]

@@ -11,21 +11,21 @@ use Rattle.core_machine.specs.seat.FitsAccess.{SeatIsAtSet}
 use Rattle.core_rule.specs.footprint.Footprint.{CycleStands, StageStandsInside, is_inside}
 use Rattle.core_rule.specs.Stands.{Stands}
 use Rattle.core_rule.proofs.entries.AtRest.{seat_fits}
-use Rattle.core_rule.proofs.footprint.CarryCycle.{carry_cycle}
-use Rattle.core_rule.proofs.footprint.Closed.{registers_inside}
-use Rattle.core_rule.proofs.footprint.FootprintGoes.{footprint_goes, stage_goes, old_goes}
-use Rattle.core_rule.proofs.footprint.Named.{cell_inside}
-use Rattle.core_rule.proofs.looks.Origins.{ComesFrom, IsOld, begin_old, inner_old}
-use Rattle.core_rule.proofs.looks.Stays.{step_looks, begin_looks, inner_looks}
+use Rattle.core_rule.proofs.footprint.CarryCycle.{cycle_stands_carried}
+use Rattle.core_rule.proofs.footprint.Closed.{register_ids_are_inside}
+use Rattle.core_rule.proofs.footprint.FootprintGoes.{footprint_goes_on, stage_stands_inside_still, old_value_is_inside}
+use Rattle.core_rule.proofs.footprint.Named.{cell_target_is_inside}
+use Rattle.core_rule.proofs.looks.Origins.{ComesFrom, IsOld, begin_is_not_old, inner_is_not_old}
+use Rattle.core_rule.proofs.looks.Stays.{all_looks_stand_after_step, all_looks_stand_after_begin, all_looks_stand_after_inner}
 use Rattle.core_machine.specs.seat.Collecting.{inner_place}
 use Rattle.heap_model.specs.declared.calls.collect.Inner.{Inner}
-use Rattle.core_rule.proofs.footprint.Mute.{AreMute, mute_begins, mute_phase}
-use Rattle.core_rule.proofs.entries.StepTells.{shows_mute}
-use Rattle.core_rule.proofs.steps.Seats.{step_kind}
-use Rattle.core_rule.proofs.footprint.StaysInside.{inside_from}
-use Rattle.core_rule.proofs.kept.WeightGrowth.{total-added}
+use Rattle.core_rule.proofs.footprint.Mute.{AreMute, mute_begin_no_cycle, mute_tell_no_phase}
+use Rattle.core_rule.proofs.entries.StepTells.{shown_are_mute}
+use Rattle.core_rule.proofs.steps.Seats.{step_kind_of_each_place}
+use Rattle.core_rule.proofs.footprint.StaysInside.{kept_stays_inside}
+use Rattle.core_rule.proofs.kept.WeightGrowth.{total_of_appended}
 use Rattle.core_rule.proofs.steps.Assemble.{Keeps}
-use Rattle.core_rule.proofs.ways.LoadedObjects.{loaded_refers}
+use Rattle.core_rule.proofs.ways.LoadedObjects.{loaded_field_refers}
 
 -- an old value was loaded
 old_loaded : (seat : Seat) (head : Option ℕ) → (after_old_load seat head).loaded ≡ seat.loaded
@@ -56,7 +56,7 @@ module _ (heap : Heap) (state new : State) (book : Book) (begun_at : ℕ → ℕ
   now = keeps.now
 
   phase_same : phase now.history ≡ phase book.history
-  phase_same = omega (arith, ap phase keeps.grown, total-added (λ e. e.phases) book.history added, mute_phase added mute)
+  phase_same = omega (arith, ap phase keeps.grown, total_of_appended (λ e. e.phases) book.history added, mute_tell_no_phase added mute)
 
   -- the cycle goes on where the collector stays, and what sets have loaded is inside
   pub quiet_cycle : new.collector ≡ state.collector
@@ -64,17 +64,17 @@ module _ (heap : Heap) (state new : State) (book : Book) (begun_at : ℕ → ℕ
       → head_of (seat_at new number).loaded ≡ Some f → (seat_at new number ≡ seat_at state number)
       ⊎ (book.owner f ≡ Kept i k → is_inside (graph_of heap (up_to_cycle book.history)) begun (id_at book.made i) ≡ true))
       → CycleStands heap new now
-  quiet_cycle same olds = carry_cycle heap state new book now added keeps.grown (mute_begins added mute) (λ running rests. running (ap (λ p. p % cycle_phases) phase_same ∙ rests)) stands.cycle (λ begun reach foot.
+  quiet_cycle same olds = cycle_stands_carried heap state new book now added keeps.grown (mute_begin_no_cycle added mute) (λ running rests. running (ap (λ p. p % cycle_phases) phase_same ∙ rests)) stands.cycle (λ begun reach foot.
       let most : ℕ = bound heap begun book.history in
-      footprint_goes heap state new book now added rule keeps.rule keeps.grown keeps.goes begun reach most foot
+      footprint_goes_on heap state new book now added rule keeps.rule keeps.grown keeps.goes begun reach most foot
       (λ last f i k owned. foot.kept f i k owned (inr (ap (λ p. p % cycle_phases) (sym phase_same) ∙ last)))
       (λ number f i k here placed loads owned. elim (olds begun reach number f i k here placed loads) [
-        | inl stays ↦ old_goes heap state new book now added rule keeps.rule keeps.grown keeps.goes begun reach most foot number f i k here
+        | inl stays ↦ old_value_is_inside heap state new book now added rule keeps.rule keeps.grown keeps.goes begun reach most foot number f i k here
             (ap (λ (s : Seat). s.place) (sym stays) ∙ placed) (ap (λ (s : Seat). head_of s.loaded) (sym stays) ∙ loads) owned
-        | inr its ↦ inside_from heap state new book now rule keeps.rule keeps.goes begun reach f i k owned (λ was below. its was)
+        | inr its ↦ kept_stays_inside heap state new book now rule keeps.rule keeps.goes begun reach f i k owned (λ was below. its was)
       ])
       (subst (λ (c : Collector). StageStandsInside heap now.made begun (is_inside (graph_of heap (up_to_cycle book.history)) begun) now.owner (most + total (λ e. e.taken) added) c.stage) (sym same)
-      (stage_goes heap state new book now added rule keeps.rule keeps.grown keeps.goes begun reach most state.collector.stage foot.stage)))
+      (stage_stands_inside_still heap state new book now added rule keeps.rule keeps.grown keeps.goes begun reach most state.collector.stage foot.stage)))
 
 module _ (heap : Heap) (state : State) (book : Book) (stands : Stands heap state book) (number : ℕ) (here : number < heap.seats) where
   abbrev seat : Seat
@@ -98,15 +98,15 @@ module _ (heap : Heap) (state : State) (book : Book) (stands : Stands heap state
       let holds : HoldsValue book.made book.owner book.fragments (register_in seat.registers r) (register_value g number r)
       = seat_stands.names.registers r (λ awaited. subst (λ x. IsAwaited x (target_of seat.command) r) placed awaited) in
       let held = subst (λ held. HoldsValue book.made book.owner book.fragments held (register_value g number r)) finds.way.holds holds in
-      let holder = registers_inside heap book.history begun rule.heap_stands.legal.objects reach number r (id_at book.made finds.index) held.0 in
-      cell_inside heap state book rule begun reach finds.index f i k holder
-      (loaded_refers heap state.words g book.made book.owner book.fragments rule.machine.limits rule.heap_stands.control_words rule.heap_stands.ids rule.heap_stands.objects seat fits.0.2.arrived finds f loads) owned
+      let holder = register_ids_are_inside heap book.history begun rule.heap_stands.legal.objects reach number r (id_at book.made finds.index) held.0 in
+      cell_target_is_inside heap state book rule begun reach finds.index f i k holder
+      (loaded_field_refers heap state.words g book.made book.owner book.fragments rule.machine.limits rule.heap_stands.control_words rule.heap_stands.ids rule.heap_stands.objects seat fits.0.2.arrived finds f loads) owned
 
   abbrev after : State
   after = state_after heap state (Steps number)
 
   step_mute : AreMute (entries heap state (Steps number))
-  step_mute = shows_mute number seat seat.place (entries heap state (Steps number)) ((step_kind seat.place).shows heap state number)
+  step_mute = shown_are_mute number seat seat.place (entries heap state (Steps number)) ((step_kind_of_each_place seat.place).shows heap state number)
 
   step_olds : (begun : List Id) → IsReach (graph_of heap (up_to_cycle book.history)) begun → (r f i k : ℕ) → r < heap.seats → (seat_at after r).place ≡ places.Access ShadingOld
       → head_of (seat_at after r).loaded ≡ Some f → (seat_at after r ≡ seat_at state r)
@@ -121,7 +121,7 @@ module _ (heap : Heap) (state : State) (book : Book) (stands : Stands heap state
           let moved = due_own heap state number (next_move heap number seat) seated in
           let is_now : (seat_at after number).place ≡ places.Access ShadingOld = subst (λ n. (seat_at after n).place ≡ places.Access ShadingOld) same placed in
           let old : (seat_after_due seat (move_at heap number seat seat.place) moved.0).place ≡ places.Access ShadingOld = sym (ap (λ (s : Seat). s.place) moved.1) ∙ is_now in
-          let before : seat.place ≡ places.Access LoadingOld = subst (ComesFrom seat.place) old ((step_kind seat.place).looks.comes heap number seat moved.0 refl) in
+          let before : seat.place ≡ places.Access LoadingOld = subst (ComesFrom seat.place) old ((step_kind_of_each_place seat.place).looks.comes heap number seat moved.0 refl) in
           let loaded : head_of (seat_at after number).loaded ≡ Some f = subst (λ n. head_of (seat_at after n).loaded ≡ Some f) same loads in
           loads_inside begun reach before f i k (sym (ap head_of (found_now before)) ∙ loaded)
         where
@@ -130,11 +130,11 @@ module _ (heap : Heap) (state : State) (book : Book) (stands : Stands heap state
               (ap (λ (s : Seat). s.loaded) (get_or-set_same state.seats number _ absent_seat seated) ∙ old_loaded (record seat { loaded = at heap state.words (Word seat.reached seat.part) }) (head_of (at heap state.words (Word seat.reached seat.part))))
 
   -- by a step of a seat
-  pub step_cycle : (keeps : Keeps heap state after book book.begun (entries heap state (Steps number))) → Stands heap after keeps.now
-  step_cycle keeps = record {
+  pub stands_after_seat_step : (keeps : Keeps heap state after book book.begun (entries heap state (Steps number))) → Stands heap after keeps.now
+  stands_after_seat_step keeps = record {
     rule = keeps.rule;
     cycle = quiet_cycle heap state after book book.begun (entries heap state (Steps number)) stands keeps step_mute (due_collector heap state number (next_move heap number seat)) step_olds;
-    looks = step_looks heap state book keeps.now.history number stands.rule here stands.looks keeps.grown;
+    looks = all_looks_stand_after_step heap state book keeps.now.history number stands.rule here stands.looks keeps.grown;
   }
 
   -- where a seat comes to stand elsewhere than at an old value, what the others have loaded stays
@@ -147,27 +147,27 @@ module _ (heap : Heap) (state : State) (book : Book) (stands : Stands heap state
   ]
 
   -- so it is by the begin of a call
-  pub begin_cycle : (command : Command) (begun_at : ℕ → ℕ) → Can heap state (Begins number command)
+  pub stands_after_begin : (command : Command) (begun_at : ℕ → ℕ) → Can heap state (Begins number command)
       → (keeps : Keeps heap state (state_after heap state (Begins number command)) book begun_at []) → Stands heap (state_after heap state (Begins number command)) keeps.now
-  begin_cycle command begun_at can keeps =
+  stands_after_begin command begun_at can keeps =
       let new = state_after heap state (Begins number command) in
       let place : (seat_at new number).place ≡ (after_begin heap seat command).place = ap (λ (s : Seat). s.place) (get_or-set_same state.seats number _ absent_seat seated) in
       record {
         rule = keeps.rule;
         cycle = quiet_cycle heap state new book begun_at [] stands keeps tt refl
-            (olds_stay new (λ r. get_or-set_other state.seats number r _ absent_seat) (λ old. begin_old heap seat command can.1.idle (subst IsOld place old)));
-        looks = begin_looks heap state book.history keeps.now.history number command seated here can.1 stands.looks keeps.grown;
+            (olds_stay new (λ r. get_or-set_other state.seats number r _ absent_seat) (λ old. begin_is_not_old heap seat command can.1.idle (subst IsOld place old)));
+        looks = all_looks_stand_after_begin heap state book.history keeps.now.history number command seated here can.1 stands.looks keeps.grown;
       }
 
   -- and by that of an inner call
-  pub inner_cycle : (inner : Inner) (begun_at : ℕ → ℕ) → Can heap state (BeginsInner number inner)
+  pub stands_after_inner_begin : (inner : Inner) (begun_at : ℕ → ℕ) → Can heap state (BeginsInner number inner)
       → (keeps : Keeps heap state (state_after heap state (BeginsInner number inner)) book begun_at []) → Stands heap (state_after heap state (BeginsInner number inner)) keeps.now
-  inner_cycle inner begun_at can keeps =
+  stands_after_inner_begin inner begun_at can keeps =
       let new = state_after heap state (BeginsInner number inner) in
       let place : (seat_at new number).place ≡ inner_place inner = ap (λ (s : Seat). s.place) (get_or-set_same state.seats number _ absent_seat seated) in
       record {
         rule = keeps.rule;
         cycle = quiet_cycle heap state new book begun_at [] stands keeps tt refl
-            (olds_stay new (λ r. get_or-set_other state.seats number r _ absent_seat) (λ old. inner_old inner (subst IsOld place old)));
-        looks = inner_looks heap state book.history keeps.now.history number inner seated here can.1 stands.looks keeps.grown;
+            (olds_stay new (λ r. get_or-set_other state.seats number r _ absent_seat) (λ old. inner_is_not_old inner (subst IsOld place old)));
+        looks = all_looks_stand_after_inner heap state book.history keeps.now.history number inner seated here can.1 stands.looks keeps.grown;
       }

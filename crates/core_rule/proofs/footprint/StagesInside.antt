@@ -10,16 +10,16 @@ use Rattle.core_machine.specs.collector.Sweeping.{after_swept, after_examined, a
 use Rattle.core_machine.specs.declared.collector.stage.Scan.{Scan}
 use Rattle.core_machine.specs.declared.collector.stage.SpineScan.{SpineScan}
 use Rattle.core_machine.specs.declared.collector.stage.Stage.TheVariants as stages
-use Rattle.core_machine.proofs.collector_lemmas.SpineTurns.{spine_cases}
+use Rattle.core_machine.proofs.collector_lemmas.SpineTurns.{spine_scan_cases}
 use Rattle.core_rule.specs.footprint.Footprint.{Footprint, StageStandsInside, ClearedWithin, is_inside}
-use Rattle.core_rule.proofs.colours.SourceCases.{word_leads}
-use Rattle.core_rule.proofs.kept.Clears.{clears_on, clears_begin}
-use Rattle.core_rule.proofs.footprint.Named.{cell_inside}
-use Rattle.core_rule.proofs.marking.Marks.{settled_phase}
-use Rattle.core_rule.proofs.marking.ObjectEdges.{kept_refers, part_owned}
-use Rattle.core_rule.proofs.marking.Scans.{spine_points}
+use Rattle.core_rule.proofs.colours.SourceCases.{leads_by_word}
+use Rattle.core_rule.proofs.kept.Clears.{cleared_within_next_group, cleared_within_at_begin}
+use Rattle.core_rule.proofs.footprint.Named.{cell_target_is_inside}
+use Rattle.core_rule.proofs.marking.Marks.{settled_phase_is_between}
+use Rattle.core_rule.proofs.marking.ObjectEdges.{kept_leads_to_part_or_cell, part_is_kept}
+use Rattle.core_rule.proofs.marking.Scans.{spine_word_leads_to_payload}
 use Rattle.core_rule.proofs.marking.SweepMarks.{after_swept_either, after_cleared_either}
-use Rattle.core_rule.proofs.turns.WorkCases.{work_either}
+use Rattle.core_rule.proofs.turns.WorkCases.{first_work_cases}
 
 -- a cycle under way: what was reached when it began has its footprint
 pub record UnderWay (heap : Heap) (state : State) (book : Book) : Type 0 where
@@ -40,16 +40,16 @@ module _ (heap : Heap) (state : State) (book : Book) (rule : Rule heap state boo
   begins_clearing : state.collector.phase % cycle_phases ≡ clearing_phase → ClearedWithin heap book.made cycle.begun book.owner cycle.most 0 0
   begins_clearing last =
       let told : phase book.history % cycle_phases ≡ clearing_phase = ap (λ p. p % cycle_phases) (sym rule.collector_stands.phase_told) ∙ last in
-      clears_begin heap book.made book.owner inside (λ f i k owned. cycle.foot.kept f i k owned (inr told))
-      (rule.marks_stand.heap_marks.alive (λ settled. let between = settled_phase state.collector.phase state.collector.stage settled in omega (arith, between.upto, last)))
+      cleared_within_at_begin heap book.made book.owner inside (λ f i k owned. cycle.foot.kept f i k owned (inr told))
+      (rule.marks_stand.heap_marks.alive (λ settled. let between = settled_phase_is_between state.collector.phase state.collector.stage settled in omega (arith, between.upto, last)))
       cycle.begun cycle.most cycle.foot.size
 
   -- after a look
   work_inside : Inside (first_work state.collector.phase)
-  work_inside = work_either (λ stage turns. Inside stage) heap.groups state.collector.phase (λ marks. tt) (λ copies. tt) (λ sweeps. tt) begins_clearing (λ nothing. tt)
+  work_inside = first_work_cases (λ stage turns. Inside stage) heap.groups state.collector.phase (λ marks. tt) (λ copies. tt) (λ sweeps. tt) begins_clearing (λ nothing. tt)
 
-  pub look_inside : (found : ℕ) → Inside (after_look heap state.collector found).stage
-  look_inside found = by (has_answered_of state.collector.phase found)
+  pub inside_after_look : (found : ℕ) → Inside (after_look heap state.collector found).stage
+  inside_after_look found = by (has_answered_of state.collector.phase found)
     where
       last : (b : Bool) → Inside (if b then record state.collector { looked = state.collector.looked + 1 } else after_last_look heap state.collector).stage
       last true = cycle.foot.stage
@@ -60,9 +60,9 @@ module _ (heap : Heap) (state : State) (book : Book) (rule : Rule heap state boo
       by false = cycle.foot.stage
 
   -- after a pass
-  pub pass_inside : (group : ℕ) (found : Bool) (place : Option ℕ) → Inside (after_pass heap group found place)
-  pass_inside group found (Some place) = tt
-  pass_inside group found None = by (nat_lt (group + 1) heap.groups)
+  pub inside_after_pass : (group : ℕ) (found : Bool) (place : Option ℕ) → Inside (after_pass heap group found place)
+  inside_after_pass group found (Some place) = tt
+  inside_after_pass group found None = by (nat_lt (group + 1) heap.groups)
     where
       last : (some : Bool) → Inside (after_last_group some)
       last true = tt
@@ -72,75 +72,75 @@ module _ (heap : Heap) (state : State) (book : Book) (rule : Rule heap state boo
       by true = tt
       by false = last found
 
-  pub at_inside : (scan : Scan) (part : ℕ) → Inside (scan_at scan part)
-  at_inside scan part = by (nat_lt part 4)
+  pub inside_scan_at : (scan : Scan) (part : ℕ) → Inside (scan_at scan part)
+  inside_scan_at scan part = by (nat_lt part 4)
     where
       by : (b : Bool) → Inside (if b then stages.Scanning (record scan { part = part }) else stages.Blackening (record scan { part = part }))
       by true = tt
       by false = tt
 
-  pub spine_at_inside : (s : SpineScan) → Inside (spine_scan_at s)
-  spine_at_inside s = spine_cases Inside s (λ more. tt) (λ done. tt)
+  pub inside_spine_scan_at : (s : SpineScan) → Inside (spine_scan_at s)
+  inside_spine_scan_at s = spine_scan_cases Inside s (λ more. tt) (λ done. tt)
 
   -- what a grey fragment leads to is inside, since its object is
   leads_inside : (f source target : ℕ) → book.colour f ≡ Grey → WordPointsTo heap state.words f source target → (i k : ℕ) → book.owner target ≡ Kept i k → inside (id_at book.made i) ≡ true
   leads_inside f source target grey leads i k owned =
       let part : IsPart book.owner f = rule.marks_stand.heap_marks.grey f grey in
       let holder = cycle.foot.kept f part.index part.place part.kept (inl (λ white. absurd (cc (grey, white)))) in
-      elim (kept_refers heap state book rule f part.index part.place part.kept source target leads) as (λ _. inside (id_at book.made i) ≡ true) [
+      elim (kept_leads_to_part_or_cell heap state book rule f part.index part.place part.kept source target leads) as (λ _. inside (id_at book.made i) ≡ true) [
         | inl its ↦
-            let same : Kept part.index its.place ≡ Kept i k = sym (part_owned heap state book rule f part.index part.place part.kept target its) ∙ owned in
+            let same : Kept part.index its.place ≡ Kept i k = sym (part_is_kept heap state book rule f part.index part.place part.kept target its) ∙ owned in
             let index : part.index ≡ i = cc in
             subst (λ n. inside (id_at book.made n) ≡ true) index holder
-        | inr cell ↦ cell_inside heap state book rule cycle.begun cycle.reach part.index target i k holder cell owned
+        | inr cell ↦ cell_target_is_inside heap state book rule cycle.begun cycle.reach part.index target i k holder cell owned
       ]
 
   -- so is what a scanned word leads to
   word_inside : (scan : Scan) → state.collector.stage ≡ stages.Scanning scan → (next : ℕ) (found : Option ℕ) → pointer_in scan.part (at heap state.words (Word scan.fragment scan.part)) ≡ found
       → Inside (after_scan_load scan next found)
-  word_inside scan scanning next None is = at_inside (scan_step scan) next
+  word_inside scan scanning next None is = inside_scan_at (scan_step scan) next
   word_inside scan scanning next (Some target) is =
       let fits : IsScanning heap state.collector.phase state.collector.looked scan = rw scanning at rule.machine.collector_fit.at_stage in
       let stands = subst (ScanStands heap state.words book.owner book.colour book.fragments) scanning rule.marks_stand.heap_marks.scan in
-      leads_inside scan.fragment scan.part target stands.0.grey (word_leads heap state.words scan.fragment scan.part target fits.fragment_within fits.part_within is)
+      leads_inside scan.fragment scan.part target stands.0.grey (leads_by_word heap state.words scan.fragment scan.part target fits.fragment_within fits.part_within is)
 
-  pub scan_inside : (scan : Scan) → state.collector.stage ≡ stages.Scanning scan → (length : Option ℕ) (next : ℕ)
+  pub inside_after_scan : (scan : Scan) → state.collector.stage ≡ stages.Scanning scan → (length : Option ℕ) (next : ℕ)
       → Inside (after_first_load scan length next (pointer_in scan.part (at heap state.words (Word scan.fragment scan.part))))
-  scan_inside scan scanning None next = word_inside scan scanning next (pointer_in scan.part (at heap state.words (Word scan.fragment scan.part))) refl
-  scan_inside scan scanning (Some cells) next = tt
+  inside_after_scan scan scanning None next = word_inside scan scanning next (pointer_in scan.part (at heap state.words (Word scan.fragment scan.part))) refl
+  inside_after_scan scan scanning (Some cells) next = tt
 
   -- and what a word of a spine names
-  pub index_inside : (s : SpineScan) → state.collector.stage ≡ stages.Indexing s → Inside (stages.Spreading (spine_step s) (payload_in (at heap state.words (spine_place s.spine s.index))))
-  index_inside s indexing =
+  pub inside_after_index : (s : SpineScan) → state.collector.stage ≡ stages.Indexing s → Inside (stages.Spreading (spine_step s) (payload_in (at heap state.words (spine_place s.spine s.index))))
+  inside_after_index s indexing =
       let fits : IsIndexing heap state.collector.phase state.collector.looked s = rw indexing at rule.machine.collector_fit.at_stage in
       let stands = subst (ScanStands heap state.words book.owner book.colour book.fragments) indexing rule.marks_stand.heap_marks.scan in
-      leads_inside s.scan.fragment (4 + s.index) _ stands.0.grey (spine_points heap state.words s stands.1 fits.on.fragment_within fits.on.index_within)
+      leads_inside s.scan.fragment (4 + s.index) _ stands.0.grey (spine_word_leads_to_payload heap state.words s stands.1 fits.on.fragment_within fits.on.index_within)
 
   -- after a group of the sweep
-  pub swept_inside : (group : ℕ) → Inside (after_swept heap group)
-  swept_inside group = after_swept_either Inside heap group tt (λ all. tt)
+  pub inside_after_swept : (group : ℕ) → Inside (after_swept heap group)
+  inside_after_swept group = after_swept_either Inside heap group tt (λ all. tt)
 
-  pub examined_inside : (group dead words : ℕ) (place : Option ℕ) → Inside (after_examined heap group dead words place)
-  examined_inside group dead words (Some place) = tt
-  examined_inside group dead words None = by (dead == 0)
+  pub inside_after_examined : (group dead words : ℕ) (place : Option ℕ) → Inside (after_examined heap group dead words place)
+  inside_after_examined group dead words (Some place) = tt
+  inside_after_examined group dead words None = by (dead == 0)
     where
       by : (b : Bool) → Inside (if b then after_swept heap group else stages.Freeing group dead words)
-      by true = swept_inside group
+      by true = inside_after_swept group
       by false = tt
 
-  pub freed_inside : (group words : ℕ) → Inside (after_freed heap group words)
-  freed_inside group words = by (words == 0)
+  pub inside_after_freed : (group words : ℕ) → Inside (after_freed heap group words)
+  inside_after_freed group words = by (words == 0)
     where
       by : (b : Bool) → Inside (if b then after_swept heap group else stages.Returning group words)
-      by true = swept_inside group
+      by true = inside_after_swept group
       by false = tt
 
   -- after one of the clearing
-  pub cleared_inside : (group kept : ℕ) → state.collector.stage ≡ stages.Clearing group kept → Inside (after_cleared heap group (kept + taken_count_of (at heap state.words (Control group))))
-  cleared_inside group kept clearing =
+  pub inside_after_cleared : (group kept : ℕ) → state.collector.stage ≡ stages.Clearing group kept → Inside (after_cleared heap group (kept + taken_count_of (at heap state.words (Control group))))
+  inside_after_cleared group kept clearing =
       let fits : IsClearing heap state.collector.phase state.collector.looked group kept = rw clearing at rule.machine.collector_fit.at_stage in
       let stands : ClearedWithin heap book.made cycle.begun book.owner cycle.most group kept = subst Inside clearing cycle.foot.stage in
-      let on = clears_on heap state.words book.owner rule.heap_stands.control_words group fits.group_within book.made cycle.begun cycle.most kept stands in
+      let on = cleared_within_next_group heap state.words book.owner rule.heap_stands.control_words group fits.group_within book.made cycle.begun cycle.most kept stands in
       after_cleared_either Inside heap group (kept + taken_count_of (at heap state.words (Control group))) on
       (λ all. let last : group + 1 ≡ heap.groups = omega (arith, all, fits.group_within) in
       subst (λ n. ClearedWithin heap book.made cycle.begun book.owner cycle.most n (kept + taken_count_of (at heap state.words (Control group)))) last on)

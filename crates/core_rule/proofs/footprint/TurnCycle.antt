@@ -9,15 +9,15 @@ use Rattle.heap_model.proofs.Histories.{total-more}
 use Rattle.core_machine.specs.declared.collector.stage.Stage.TheVariants as stages
 use Rattle.core_rule.specs.footprint.Footprint.{Footprint, CycleStands, is_inside}
 use Rattle.core_rule.specs.Stands.{Stands}
-use Rattle.core_rule.proofs.footprint.CarryCycle.{carry_cycle}
-use Rattle.core_rule.proofs.footprint.CycleBegins.{cycle_begins}
-use Rattle.core_rule.proofs.footprint.FootprintGoes.{footprint_goes, stage_goes, old_goes}
-use Rattle.core_rule.proofs.footprint.Mute.{AreMute, mute_begins, mute_phase}
-use Rattle.core_rule.proofs.kept.WeightGrowth.{total-added}
-use Rattle.core_rule.proofs.looks.Stays.{turn_looks}
+use Rattle.core_rule.proofs.footprint.CarryCycle.{cycle_stands_carried}
+use Rattle.core_rule.proofs.footprint.CycleBegins.{stands_after_cycle_begin}
+use Rattle.core_rule.proofs.footprint.FootprintGoes.{footprint_goes_on, stage_stands_inside_still, old_value_is_inside}
+use Rattle.core_rule.proofs.footprint.Mute.{AreMute, mute_begin_no_cycle, mute_tell_no_phase}
+use Rattle.core_rule.proofs.kept.WeightGrowth.{total_of_appended}
+use Rattle.core_rule.proofs.looks.Stays.{all_looks_stand_after_turn}
 use Rattle.core_rule.proofs.entries.TurnShapes.{TurnShape, adds_nothing, adds_one, begins_phase, ends_cycle}
 use Rattle.core_rule.proofs.steps.Assemble.{Keeps}
-use Rattle.core_rule.proofs.steps.collector.{turn_kind}
+use Rattle.core_rule.proofs.steps.collector.{turn_kind_of_each_stage}
 
 module _ (heap : Heap) (state : State) (book : Book) (stands : Stands heap state book) where
   abbrev rule : Rule heap state book
@@ -35,24 +35,24 @@ module _ (heap : Heap) (state : State) (book : Book) (stands : Stands heap state
       → (phase keeps.now.history % cycle_phases ≢ resting → phase book.history % cycle_phases ≢ resting)
       → ((begun : List Id) (inside : Id → Bool) (most : ℕ) → Footprint heap state book begun inside most → phase keeps.now.history % cycle_phases ≡ clearing_phase → (f i k : ℕ) → book.owner f ≡ Kept i k → inside (id_at book.made i) ≡ true)
       → CycleStands heap (after stage) keeps.now
-  on_cycle stage is keeps none runs last = carry_cycle heap state (after stage) book keeps.now (turn_at heap state.collector stage).adds keeps.grown none runs stands.cycle (λ begun reach foot.
+  on_cycle stage is keeps none runs last = cycle_stands_carried heap state (after stage) book keeps.now (turn_at heap state.collector stage).adds keeps.grown none runs stands.cycle (λ begun reach foot.
       let most : ℕ = bound heap begun book.history in
-      footprint_goes heap state (after stage) book keeps.now (turn_at heap state.collector stage).adds rule keeps.rule keeps.grown keeps.goes begun reach most foot
+      footprint_goes_on heap state (after stage) book keeps.now (turn_at heap state.collector stage).adds rule keeps.rule keeps.grown keeps.goes begun reach most foot
       (last begun (is_inside (graph_of heap (up_to_cycle book.history)) begun) most foot)
-      (old_goes heap state (after stage) book keeps.now (turn_at heap state.collector stage).adds rule keeps.rule keeps.grown keeps.goes begun reach most foot)
-      (stage_goes heap state (after stage) book keeps.now (turn_at heap state.collector stage).adds rule keeps.rule keeps.grown keeps.goes begun reach most
-      ((turn_at heap state.collector stage).told (found_by heap state (turn_at heap state.collector stage).step)).stage ((turn_kind stage).inside heap state book rule record { begun = begun; reach = reach; most = most; foot = foot } is)))
+      (old_value_is_inside heap state (after stage) book keeps.now (turn_at heap state.collector stage).adds rule keeps.rule keeps.grown keeps.goes begun reach most foot)
+      (stage_stands_inside_still heap state (after stage) book keeps.now (turn_at heap state.collector stage).adds rule keeps.rule keeps.grown keeps.goes begun reach most
+      ((turn_at heap state.collector stage).told (found_by heap state (turn_at heap state.collector stage).step)).stage ((turn_kind_of_each_stage stage).inside heap state book rule record { begun = begun; reach = reach; most = most; foot = foot } is)))
 
   -- by a turn that begins no phase
   mute_stands : (stage : Stage) → state.collector.stage ≡ stage → AreMute (turn_at heap state.collector stage).adds → (keeps : TurnKept stage) → Stands heap (after stage) keeps.now
   mute_stands stage is mute keeps =
       let same : phase keeps.now.history ≡ phase book.history
-      = omega (arith, ap phase keeps.grown, total-added (λ e. e.phases) book.history (turn_at heap state.collector stage).adds, mute_phase (turn_at heap state.collector stage).adds mute) in
+      = omega (arith, ap phase keeps.grown, total_of_appended (λ e. e.phases) book.history (turn_at heap state.collector stage).adds, mute_tell_no_phase (turn_at heap state.collector stage).adds mute) in
       record {
         rule = keeps.rule;
-        cycle = on_cycle stage is keeps (mute_begins (turn_at heap state.collector stage).adds mute) (λ running rests. running (ap (λ p. p % cycle_phases) same ∙ rests))
+        cycle = on_cycle stage is keeps (mute_begin_no_cycle (turn_at heap state.collector stage).adds mute) (λ running rests. running (ap (λ p. p % cycle_phases) same ∙ rests))
             (λ begun inside most foot ends f i k owned. foot.kept f i k owned (inr (ap (λ p. p % cycle_phases) (sym same) ∙ ends)));
-        looks = turn_looks heap state book.history keeps.now.history stage stands.looks keeps.grown;
+        looks = all_looks_stand_after_turn heap state book.history keeps.now.history stage stands.looks keeps.grown;
       }
 
   -- by one that begins the next phase
@@ -74,13 +74,13 @@ module _ (heap : Heap) (state : State) (book : Book) (stands : Stands heap state
 
   advance_stands : state.collector.stage ≡ stages.Advancing → (keeps : TurnKept stages.Advancing) → Stands heap (after stages.Advancing) keeps.now
   advance_stands is keeps = elim (eqb_tells (next % cycle_phases) barriers_phase) as (λ _. Stands heap (after stages.Advancing) keeps.now) [
-    | inl begins ↦ cycle_begins heap state (after stages.Advancing) book book.begun next stands keeps begins.0 is refl refl (λ r. refl) (turn_looks heap state book.history keeps.now.history stages.Advancing stands.looks keeps.grown)
+    | inl begins ↦ stands_after_cycle_begin heap state (after stages.Advancing) book book.begun next stands keeps begins.0 is refl refl (λ r. refl) (all_looks_stand_after_turn heap state book.history keeps.now.history stages.Advancing stands.looks keeps.grown)
     | inr other ↦ record {
       rule = keeps.rule;
       cycle = on_cycle stages.Advancing is keeps (no_begin other.0)
           (λ running rests. other.1 (let told = rule.collector_stands.phase_told in omega (arith, rests, told)))
           (swept_inside is keeps);
-      looks = turn_looks heap state book.history keeps.now.history stages.Advancing stands.looks keeps.grown;
+      looks = all_looks_stand_after_turn heap state book.history keeps.now.history stages.Advancing stands.looks keeps.grown;
     }
   ]
     where
@@ -97,7 +97,7 @@ module _ (heap : Heap) (state : State) (book : Book) (stands : Stands heap state
       record {
         rule = keeps.rule;
         cycle = λ running. absurd (running (omega (arith, grown, told, fits.for_clearing)));
-        looks = turn_looks heap state book.history keeps.now.history (stages.Ending kept) stands.looks keeps.grown;
+        looks = all_looks_stand_after_turn heap state book.history keeps.now.history (stages.Ending kept) stands.looks keeps.grown;
       }
 
   by_shape : (stage : Stage) → state.collector.stage ≡ stage → TurnShape heap state.collector (found_by heap state (turn_at heap state.collector stage).step) stage → (keeps : TurnKept stage)
@@ -108,5 +108,5 @@ module _ (heap : Heap) (state : State) (book : Book) (stands : Stands heap state
   by_shape _ is (ends_cycle kept) keeps = end_stands kept is keeps
 
   -- so by each turn
-  pub turn_cycle : (stage : Stage) → state.collector.stage ≡ stage → (keeps : TurnKept stage) → Stands heap (after stage) keeps.now
-  turn_cycle stage is keeps = by_shape stage is ((turn_kind stage).shape heap state.collector (found_by heap state (turn_at heap state.collector stage).step)) keeps
+  pub stands_after_turn : (stage : Stage) → state.collector.stage ≡ stage → (keeps : TurnKept stage) → Stands heap (after stage) keeps.now
+  stands_after_turn stage is keeps = by_shape stage is ((turn_kind_of_each_stage stage).shape heap state.collector (found_by heap state (turn_at heap state.collector stage).step)) keeps

@@ -4,20 +4,20 @@ use Rattle.core_rule.proofs.Terms.{Heap, graph_of, phase, last_answer, has_left,
 use Rattle.core_rule.proofs.Terms.{Black, fragment_at, WordPointsTo, SeatInCycle, IsStored, IsKept, node_at, SpineOwner, Rule, HeapStands, SeatStands, SpinesStand}
 use Rattle.core_machine.specs.declared.table.address.Address.{Address}
 use Rattle.core_machine.specs.declared.table.address.Address.TheVariants.{Phase, Answer}
-use Rattle.core_rule.proofs.colours.LeadsFrames.{leads_same}
-use Rattle.core_rule.proofs.colours.MarkWords.{marks_same}
-use Rattle.core_rule.proofs.cycle.CycleFrames.{cycle_watched}
-use Rattle.core_rule.proofs.cycle.FieldFrames.{watched_part}
+use Rattle.core_rule.proofs.colours.LeadsFrames.{led_before_where_same}
+use Rattle.core_rule.proofs.colours.MarkWords.{marks_where_controls_same}
+use Rattle.core_rule.proofs.cycle.CycleFrames.{seat_in_cycle_where_watched}
+use Rattle.core_rule.proofs.cycle.FieldFrames.{watched_is_part}
 use Rattle.core_rule.proofs.entries.AtRest.{seat_fits}
-use Rattle.core_rule.proofs.entries.InFlight.{stored_within}
-use Rattle.core_rule.proofs.frames.SeatFrames.{same_party, told_nothing, kept_owners, address_left, seat_left}
-use Rattle.core_rule.proofs.hand.HandMoves.{same_hand}
-use Rattle.core_rule.proofs.marking.KeptSources.{kept_sources}
-use Rattle.core_rule.proofs.objects.ObjectFrames.{objects_words}
-use Rattle.core_rule.proofs.spines.SpineFrames.{same_kept, SpinesLeft, SpineIsStored, PlacesStay}
-use Rattle.core_rule.proofs.ways.KeptWords.{kept_within}
+use Rattle.core_rule.proofs.entries.InFlight.{stored_within_body}
+use Rattle.core_rule.proofs.frames.SeatFrames.{same_party_of_same_graph, seat_told_same_without_entry, kept_stays_with_owners, address_at_stays, seat_stands_where_left_alone}
+use Rattle.core_rule.proofs.hand.HandMoves.{same_hand_of_itself}
+use Rattle.core_rule.proofs.marking.KeptSources.{same_sources_of_kept}
+use Rattle.core_rule.proofs.objects.ObjectFrames.{objects_with_same_words}
+use Rattle.core_rule.proofs.spines.SpineFrames.{same_kept_of_itself, SpinesLeft, SpineIsStored, PlacesStay}
+use Rattle.core_rule.proofs.ways.KeptWords.{owned_within_heap}
 use Rattle.core_rule.proofs.words.Addresses.{at-put_apart, SameSpines}
-use Rattle.core_rule.proofs.words.ControlLemmas.{bits_same}
+use Rattle.core_rule.proofs.words.ControlLemmas.{bits_where_controls_same}
 
 -- the control words, the fragments' words, the phase and the answers are as before
 pub record LeavesBeside (heap : Heap) (words now : List ℕ) : Type 0 where
@@ -27,16 +27,16 @@ pub record LeavesBeside (heap : Heap) (words now : List ℕ) : Type 0 where
   pub answers : (r : ℕ) → r < 16 → at heap now (Answer r) ≡ at heap words (Answer r)
 
 -- so they are where a word behind the answers is written that is none of the fragments' and no control word
-pub beside_aside : (heap : Heap) (words : List ℕ) (a : Address) (n : ℕ) → 17 ≤ index_of heap a → index_of heap a < 19 → LeavesBeside heap words (put heap words a n)
-beside_aside heap words a n behind ahead = record {
+pub leaves_beside_word_aside : (heap : Heap) (words : List ℕ) (a : Address) (n : ℕ) → 17 ≤ index_of heap a → index_of heap a < 19 → LeavesBeside heap words (put heap words a n)
+leaves_beside_word_aside heap words a n behind ahead = record {
   controls = λ group below. at-put_apart heap words a (Control group) n (λ e. omega (arith, e, ahead));
   parts = λ f part within fits. at-put_apart heap words a (Word f part) n (λ e. omega (arith, e, ahead));
   phase_word = at-put_apart heap words a Phase n (λ e. omega (arith, e, behind));
   answers = λ r few. at-put_apart heap words a (Answer r) n (λ e. omega (arith, e, behind, few));
 }
 
-pub beside_spine : (heap : Heap) (words : List ℕ) (a : Address) (n : ℕ) → 19 + 65 * heap.groups ≤ index_of heap a → LeavesBeside heap words (put heap words a n)
-beside_spine heap words a n behind = record {
+pub leaves_beside_spine_word : (heap : Heap) (words : List ℕ) (a : Address) (n : ℕ) → 19 + 65 * heap.groups ≤ index_of heap a → LeavesBeside heap words (put heap words a n)
+leaves_beside_spine_word heap words a n behind = record {
   controls = λ group below. at-put_apart heap words a (Control group) n (λ e. omega (arith, e, behind, below));
   parts = λ f part within fits. at-put_apart heap words a (Word f part) n (λ e. omega (arith, e, behind, within, fits));
   phase_word = at-put_apart heap words a Phase n (λ e. omega (arith, e, behind));
@@ -61,22 +61,22 @@ module _ (heap : Heap) (state : State) (book : Book) (rule : Rule heap state boo
   with_spine_owner spine_owner = record book { spine_owner = spine_owner }
 
   -- the heap stands, where black fragments lead where they led, and the spine words stand
-  pub heap_beside : (spine_owner : ℕ → ℕ → SpineOwner) → ((f source x : ℕ) → book.colour f ≡ Black → WordPointsTo heap now f source x → WordPointsTo heap state.words f source x)
+  pub heap_stands_beside : (spine_owner : ℕ → ℕ → SpineOwner) → ((f source x : ℕ) → book.colour f ≡ Black → WordPointsTo heap now f source x → WordPointsTo heap state.words f source x)
       → SpinesStand heap now heap.seats (length book.made) (node_at g book.made) book.owner book.fragments book.spines spine_owner → HeapStands heap now (with_spine_owner spine_owner)
-  heap_beside spine_owner black spines_stand =
+  heap_stands_beside spine_owner black spines_stand =
       let stands = rule.heap_stands in
       let coloured = stands.cycle.coloured in
       record {
-        control_words = bits_same heap state.words now book.owner beside.controls stands.control_words;
+        control_words = bits_where_controls_same heap state.words now book.owner beside.controls stands.control_words;
         owners = stands.owners;
         ids = stands.ids;
-        objects = objects_words heap state.words now g book.made book.owner book.fragments book.spines
-            (λ f i k part is fits. beside.parts f part (kept_within heap state.words book.owner f i k stands.control_words is) fits) spines stands.objects;
+        objects = objects_with_same_words heap state.words now g book.made book.owner book.fragments book.spines
+            (λ f i k part is fits. beside.parts f part (owned_within_heap heap state.words book.owner f i k stands.control_words is) fits) spines stands.objects;
         spines = spines_stand;
         used = stands.used;
         cycle = record {
           word = beside.phase_word ∙ stands.cycle.word;
-          marks = marks_same heap state.words now book.colour beside.controls stands.cycle.marks;
+          marks = marks_where_controls_same heap state.words now book.colour beside.controls stands.cycle.marks;
           coloured = record {
             rest = coloured.rest;
             early = coloured.early;
@@ -91,11 +91,11 @@ module _ (heap : Heap) (state : State) (book : Book) (rule : Rule heap state boo
   -- a seat has its part in the cycle
   cycle_beside : (r : ℕ) → r < heap.seats → SeatInCycle heap now (phase book.history) (last_answer r book.history) (has_left r book.history) book.owner book.colour r (seat_at state r)
   cycle_beside r below =
-      cycle_watched heap state.words now book.owner book.owner book.colour book.colour (phase book.history) (last_answer r book.history) (has_left r book.history) r (seat_at state r)
+      seat_in_cycle_where_watched heap state.words now book.owner book.owner book.colour book.colour (phase book.history) (last_answer r book.history) (has_left r book.history) r (seat_at state r)
       (beside.answers r (omega (arith, below, rule.machine.limits.seats_fit))) (λ f marked. marked) (λ f borne. (borne, refl))
       (λ making reaching is watching x leads.
-      let part = watched_part heap state book rule r below reaching is watching in
-      inl (leads_same heap state.words now (seat_at state r).reached (kept_sources heap state book rule now beside.parts spines (seat_at state r).reached part.index part.place part.kept) (seat_at state r).part x leads))
+      let part = watched_is_part heap state book rule r below reaching is watching in
+      inl (led_before_where_same heap state.words now (seat_at state r).reached (same_sources_of_kept heap state book rule now beside.parts spines (seat_at state r).reached part.index part.place part.kept) (seat_at state r).part x leads))
       (rule.seats_stand r below).cycle
 
   -- what it has stored into its object stands
@@ -103,25 +103,25 @@ module _ (heap : Heap) (state : State) (book : Book) (rule : Rule heap state boo
   stored_beside r below u less =
       let seat : Seat = seat_at state r in
       let fits = seat_fits rule r below in
-      let row : u / 4 < length seat.body = omega (arith, less, stored_within heap seat seat.place fits.at_place) in
+      let row : u / 4 < length seat.body = omega (arith, less, stored_within_body heap seat seat.place fits.at_place) in
       beside.parts (fragment_at seat.body (u / 4)) (u % 4) (fits.hand.body_within (u / 4) 0 row) (omega arith) ∙ (rule.seats_stand r below).own.stored u less
 
   -- and so does all of a seat that has its spine words, where what arrays have left stays as it is
-  pub seat_beside : (spine_owner : ℕ → ℕ → SpineOwner) (r : ℕ) → r < heap.seats → SpinesLeft r book.spine_owner spine_owner → SpineIsStored heap now (seat_at state r)
+  pub seat_stands_beside : (spine_owner : ℕ → ℕ → SpineOwner) (r : ℕ) → r < heap.seats → SpinesLeft r book.spine_owner spine_owner → SpineIsStored heap now (seat_at state r)
       → PlacesStay heap state.words now (length book.made) book.spines book.spines book.spine_owner spine_owner → SeatStands heap now (with_spine_owner spine_owner) r (seat_at state r)
-  seat_beside spine_owner r below left stored places =
+  seat_stands_beside spine_owner r below left stored places =
       let stands = rule.seats_stand r below in
-      let kept = kept_owners g book.made book.owner book.owner book.fragments (same_kept book.owner) in
-      seat_left heap state.words now book (with_spine_owner spine_owner) r (seat_at state r) record {
+      let kept = kept_stays_with_owners g book.made book.owner book.owner book.fragments (same_kept_of_itself book.owner) in
+      seat_stands_where_left_alone heap state.words now book (with_spine_owner spine_owner) r (seat_at state r) record {
         calls = refl;
-        party = same_party g g r refl;
-        told = told_nothing r book.history;
+        party = same_party_of_same_graph g g r refl;
+        told = seat_told_same_without_entry r book.history;
         kept = kept;
-        hand = same_hand r book.owner;
+        hand = same_hand_of_itself r book.owner;
         stored = stored_beside r below;
         spines = left;
         spine_stored = stored;
-        address = address_left heap state.words now book (with_spine_owner spine_owner) (seat_at state r) kept places stands.names.way stands.names.address;
+        address = address_at_stays heap state.words now book (with_spine_owner spine_owner) (seat_at state r) kept places stands.names.way stands.names.address;
         gathers = stands.told.gathers;
         cycle = cycle_beside r below;
       } stands

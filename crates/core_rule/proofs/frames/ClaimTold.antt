@@ -8,16 +8,16 @@ use Rattle.core_rule.proofs.Terms.{CountsAgree, AreUsed, HeapInCycle, SeatInCycl
 use Rattle.core_rule.proofs.Terms.{Rule}
 use Rattle.heap_model.specs.declared.entry.Entry.TheVariants as entries
 use Rattle.core_rule.specs.counts.Counts.{is_collectors}
-use Rattle.core_rule.proofs.counts.CountMoves.{claim_used, claim_none, claim_room}
-use Rattle.core_rule.proofs.cycle.CycleHistory.{heap_cycle_more, cycle_own}
-use Rattle.core_rule.proofs.gather.GatherSteps.{no_more, own_claims, own_claims_none, other_claims, other_claims_none}
-use Rattle.core_rule.proofs.entries.InFlight.{began_past}
-use Rattle.core_rule.proofs.entries.Others.{of_other}
-use Rattle.core_rule.proofs.entries.OwnEntries.{counts_own, counts_same, own_grows}
-use Rattle.core_rule.proofs.frames.SeatFrames.{SameTold, told_nothing, told_other}
+use Rattle.core_rule.proofs.counts.CountMoves.{used_after_claim, used_after_empty_claim, claim_fits_room}
+use Rattle.core_rule.proofs.cycle.CycleHistory.{heap_in_cycle_after_entry, seat_in_cycle_after_own}
+use Rattle.core_rule.proofs.gather.GatherSteps.{equal_by_no_difference, own_claim_gathers_right, own_empty_claim_gathers_right, other_claim_gathers_right, other_empty_claim_gathers_right}
+use Rattle.core_rule.proofs.entries.InFlight.{began_after_entry}
+use Rattle.core_rule.proofs.entries.Others.{seat_is_not_other}
+use Rattle.core_rule.proofs.entries.OwnEntries.{counts_agree_after_own, counts_agree_without_entry, own_list_grows}
+use Rattle.core_rule.proofs.frames.SeatFrames.{SameTold, seat_told_same_without_entry, seat_told_same_after_other}
 use Rattle.core_rule.proofs.budgets.BudgetFrames as budgets
-use Rattle.core_rule.proofs.entries.ToldSpines.{seats_tell, told_spines}
-use Rattle.core_rule.proofs.entries.SpaceEntries.{graph_takes, legal_takes}
+use Rattle.core_rule.proofs.entries.ToldSpines.{seat_entry_tells_no_spine, same_told_after_entry}
+use Rattle.core_rule.proofs.entries.SpaceEntries.{graph_same_after_takes, legal_after_takes}
 
 -- what is as it has to be of the history after a claim, with the new owners
 pub record ClaimTold (heap : Heap) (state : State) (book : Book) (number : ℕ) (owner : ℕ → Owner) (count : ℕ) (history added : List Entry) : Type 0 where
@@ -56,19 +56,19 @@ module _ (heap : Heap) (state : State) (book : Book) (number : ℕ) (fs : List �
       let used = rule.heap_stands.used in
       record {
         log = refl;
-        graph = graph_takes heap book.history number (length fs);
-        spines = told_spines book.history entry (seats_tell entry refl refl);
-        used = claim_used heap book.owner book.history number fs once below used free;
-        legal = legal_takes heap book.history number (length fs) rule.heap_stands.legal present some (claim_room heap book.owner book.history number fs once below used free);
-        phases = λ words owner colour fragments cycle. heap_cycle_more heap words owner colour book.history entry refl fragments cycle;
-        cycles = λ words owner colour r seat cycle. cycle_own heap words owner colour book.history entry refl r seat cycle refl refl;
-        own = λ mine was. own_grows number book.history mine entry (eq-eqb number number refl) was;
-        others = λ r apart. told_other r book.history entry (of_other number r apart);
-        counts = λ now same sets left more. counts_own (graph_of heap book.history) (graph_of heap book.history) book.history number (seat_at state number) now stands.told.counts entry (eq-eqb number number refl)
+        graph = graph_same_after_takes heap book.history number (length fs);
+        spines = same_told_after_entry book.history entry (seat_entry_tells_no_spine entry refl refl);
+        used = used_after_claim heap book.owner book.history number fs once below used free;
+        legal = legal_after_takes heap book.history number (length fs) rule.heap_stands.legal present some (claim_fits_room heap book.owner book.history number fs once below used free);
+        phases = λ words owner colour fragments cycle. heap_in_cycle_after_entry heap words owner colour book.history entry refl fragments cycle;
+        cycles = λ words owner colour r seat cycle. seat_in_cycle_after_own heap words owner colour book.history entry refl r seat cycle refl refl;
+        own = λ mine was. own_list_grows number book.history mine entry (eq-eqb number number refl) was;
+        others = λ r apart. seat_told_same_after_other r book.history entry (seat_is_not_other number r apart);
+        counts = λ now same sets left more. counts_agree_after_own (graph_of heap book.history) (graph_of heap book.history) book.history number (seat_at state number) now stands.told.counts entry (eq-eqb number number refl)
             (same ∙ stands.told.counts.numbered) (sets ∙ stands.told.counts.stamped) (stands.told.counts.leaves ∙ sym left) (omega (arith, more));
-        began = λ now. began_past book.history entry number (book.begun number) (seat_at state number).place now refl (λ still. busy) stands.told.began;
-        gathers = own_claims heap book.owner book.history number fs once below used (book.begun number) stands.told.began.earlier (seat_at state number).cursor (seat_at state number).tried 0 free none nothing_given;
-        other_gathers = λ r under apart. other_claims heap book.owner book.history number fs once below used (book.begun r) (rule.seats_stand r under).told.began.earlier
+        began = λ now. began_after_entry book.history entry number (book.begun number) (seat_at state number).place now refl (λ still. busy) stands.told.began;
+        gathers = own_claim_gathers_right heap book.owner book.history number fs once below used (book.begun number) stands.told.began.earlier (seat_at state number).cursor (seat_at state number).tried 0 free none nothing_given;
+        other_gathers = λ r under apart. other_claim_gathers_right heap book.owner book.history number fs once below used (book.begun r) (rule.seats_stand r under).told.began.earlier
             (seat_at state r).cursor (seat_at state r).tried (seat_at state r).given free r apart (rule.seats_stand r under).told.gathers;
       }
 
@@ -80,17 +80,17 @@ module _ (heap : Heap) (state : State) (book : Book) (number : ℕ) (fs : List �
       record {
         log = refl;
         graph = refl;
-        spines = budgets.same_told book.history;
-        used = claim_none heap book.owner book.history number fs once below used free nothing;
+        spines = budgets.same_told_of_itself book.history;
+        used = used_after_empty_claim heap book.owner book.history number fs once below used free nothing;
         legal = rule.heap_stands.legal;
         phases = λ words owner colour fragments cycle. cycle;
         cycles = λ words owner colour r seat cycle. cycle;
         own = λ mine was. append-nil mine ∙ was;
-        others = λ r apart. told_nothing r book.history;
-        counts = λ now same sets left more. counts_same (graph_of heap book.history) book.history number (seat_at state number) now same sets left (no_more _ _ (length fs) more nothing) stands.told.counts;
+        others = λ r apart. seat_told_same_without_entry r book.history;
+        counts = λ now same sets left more. counts_agree_without_entry (graph_of heap book.history) book.history number (seat_at state number) now same sets left (equal_by_no_difference _ _ (length fs) more nothing) stands.told.counts;
         began = λ now. record { earlier = stands.told.began.earlier; unanswered = λ active. stands.told.began.unanswered busy };
-        gathers = own_claims_none heap book.owner book.history number fs once below used (book.begun number) stands.told.began.earlier (seat_at state number).cursor (seat_at state number).tried 0 free none nothing_given;
-        other_gathers = λ r under apart. other_claims_none heap book.owner book.history number fs once below used (book.begun r) (rule.seats_stand r under).told.began.earlier
+        gathers = own_empty_claim_gathers_right heap book.owner book.history number fs once below used (book.begun number) stands.told.began.earlier (seat_at state number).cursor (seat_at state number).tried 0 free none nothing_given;
+        other_gathers = λ r under apart. other_empty_claim_gathers_right heap book.owner book.history number fs once below used (book.begun r) (rule.seats_stand r under).told.began.earlier
             (seat_at state r).cursor (seat_at state r).tried (seat_at state r).given free nothing r (rule.seats_stand r under).told.gathers;
       }
 
@@ -104,8 +104,8 @@ module _ (heap : Heap) (state : State) (book : Book) (number : ℕ) (fs : List �
   some_taken k some = rw some refl
 
   -- either way it tells what it has to
-  pub told : ClaimTold heap state book number (owner_after (Taken number) book.owner fs) (length fs) (book.history ++ takes_some number (length fs)) (takes_some number (length fs))
-  told = elim (eqb_tells (length fs) 0) as (λ _. ClaimTold heap state book number (owner_after (Taken number) book.owner fs) (length fs) (book.history ++ takes_some number (length fs)) (takes_some number (length fs))) [
+  pub claim_is_told : ClaimTold heap state book number (owner_after (Taken number) book.owner fs) (length fs) (book.history ++ takes_some number (length fs)) (takes_some number (length fs))
+  claim_is_told = elim (eqb_tells (length fs) 0) as (λ _. ClaimTold heap state book number (owner_after (Taken number) book.owner fs) (length fs) (book.history ++ takes_some number (length fs)) (takes_some number (length fs))) [
     | inl nothing ↦ subst (λ a. ClaimTold heap state book number (owner_after (Taken number) book.owner fs) (length fs) (book.history ++ a) a) (sym (none_taken (length fs) nothing.1)) (told_none nothing.1)
     | inr some ↦ subst (λ a. ClaimTold heap state book number (owner_after (Taken number) book.owner fs) (length fs) (book.history ++ a) a) (sym (some_taken (length fs) some.0)) (told_some (omega (arith, some.1)))
   ]

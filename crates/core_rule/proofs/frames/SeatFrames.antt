@@ -8,14 +8,14 @@ use Rattle.heap_model.specs.declared.id.Value.TheVariants as values
 use Rattle.heap_model.specs.graph.Objects.{GraphSeat}
 use Rattle.core_machine.specs.declared.seat.register.Register.TheVariants as registers
 use Rattle.core_rule.specs.graph.Registers as regs
-use Rattle.core_rule.proofs.entries.Others.{own-other, total_of-other, began_stays, gathers_stay}
-use Rattle.core_rule.proofs.entries.SeatLists.{list_stays, NamesStay, holds_stays}
-use Rattle.core_rule.proofs.hand.HandMoves.{SameHand, same_hand, holding_stays}
-use Rattle.core_rule.proofs.graph.SameNodes.{SameShape, shape_same}
-use Rattle.core_rule.proofs.objects.ObjectFrames.{SameKept, names_kept}
-use Rattle.core_rule.proofs.spines.SpineFrames.{SpineIsStored, spine_words_stay, SpinesLeft, spines_left, spine_stays, PlacesStay, places_same, address_stays, address_words}
-use Rattle.core_rule.proofs.budgets.UsedWords.{used_other}
-use Rattle.core_rule.proofs.ways.WayFrames.{ObjectStays, ways_stay}
+use Rattle.core_rule.proofs.entries.Others.{own_entries_stay_by_other, total_of_stays_by_other, began_after_other_entry, gathers_right_after_entry}
+use Rattle.core_rule.proofs.entries.SeatLists.{own_list_stays, NamesStay, holds_value_still}
+use Rattle.core_rule.proofs.hand.HandMoves.{SameHand, same_hand_of_itself, holding_stays}
+use Rattle.core_rule.proofs.graph.SameNodes.{SameShape, same_shape_of_equal}
+use Rattle.core_rule.proofs.objects.ObjectFrames.{SameKept, names_kept_by_same_kept}
+use Rattle.core_rule.proofs.spines.SpineFrames.{SpineIsStored, spine_is_stored_by_words, SpinesLeft, spines_left_of_itself, spine_in_hand_stays, PlacesStay, places_stay_where_same, address_stands_still, address_stands_with_words}
+use Rattle.core_rule.proofs.budgets.UsedWords.{used_stands_after_other_entry}
+use Rattle.core_rule.proofs.ways.WayFrames.{ObjectStays, way_stands_still}
 use Rattle.core_rule.proofs.words.Addresses.{SameSpines}
 
 -- the graph's party has the same registers, and as many objects and sets, and has left where it had
@@ -26,8 +26,8 @@ pub record SameParty (g now : Graph) (r : ℕ) : Type 0 where
   pub left : (graph_seat now r).left ≡ (graph_seat g r).left
 
 -- so it is where its part of the graph is the same
-pub same_party : (g now : Graph) (r : ℕ) → graph_seat now r ≡ graph_seat g r → SameParty g now r
-same_party g now r same = record {
+pub same_party_of_same_graph : (g now : Graph) (r : ℕ) → graph_seat now r ≡ graph_seat g r → SameParty g now r
+same_party_of_same_graph g now r same = record {
   registers = ap (λ (p : GraphSeat). p.registers) same;
   objects = ap (λ (p : GraphSeat). length p.objects) same;
   sets = ap (λ (p : GraphSeat). p.sets) same;
@@ -46,17 +46,17 @@ pub record SameTold (r : ℕ) (history later : List Entry) : Type 0 where
   pub used : (heap : Heap) (seat : Seat) (place : Place) → UsedStands heap history r seat place → UsedStands heap later r seat place
 
 -- so it is where nothing is added
-pub told_nothing : (r : ℕ) (history : List Entry) → SameTold r history history
-told_nothing r history = record { own = refl; spent = refl; taken = refl; began = λ begun place began. began; used = λ heap seat place used. used }
+pub seat_told_same_without_entry : (r : ℕ) (history : List Entry) → SameTold r history history
+seat_told_same_without_entry r history = record { own = refl; spent = refl; taken = refl; began = λ begun place began. began; used = λ heap seat place used. used }
 
 -- and where an entry of another is
-pub told_other : (r : ℕ) (history : List Entry) (entry : Entry) → is_of r entry ≡ false → SameTold r history (history ++ entry ∷ [])
-told_other r history entry other = record {
-  own = own-other r history entry other;
-  spent = rw (total_of-other r (λ e. e.given) history entry other, total_of-other r (λ e. e.born) history entry other) refl;
-  taken = total_of-other r (λ e. e.taken) history entry other;
-  began = λ begun place began. began_stays history entry r begun place other began;
-  used = λ heap seat place used. used_other heap r history entry other seat place used;
+pub seat_told_same_after_other : (r : ℕ) (history : List Entry) (entry : Entry) → is_of r entry ≡ false → SameTold r history (history ++ entry ∷ [])
+seat_told_same_after_other r history entry other = record {
+  own = own_entries_stay_by_other r history entry other;
+  spent = rw (total_of_stays_by_other r (λ e. e.given) history entry other, total_of_stays_by_other r (λ e. e.born) history entry other) refl;
+  taken = total_of_stays_by_other r (λ e. e.taken) history entry other;
+  began = λ begun place began. began_after_other_entry history entry r begun place other began;
+  used = λ heap seat place used. used_stands_after_other_entry heap r history entry other seat place used;
 }
 
 -- what is kept stays kept, by the same names and in the same fragments
@@ -66,10 +66,10 @@ pub record KeptStays (g now : Graph) (made now_made : List Id) (owner now_owner 
       → ObjectStays (node_at g made) (node_at now now_made) made now_made owner now_owner fragments now_fragments i
 
 -- so it is where the same fragments are kept
-pub kept_owners : (g : Graph) (made : List Id) (owner now : ℕ → Owner) (fragments : ℕ → List ℕ) → SameKept owner now → KeptStays g g made made owner now fragments fragments
-kept_owners g made owner now fragments same = record {
-  names = record { names = λ id kept. names_kept owner now same made fragments (values.Object id) kept; heads = λ id kept. refl };
-  objects = λ i below kept. record { below = below; kept = same.stays _ _ _ kept; id = refl; fragments_stay = refl; shape = shape_same (node_at g made i) (node_at g made i) refl };
+pub kept_stays_with_owners : (g : Graph) (made : List Id) (owner now : ℕ → Owner) (fragments : ℕ → List ℕ) → SameKept owner now → KeptStays g g made made owner now fragments fragments
+kept_stays_with_owners g made owner now fragments same = record {
+  names = record { names = λ id kept. names_kept_by_same_kept owner now same made fragments (values.Object id) kept; heads = λ id kept. refl };
+  objects = λ i below kept. record { below = below; kept = same.stays _ _ _ kept; id = refl; fragments_stay = refl; shape = same_shape_of_equal (node_at g made i) (node_at g made i) refl };
 }
 
 -- and where each object has its shape
@@ -81,31 +81,31 @@ kept_shapes g now made owner fragments shapes = record {
 }
 
 -- so registers hold what they held
-pub registers_owners : (owner now : ℕ → Owner) → SameKept owner now → (made : List Id) (fragments : ℕ → List ℕ) (g : Graph) (number : ℕ) (held : List Register) (place : Place) (d : ℕ)
+pub registers_stay_with_owners : (owner now : ℕ → Owner) → SameKept owner now → (made : List Id) (fragments : ℕ → List ℕ) (g : Graph) (number : ℕ) (held : List Register) (place : Place) (d : ℕ)
     → Registers g made owner fragments number held place d → Registers g made now fragments number held place d
-registers_owners owner now same made fragments g number held place d old =
-    λ r fresh. holds_stays made made owner now fragments fragments (kept_owners g made owner now fragments same).names _ _ (old r fresh)
+registers_stay_with_owners owner now same made fragments g number held place d old =
+    λ r fresh. holds_value_still made made owner now fragments fragments (kept_stays_with_owners g made owner now fragments same).names _ _ (old r fresh)
 
 -- the place that a seat's call has loaded is right by the book
 abbrev pub AddressAt : Heap → List ℕ → Book → Seat → Place → Type 0
 AddressAt heap words book seat = AddressStands heap words (node_at (graph_of heap book.history) book.made) book.owner book.fragments book.spines book.spine_owner seat
 
 -- so it is where what is kept stays kept, with its spine
-pub address_left : (heap : Heap) (words now_words : List ℕ) (book now : Book) (seat : Seat)
+pub address_at_stays : (heap : Heap) (words now_words : List ℕ) (book now : Book) (seat : Seat)
     → KeptStays (graph_of heap book.history) (graph_of heap now.history) book.made now.made book.owner now.owner book.fragments now.fragments
     → PlacesStay heap words now_words (length book.made) book.spines now.spines book.spine_owner now.spine_owner
     → WayStands (node_at (graph_of heap book.history) book.made) book.made book.owner book.fragments seat seat.place → AddressAt heap words book seat seat.place → AddressAt heap now_words now seat seat.place
-address_left heap words now_words book now seat kept places =
-    address_stays heap words now_words (node_at (graph_of heap book.history) book.made) (node_at (graph_of heap now.history) now.made) book.made now.made book.owner now.owner
+address_at_stays heap words now_words book now seat kept places =
+    address_stands_still heap words now_words (node_at (graph_of heap book.history) book.made) (node_at (graph_of heap now.history) now.made) book.made now.made book.owner now.owner
     book.fragments now.fragments book.spines now.spines book.spine_owner now.spine_owner places kept.objects seat seat.place
 
 -- what a seat names stands where no more than words change, and no spine word
-pub names_words : (heap : Heap) (words now : List ℕ) → SameSpines heap words now → (g : Graph) (made : List Id) (owner : ℕ → Owner) (fragments : ℕ → List ℕ) (spines : ℕ → Spot) (spine_owner : ℕ → ℕ → SpineOwner)
+pub names_stand_with_words : (heap : Heap) (words now : List ℕ) → SameSpines heap words now → (g : Graph) (made : List Id) (owner : ℕ → Owner) (fragments : ℕ → List ℕ) (spines : ℕ → Spot) (spine_owner : ℕ → ℕ → SpineOwner)
     (number : ℕ) (seat : Seat) → NamesStand heap words g made owner fragments spines spine_owner number seat → NamesStand heap now g made owner fragments spines spine_owner number seat
-names_words heap words now same g made owner fragments spines spine_owner number seat old = record {
+names_stand_with_words heap words now same g made owner fragments spines spine_owner number seat old = record {
   registers = old.registers;
   way = old.way;
-  address = address_words heap words now same (node_at g made) owner fragments spines spine_owner seat seat.place old.address;
+  address = address_stands_with_words heap words now same (node_at g made) owner fragments spines spine_owner seat seat.place old.address;
 }
 
 -- what a step of another leaves of a seat
@@ -123,9 +123,9 @@ pub record LeavesSeat (heap : Heap) (words : List ℕ) (book now : Book) (r : �
   pub cycle : SeatInCycle heap words (phase now.history) (last_answer r now.history) (has_left r now.history) now.owner now.colour r seat
 
 -- so all of it stands
-pub seat_left : (heap : Heap) (words now_words : List ℕ) (book now : Book) (r : ℕ) (seat : Seat) → LeavesSeat heap now_words book now r seat
+pub seat_stands_where_left_alone : (heap : Heap) (words now_words : List ℕ) (book now : Book) (r : ℕ) (seat : Seat) → LeavesSeat heap now_words book now r seat
     → SeatStands heap words book r seat → SeatStands heap now_words now r seat
-seat_left heap words now_words book now r seat leaves old =
+seat_stands_where_left_alone heap words now_words book now r seat leaves old =
     let g : Graph = graph_of heap book.history in
     let after : Graph = graph_of heap now.history in
     let same : (i : ℕ) → register_value after r i ≡ register_value g r i = register_stays g after r leaves.party in
@@ -134,16 +134,16 @@ seat_left heap words now_words book now r seat leaves old =
         holding = holding_stays book.owner now.owner r seat.reserve seat.hand seat.body leaves.hand old.own.holding;
         stored = leaves.stored;
         together = old.own.together;
-        spine = spine_stays heap words now_words book.spine_owner now.spine_owner r seat leaves.spines leaves.spine_stored old.own.spine;
+        spine = spine_in_hand_stays heap words now_words book.spine_owner now.spine_owner r seat leaves.spines leaves.spine_stored old.own.spine;
       };
       names = record {
         registers = λ i awake. subst (regs.HoldsValue now.made now.owner now.fragments (get_or seat.registers i registers.Nil)) (sym (same i))
-            (holds_stays book.made now.made book.owner now.owner book.fragments now.fragments leaves.kept.names _ _ (old.names.registers i awake));
-        way = ways_stay (node_at g book.made) (node_at after now.made) book.made now.made book.owner now.owner book.fragments now.fragments leaves.kept.objects seat seat.place old.names.way;
+            (holds_value_still book.made now.made book.owner now.owner book.fragments now.fragments leaves.kept.names _ _ (old.names.registers i awake));
+        way = way_stands_still (node_at g book.made) (node_at after now.made) book.made now.made book.owner now.owner book.fragments now.fragments leaves.kept.objects seat seat.place old.names.way;
         address = leaves.address;
       };
       told = rw leaves.calls record {
-        list = list_stays g after book.made now.made book.owner now.owner book.fragments now.fragments r seat leaves.kept.names same book.history now.history leaves.told.own old.told.list;
+        list = own_list_stays g after book.made now.made book.owner now.owner book.fragments now.fragments r seat leaves.kept.names same book.history now.history leaves.told.own old.told.list;
         counts = record {
           numbered = old.told.counts.numbered ∙ sym leaves.party.objects;
           stamped = old.told.counts.stamped ∙ sym leaves.party.sets;
@@ -162,24 +162,24 @@ abbrev pub with_entry : Book → Entry → Book
 with_entry book entry = record book { history = book.history ++ entry ∷ [] }
 
 -- it stands where an entry of another is added, and the graph has its registers and counts as before
-pub seat_stays : (heap : Heap) (words now : List ℕ) (book : Book) (entry : Entry) (r : ℕ) (seat : Seat) → is_of r entry ≡ false
+pub seat_stands_with_entry : (heap : Heap) (words now : List ℕ) (book : Book) (entry : Entry) (r : ℕ) (seat : Seat) → is_of r entry ≡ false
     → SameParty (graph_of heap book.history) (graph_of heap (book.history ++ entry ∷ [])) r
     → ((i : ℕ) → SameShape (node_at (graph_of heap (book.history ++ entry ∷ [])) book.made i) (node_at (graph_of heap book.history) book.made i))
     → IsStored heap now r seat → SameSpines heap words now
     → SeatInCycle heap now (phase (book.history ++ entry ∷ [])) (last_answer r (book.history ++ entry ∷ [])) (has_left r (book.history ++ entry ∷ [])) book.owner book.colour r seat
     → SeatStands heap words book r seat → SeatStands heap now (with_entry book entry) r seat
-seat_stays heap words now book entry r seat other same shapes stored spines cycle old =
+seat_stands_with_entry heap words now book entry r seat other same shapes stored spines cycle old =
     let kept = kept_shapes (graph_of heap book.history) (graph_of heap (book.history ++ entry ∷ [])) book.made book.owner book.fragments shapes in
-    seat_left heap words now book (with_entry book entry) r seat record {
+    seat_stands_where_left_alone heap words now book (with_entry book entry) r seat record {
       calls = refl;
       party = same;
-      told = told_other r book.history entry other;
+      told = seat_told_same_after_other r book.history entry other;
       kept = kept;
-      hand = same_hand r book.owner;
+      hand = same_hand_of_itself r book.owner;
       stored = stored;
-      spines = spines_left r book.spine_owner;
-      spine_stored = spine_words_stay heap words now seat spines old.own.spine.stored;
-      address = address_left heap words now book (with_entry book entry) seat kept (places_same heap words now (length book.made) book.spines book.spine_owner spines) old.names.way old.names.address;
-      gathers = gathers_stay heap book.owner r book.history (book.begun r) entry seat.cursor seat.tried seat.given old.told.began.earlier old.told.gathers;
+      spines = spines_left_of_itself r book.spine_owner;
+      spine_stored = spine_is_stored_by_words heap words now seat spines old.own.spine.stored;
+      address = address_at_stays heap words now book (with_entry book entry) seat kept (places_stay_where_same heap words now (length book.made) book.spines book.spine_owner spines) old.names.way old.names.address;
+      gathers = gathers_right_after_entry heap book.owner r book.history (book.begun r) entry seat.cursor seat.tried seat.given old.told.began.earlier old.told.gathers;
       cycle = cycle;
     } old

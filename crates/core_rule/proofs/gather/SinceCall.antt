@@ -24,9 +24,9 @@ sum_after_last test f (suc n) (entry ∷ history) none =
     by_test false rest = rw (sum_by-cons f entry history) (omega (arith, sum_dropped f n history))
 
 -- a call that wasn't answered began after its seat's last reply
-pub since_call : (number : ℕ) (f : Entry → ℕ) (n : ℕ) (history : List Entry) → list_any (is_reply_to number) (drop n history) ≡ false
+pub call_sum_within_since_reply : (number : ℕ) (f : Entry → ℕ) (n : ℕ) (history : List Entry) → list_any (is_reply_to number) (drop n history) ≡ false
     → sum_by f (drop n history) ≤ sum_by f (since_reply number history)
-since_call number f n history none = sum_after_last (is_reply_to number) f n history none
+call_sum_within_since_reply number f n history none = sum_after_last (is_reply_to number) f n history none
 
 -- a call that begins now has no reply yet
 pub no_reply_yet : (number : ℕ) (history : List Entry) → list_any (is_reply_to number) (drop (length history) history) ≡ false

@@ -7,8 +7,8 @@ use Rattle.heap_model.specs.declared.graph.cell.Cell.{Cell}
 use Rattle.core_rule.proofs.Terms.{Id, Board, Made, with_cell, with_object_cell, with_graph_seat, count_set, write, graph_seat, node, absent_graph_seat, Graph, Node, fresh}
 use Rattle.heap_model.specs.declared.id.Value.TheVariants as values
 use Rattle.heap_model.specs.graph.Graph.{GraphSeat}
-use Rattle.core_rule.proofs.graph.GraphSeats.{party_is, party_apart, node_stays}
-use Rattle.core_rule.proofs.frames.SeatFrames.{SameParty, same_party}
+use Rattle.core_rule.proofs.graph.GraphSeats.{party_with_seat_is_new, other_party_stays, nodes_stay_with_seat}
+use Rattle.core_rule.proofs.frames.SeatFrames.{SameParty, same_party_of_same_graph}
 
 -- what stands in a list where one element was set
 pub slice_get-set_same : {A : Type 0} (xs : List A) (i : ℕ) (a : A) → i < length xs → slice_get (set xs i a) i ≡ Some a
@@ -78,7 +78,7 @@ module _ (g : Graph) (t n i : ℕ) (cell : Cell) (object : Node) (there : node g
       sets = ap (λ (p : GraphSeat). p.sets) party_here;
       left = ap (λ (p : GraphSeat). p.left) party_here;
     }
-    | inr ne ↦ same_party g (with_graph_seat g t new_party) r (party_there r ne)
+    | inr ne ↦ same_party_of_same_graph g (with_graph_seat g t new_party) r (party_there r ne)
   ]
 
 -- a write to an object that is there
@@ -111,17 +111,17 @@ pub record Sets (g now : Graph) (number : ℕ) (id : Id) (i : ℕ) (cell : Cell)
   pub sets : (graph_seat now number).sets ≡ (graph_seat g number).sets + 1
   pub left : (graph_seat now number).left ≡ (graph_seat g number).left
 
-pub sets_cell : (g : Graph) (number : ℕ) (id : Id) (i : ℕ) (cell : Cell) (object : Node) → (graph_seat g number).left ≡ false → node g id ≡ Some object
+pub write_sets_cell : (g : Graph) (number : ℕ) (id : Id) (i : ℕ) (cell : Cell) (object : Node) → (graph_seat g number).left ≡ false → node g id ≡ Some object
     → Sets g (write (count_set g number) (values.Object id) i cell) number id i cell
-sets_cell g number id i cell object present there =
+write_sets_cell g number id i cell object present there =
     let one_more : GraphSeat = record (graph_seat g number) { sets = (graph_seat g number).sets + 1 } in
-    let counted : graph_seat (count_set g number) number ≡ one_more = party_is g number one_more present in
-    let nodes : (x : Id) → node (count_set g number) x ≡ node g x = node_stays g number one_more present refl in
+    let counted : graph_seat (count_set g number) number ≡ one_more = party_with_seat_is_new g number one_more present in
+    let nodes : (x : Id) → node (count_set g number) x ≡ node g x = nodes_stay_with_seat g number one_more present refl in
     let w = writes (count_set g number) id i cell object (nodes id ∙ there) in
     record {
       written = λ o is. w.written o (nodes id ∙ is);
       rest = λ x apart. w.rest x apart ∙ nodes x;
-      others = λ r apart. party_then g (count_set g number) (write (count_set g number) (values.Object id) i cell) r (same_party g (count_set g number) r (party_apart g number one_more present r apart)) (w.parties r);
+      others = λ r apart. party_then g (count_set g number) (write (count_set g number) (values.Object id) i cell) r (same_party_of_same_graph g (count_set g number) r (other_party_stays g number one_more present r apart)) (w.parties r);
       registers = (w.parties number).registers ∙ ap (λ (p : GraphSeat). p.registers) counted;
       objects = (w.parties number).objects ∙ ap (λ (p : GraphSeat). length p.objects) counted;
       sets = (w.parties number).sets ∙ ap (λ (p : GraphSeat). p.sets) counted;

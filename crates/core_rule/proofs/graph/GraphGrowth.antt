@@ -21,8 +21,8 @@ slice_get-at_length [] = refl
 slice_get-at_length (x ∷ xs) = slice_get-at_length xs
 
 -- a seat that hasn't left is one of the graph's
-pub present_below : (g : Graph) (number : ℕ) → (graph_seat g number).left ≡ false → number < length g.seats
-present_below g number present = below g.seats number present
+pub present_seat_within_graph : (g : Graph) (number : ℕ) → (graph_seat g number).left ≡ false → number < length g.seats
+present_seat_within_graph g number present = below g.seats number present
   where
     below : (seats : List GraphSeat) (number : ℕ) → (get_or seats number absent_graph_seat).left ≡ false → number < length seats
     below [] number present = absurd (cc)
@@ -36,44 +36,44 @@ module _ (g : Graph) (number d : ℕ) (object : Node) (present : (graph_seat g n
 
   -- the seat's own part of the graph, and the others'
   party_same : graph_seat (add g number d object) number ≡ grown_party
-  party_same = get_or-set_same g.seats number grown_party absent_graph_seat (present_below g number present)
+  party_same = get_or-set_same g.seats number grown_party absent_graph_seat (present_seat_within_graph g number present)
 
-  pub party_other : (r : ℕ) → r ≢ number → graph_seat (add g number d object) r ≡ graph_seat g r
-  party_other r apart = get_or-set_other g.seats number r grown_party absent_graph_seat apart
+  pub other_party_stays_by_add : (r : ℕ) → r ≢ number → graph_seat (add g number d object) r ≡ graph_seat g r
+  other_party_stays_by_add r apart = get_or-set_other g.seats number r grown_party absent_graph_seat apart
 
   -- the registers: the seat's target holds the new object, the others stay
-  pub register_target : d < length (graph_seat g number).registers → register_value (add g number d object) number d ≡ values.Object (Made number (length (graph_seat g number).objects))
-  register_target within =
+  pub target_holds_new_object : d < length (graph_seat g number).registers → register_value (add g number d object) number d ≡ values.Object (Made number (length (graph_seat g number).objects))
+  target_holds_new_object within =
       ap (λ (p : GraphSeat). get_or p.registers d values.Nil) party_same
       ∙ get_or-set_same (graph_seat g number).registers d (values.Object (Made number (length (graph_seat g number).objects))) values.Nil within
 
-  pub register_rest : (i : ℕ) → i ≢ d → register_value (add g number d object) number i ≡ register_value g number i
-  register_rest i apart =
+  pub other_registers_stay_by_add : (i : ℕ) → i ≢ d → register_value (add g number d object) number i ≡ register_value g number i
+  other_registers_stay_by_add i apart =
       ap (λ (p : GraphSeat). get_or p.registers i values.Nil) party_same
       ∙ get_or-set_other (graph_seat g number).registers d i (values.Object (Made number (length (graph_seat g number).objects))) values.Nil apart
 
   -- the seat has one object more, and hasn't left
-  pub objects_more : length (graph_seat (add g number d object) number).objects ≡ length (graph_seat g number).objects + 1
-  objects_more = ap (λ (p : GraphSeat). length p.objects) party_same ∙ omega (arith, length-append (graph_seat g number).objects (object ∷ []))
+  pub objects_grow_by_add : length (graph_seat (add g number d object) number).objects ≡ length (graph_seat g number).objects + 1
+  objects_grow_by_add = ap (λ (p : GraphSeat). length p.objects) party_same ∙ omega (arith, length-append (graph_seat g number).objects (object ∷ []))
 
-  pub sets_same : (graph_seat (add g number d object) number).sets ≡ (graph_seat g number).sets
-  sets_same = ap (λ (p : GraphSeat). p.sets) party_same
+  pub sets_same_by_add : (graph_seat (add g number d object) number).sets ≡ (graph_seat g number).sets
+  sets_same_by_add = ap (λ (p : GraphSeat). p.sets) party_same
 
-  pub left_same : (graph_seat (add g number d object) number).left ≡ false
-  left_same = ap (λ (p : GraphSeat). p.left) party_same ∙ present
+  pub has_not_left_by_add : (graph_seat (add g number d object) number).left ≡ false
+  has_not_left_by_add = ap (λ (p : GraphSeat). p.left) party_same ∙ present
 
   -- the new object, and the others
-  pub node_new : node (add g number d object) (Made number (length (graph_seat g number).objects)) ≡ Some object
-  node_new = ap (λ (p : GraphSeat). slice_get p.objects (length (graph_seat g number).objects)) party_same ∙ slice_get-push (graph_seat g number).objects object
+  pub added_node_is_object : node (add g number d object) (Made number (length (graph_seat g number).objects)) ≡ Some object
+  added_node_is_object = ap (λ (p : GraphSeat). slice_get p.objects (length (graph_seat g number).objects)) party_same ∙ slice_get-push (graph_seat g number).objects object
 
   -- the new id had no object, has this one, and the others keep theirs
-  pub node_none : node g (Made number (length (graph_seat g number).objects)) ≡ None
-  node_none = slice_get-at_length (graph_seat g number).objects
+  pub new_id_has_no_node : node g (Made number (length (graph_seat g number).objects)) ≡ None
+  new_id_has_no_node = slice_get-at_length (graph_seat g number).objects
 
-  pub node_other : (id : Id) → id ≢ Made number (length (graph_seat g number).objects) → node (add g number d object) id ≡ node g id
-  node_other Board apart = refl
-  node_other (Made s n) apart = elim (cases_eq s number) [
+  pub other_nodes_stay_by_add : (id : Id) → id ≢ Made number (length (graph_seat g number).objects) → node (add g number d object) id ≡ node g id
+  other_nodes_stay_by_add Board apart = refl
+  other_nodes_stay_by_add (Made s n) apart = elim (cases_eq s number) [
     | inl e ↦ rw e (ap (λ (p : GraphSeat). slice_get p.objects n) party_same
         ∙ slice_get-before (graph_seat g number).objects object n (λ same. apart (cc (e, same))))
-    | inr ne ↦ ap (λ (p : GraphSeat). slice_get p.objects n) (party_other s ne)
+    | inr ne ↦ ap (λ (p : GraphSeat). slice_get p.objects n) (other_party_stays_by_add s ne)
   ]

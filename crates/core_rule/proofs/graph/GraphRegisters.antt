@@ -10,7 +10,7 @@ use Rattle.heap_model.specs.declared.entry.Entry.TheVariants as entries
 use Rattle.heap_model.specs.declared.id.Value.TheVariants.{Nil, Number, Object}
 use Rattle.heap_model.specs.declared.reply.Reply.TheVariants as replies
 use Rattle.heap_model.specs.graph.Graph.{GraphSeat}
-use Rattle.core_rule.proofs.graph.GraphGrowth.{present_below}
+use Rattle.core_rule.proofs.graph.GraphGrowth.{present_seat_within_graph}
 
 -- each seat of the graph has sixteen registers
 pub record Sixteen (g : Graph) : Type 0 where
@@ -59,16 +59,16 @@ sixteen_all : (g : Graph) (history : List Entry) → Sixteen g → Sixteen (grap
 sixteen_all g [] is = is
 sixteen_all g (entry ∷ history) is = sixteen_all (after_entry g entry) history (sixteen_after g entry is)
 
-pub opening_at : (heap : Heap) (number : ℕ) → number < heap.seats → graph_seat (opening heap) number ≡ opening_graph_seat
-opening_at heap number below = get_or-replicate heap.seats number opening_graph_seat absent_graph_seat below
+pub opening_graph_has_opening_seats : (heap : Heap) (number : ℕ) → number < heap.seats → graph_seat (opening heap) number ≡ opening_graph_seat
+opening_graph_has_opening_seats heap number below = get_or-replicate heap.seats number opening_graph_seat absent_graph_seat below
 
 sixteen_opening : (heap : Heap) → Sixteen (opening heap)
 sixteen_opening heap = record {
-  each = λ number below. ap (λ (p : GraphSeat). length p.registers) (opening_at heap number (subst (λ n. number < n) (length-replicate heap.seats opening_graph_seat) below));
+  each = λ number below. ap (λ (p : GraphSeat). length p.registers) (opening_graph_has_opening_seats heap number (subst (λ n. number < n) (length-replicate heap.seats opening_graph_seat) below));
 }
 
 -- a seat that hasn't left has sixteen registers
-pub registers_length : (heap : Heap) (history : List Entry) (number : ℕ) → (graph_seat (graph_of heap history) number).left ≡ false → length (graph_seat (graph_of heap history) number).registers ≡ 16
-registers_length heap history number present =
+pub has_sixteen_registers : (heap : Heap) (history : List Entry) (number : ℕ) → (graph_seat (graph_of heap history) number).left ≡ false → length (graph_seat (graph_of heap history) number).registers ≡ 16
+has_sixteen_registers heap history number present =
     let is = sixteen_all (opening heap) history (sixteen_opening heap) in
-    is.each number (present_below (graph_of heap history) number present)
+    is.each number (present_seat_within_graph (graph_of heap history) number present)

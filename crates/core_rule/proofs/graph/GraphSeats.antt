@@ -4,8 +4,8 @@ use Rattle.std.proofs.lemmas.Bool.{cases_eq}
 use Rattle.std.proofs.lemmas.List.{get_or-set_same, get_or-set_other}
 use Rattle.core_rule.proofs.Terms.{Id, Board, Made, with_graph_seat, graph_seat, node, absent_graph_seat, Graph, Node}
 use Rattle.heap_model.specs.graph.Graph.{GraphSeat}
-use Rattle.core_rule.proofs.graph.GraphGrowth.{present_below}
-use Rattle.core_rule.proofs.graph.SameNodes.{SameNodes, nodes_same}
+use Rattle.core_rule.proofs.graph.GraphGrowth.{present_seat_within_graph}
+use Rattle.core_rule.proofs.graph.SameNodes.{SameNodes, same_nodes_of_equal}
 
 -- each object is as before, and each other seat
 pub record SeatChanges (g now : Graph) (number : ℕ) : Type 0 where
@@ -15,30 +15,30 @@ pub record SeatChanges (g now : Graph) (number : ℕ) : Type 0 where
   pub sets : (graph_seat now number).sets ≡ (graph_seat g number).sets
 
 -- nothing changes
-pub no_change : (g : Graph) (number : ℕ) → SeatChanges g g number
-no_change g number = record { nodes = nodes_same g g refl; others = λ r apart. refl; objects = refl; sets = refl }
+pub seat_changes_of_itself : (g : Graph) (number : ℕ) → SeatChanges g g number
+seat_changes_of_itself g number = record { nodes = same_nodes_of_equal g g refl; others = λ r apart. refl; objects = refl; sets = refl }
 
 module _ (g : Graph) (number : ℕ) (p : GraphSeat) (present : (graph_seat g number).left ≡ false) where
   -- the seat is another then
-  pub party_is : graph_seat (with_graph_seat g number p) number ≡ p
-  party_is = get_or-set_same g.seats number p absent_graph_seat (present_below g number present)
+  pub party_with_seat_is_new : graph_seat (with_graph_seat g number p) number ≡ p
+  party_with_seat_is_new = get_or-set_same g.seats number p absent_graph_seat (present_seat_within_graph g number present)
 
-  pub party_apart : (r : ℕ) → r ≢ number → graph_seat (with_graph_seat g number p) r ≡ graph_seat g r
-  party_apart r apart = get_or-set_other g.seats number r p absent_graph_seat apart
+  pub other_party_stays : (r : ℕ) → r ≢ number → graph_seat (with_graph_seat g number p) r ≡ graph_seat g r
+  other_party_stays r apart = get_or-set_other g.seats number r p absent_graph_seat apart
 
   module _ (objects : p.objects ≡ (graph_seat g number).objects) where
     -- its objects are the same, and so all are
-    pub node_stays : (id : Id) → node (with_graph_seat g number p) id ≡ node g id
-    node_stays Board = refl
-    node_stays (Made s n) = elim (cases_eq s number) [
-      | inl e ↦ subst (λ t. node (with_graph_seat g number p) (Made t n) ≡ node g (Made t n)) (sym e) (ap (λ (x : GraphSeat). slice_get x.objects n) party_is ∙ ap (λ (xs : List Node). slice_get xs n) objects)
-      | inr apart ↦ ap (λ (x : GraphSeat). slice_get x.objects n) (party_apart s apart)
+    pub nodes_stay_with_seat : (id : Id) → node (with_graph_seat g number p) id ≡ node g id
+    nodes_stay_with_seat Board = refl
+    nodes_stay_with_seat (Made s n) = elim (cases_eq s number) [
+      | inl e ↦ subst (λ t. node (with_graph_seat g number p) (Made t n) ≡ node g (Made t n)) (sym e) (ap (λ (x : GraphSeat). slice_get x.objects n) party_with_seat_is_new ∙ ap (λ (xs : List Node). slice_get xs n) objects)
+      | inr apart ↦ ap (λ (x : GraphSeat). slice_get x.objects n) (other_party_stays s apart)
     ]
 
-    pub one_changes : p.sets ≡ (graph_seat g number).sets → SeatChanges g (with_graph_seat g number p) number
-    one_changes sets = record {
-      nodes = record { nodes = node_stays };
-      others = party_apart;
-      objects = ap (λ (x : GraphSeat). length x.objects) party_is ∙ ap (λ (xs : List Node). length xs) objects;
-      sets = ap (λ (x : GraphSeat). x.sets) party_is ∙ sets;
+    pub seat_changes_with_seat : p.sets ≡ (graph_seat g number).sets → SeatChanges g (with_graph_seat g number p) number
+    seat_changes_with_seat sets = record {
+      nodes = record { nodes = nodes_stay_with_seat };
+      others = other_party_stays;
+      objects = ap (λ (x : GraphSeat). length x.objects) party_with_seat_is_new ∙ ap (λ (xs : List Node). length xs) objects;
+      sets = ap (λ (x : GraphSeat). x.sets) party_with_seat_is_new ∙ sets;
     }

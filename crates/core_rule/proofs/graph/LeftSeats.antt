@@ -41,8 +41,8 @@ emptied_write g number (Object Board) i cell has = has
 emptied_write g number (Object (Made other count)) i cell has = emptied_with g number other (with_object_cell (graph_seat g other) count i cell) has (λ its. its)
 
 -- the registers of one that leaves
-pub all_nil : (r : ℕ) → get_or (replicate register_count Nil) r Nil ≡ Nil
-all_nil r = elim (cases_lt r register_count) as (λ _. get_or (replicate register_count Nil) r Nil ≡ Nil) [
+pub empty_register_is_nil : (r : ℕ) → get_or (replicate register_count Nil) r Nil ≡ Nil
+empty_register_is_nil r = elim (cases_lt r register_count) as (λ _. get_or (replicate register_count Nil) r Nil ≡ Nil) [
   | inl there ↦ get_or-replicate register_count r Nil Nil there
   | inr past ↦ get_or_past (replicate register_count Nil) r Nil (omega (arith, past, length-replicate register_count Nil))
 ]
@@ -56,7 +56,7 @@ emptied_said g number other (commands.Set r i v) (replies.Was stamp) present has
 emptied_said g number other (commands.Num d n) reply present has = emptied_with g number other _ has (λ its left. absurd (cc (present, left)))
 emptied_said g number other (commands.Nil d) reply present has = emptied_with g number other _ has (λ its left. absurd (cc (present, left)))
 emptied_said g number other (commands.Copy d r) reply present has = emptied_with g number other _ has (λ its left. absurd (cc (present, left)))
-emptied_said g number other commands.Leave reply present has = emptied_with g number other _ has (λ its left. all_nil)
+emptied_said g number other commands.Leave reply present has = emptied_with g number other _ has (λ its left. empty_register_is_nil)
 emptied_said g number other command reply present has = has
 
 emptied_after : (g : Graph) (number : ℕ) (entry : Entry) → Accepts g entry → IsEmptied (graph_seat g number) → IsEmptied (graph_seat (after_entry g entry) number)
@@ -75,6 +75,6 @@ emptied_opens heap number = elim (cases_lt number heap.seats) [
 ]
 
 -- and after every legal history
-pub left_empty : (heap : Heap) (history : List Entry) (number : ℕ) → IsObjectLegal heap history → (graph_seat (graph_of heap history) number).left ≡ true
+pub left_registers_are_nil : (heap : Heap) (history : List Entry) (number : ℕ) → IsObjectLegal heap history → (graph_seat (graph_of heap history) number).left ≡ true
     → (r : ℕ) → register_value (graph_of heap history) number r ≡ Nil
-left_empty heap history number legal = emptied_after_all (opening heap) number history legal (emptied_opens heap number)
+left_registers_are_nil heap history number legal = emptied_after_all (opening heap) number history legal (emptied_opens heap number)

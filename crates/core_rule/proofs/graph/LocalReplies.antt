@@ -11,8 +11,8 @@ use Rattle.heap_model.specs.account.Refusals.{ShowsSpace, ShowsSpine}
 use Rattle.heap_model.specs.graph.Replies.{Says, Gets, Sets, Compares, length_reply}
 use Rattle.core_machine.specs.declared.seat.register.Register.TheVariants as registers
 use Rattle.core_machine.specs.seat.Local.{answer_of, local_reply_of, local_registers}
-use Rattle.core_rule.proofs.graph.PutRegister.{OnlyRegisters, put_only, only_none, registers_filled}
-use Rattle.core_rule.proofs.graph.SameValues.{held_compares, holds_no_object}
+use Rattle.core_rule.proofs.graph.PutRegister.{OnlyRegisters, put_changes_only_registers, only_registers_of_itself, holds_value_after_put}
+use Rattle.core_rule.proofs.graph.SameValues.{compares_as_held, held_value_targets_none}
 
 module _ (heap : Heap) (history : List Entry) (g : Graph) (number : ℕ) (made : List Id) (owner : ℕ → Owner) (fragments : ℕ → List ℕ) where
   -- each register holds its value in the graph
@@ -38,54 +38,54 @@ module _ (heap : Heap) (history : List Entry) (g : Graph) (number : ℕ) (made :
     -- a register that is set
     set_holds : (d : ℕ) (filled : Register) (value : Value) → d ≤ 15 → HoldsValue made owner fragments filled value → HoldAll (with_register g number d value) (set held d filled)
     set_holds d filled value within new =
-        registers_filled made owner fragments g number d value held filled present (omega (arith, whole, within)) (omega (arith, sixteen, within)) new (λ i apart. holds i)
+        holds_value_after_put made owner fragments g number d value held filled present (omega (arith, whole, within)) (omega (arith, sixteen, within)) new (λ i apart. holds i)
 
     -- whether two values are the same
     same_reply : (a b : ℕ) (same : Bool) → Compares (register_value g number a) (register_value g number b) (answer_of same) → IsLocalReply (commands.Same a b) (answer_of same) held
-    same_reply a b true says = record { plain = record { none = refl; space = tt; spine = tt; phases = tt; most = refl }; says = says; only = only_none g number; registers = holds }
-    same_reply a b false says = record { plain = record { none = refl; space = tt; spine = tt; phases = tt; most = refl }; says = says; only = only_none g number; registers = holds }
+    same_reply a b true says = record { plain = record { none = refl; space = tt; spine = tt; phases = tt; most = refl }; says = says; only = only_registers_of_itself g number; registers = holds }
+    same_reply a b false says = record { plain = record { none = refl; space = tt; spine = tt; phases = tt; most = refl }; says = says; only = only_registers_of_itself g number; registers = holds }
 
     no_target : (r : ℕ) → register_head (register_in held r) ≡ None → target_node g (register_value g number r) ≡ None
-    no_target r none = holds_no_object made owner fragments g (register_in held r) (register_value g number r) (holds r) none
+    no_target r none = held_value_targets_none made owner fragments g (register_in held r) (register_value g number r) (holds r) none
 
-    pub local_replies : (command : Command) → IsCommand command → IsLocal held command → IsLocalReply command (local_reply_of held command) (local_registers held command)
-    local_replies (commands.Num d n) ranges local = record {
+    pub computed_reply_is_local : (command : Command) → IsCommand command → IsLocal held command → IsLocalReply command (local_reply_of held command) (local_registers held command)
+    computed_reply_is_local (commands.Num d n) ranges local = record {
       plain = record { none = refl; space = tt; spine = tt; phases = tt; most = refl };
       says = refl;
-      only = put_only g number d (values.Number n) present;
+      only = put_changes_only_registers g number d (values.Number n) present;
       registers = set_holds d (registers.Number n) (values.Number n) ranges.0.1 (refl, ranges.1);
     }
-    local_replies (commands.Nil d) ranges local = record {
+    computed_reply_is_local (commands.Nil d) ranges local = record {
       plain = record { none = refl; space = tt; spine = tt; phases = tt; most = refl };
       says = refl;
-      only = put_only g number d values.Nil present;
+      only = put_changes_only_registers g number d values.Nil present;
       registers = set_holds d registers.Nil values.Nil ranges.1 refl;
     }
-    local_replies (commands.Copy d r) ranges local = record {
+    computed_reply_is_local (commands.Copy d r) ranges local = record {
       plain = record { none = refl; space = tt; spine = tt; phases = tt; most = refl };
       says = refl;
-      only = put_only g number d (register_value g number r) present;
+      only = put_changes_only_registers g number d (register_value g number r) present;
       registers = set_holds d (register_in held r) (register_value g number r) ranges.0.1 (holds r);
     }
-    local_replies (commands.Same a b) ranges local =
+    computed_reply_is_local (commands.Same a b) ranges local =
         same_reply a b (is_same_value (value_of (register_in held a)) (value_of (register_in held b)))
-        (held_compares made owner fragments (register_in held a) (register_in held b) (register_value g number a) (register_value g number b) (holds a) (holds b))
-    local_replies (commands.Get d r i) ranges local = record {
+        (compares_as_held made owner fragments (register_in held a) (register_in held b) (register_value g number a) (register_value g number b) (holds a) (holds b))
+    computed_reply_is_local (commands.Get d r i) ranges local = record {
       plain = record { none = refl; space = tt; spine = tt; phases = tt; most = refl };
       says = subst (λ (o : Option Node). Gets (cell_or_refusal o i) replies.NoObject) (sym (no_target r local)) refl;
-      only = only_none g number;
+      only = only_registers_of_itself g number;
       registers = holds;
     }
-    local_replies (commands.Set r i v) ranges local = record {
+    computed_reply_is_local (commands.Set r i v) ranges local = record {
       plain = record { none = refl; space = tt; spine = tt; phases = tt; most = refl };
       says = subst (λ (o : Option Node). Sets (graph_seat g number).sets (cell_or_refusal o i) replies.NoObject) (sym (no_target r local)) refl;
-      only = only_none g number;
+      only = only_registers_of_itself g number;
       registers = holds;
     }
-    local_replies (commands.Len r) ranges local = record {
+    computed_reply_is_local (commands.Len r) ranges local = record {
       plain = record { none = refl; space = tt; spine = tt; phases = tt; most = refl };
       says = subst (λ (o : Option Node). replies.NoObject ≡ length_reply o) (sym (no_target r local)) refl;
-      only = only_none g number;
+      only = only_registers_of_itself g number;
       registers = holds;
     }
-    local_replies _ ranges local = absurd local
+    computed_reply_is_local _ ranges local = absurd local

@@ -13,7 +13,7 @@ use Rattle.heap_model.specs.account.Phases.{ShowsPhases}
 use Rattle.heap_model.specs.account.Refusals.{ShowsSpace, ShowsSpine}
 use Rattle.heap_model.specs.graph.Replies.{length_reply}
 use Rattle.core_machine.specs.seat.FitsAccess.{NamesField, IsGet}
-use Rattle.core_rule.proofs.entries.Legality.{keeps_said}
+use Rattle.core_rule.proofs.entries.Legality.{keeps_space_of_plain_said}
 
 -- the command asks for a length
 abbrev pub IsLen : Command → Type 0
@@ -35,8 +35,8 @@ field_only P get set (commands.Set r i v) is = set r i v
 field_only P get set _ is = absurd is
 
 -- a get's register is one of sixteen
-pub target_within : (command : Command) → IsGet command → IsCommand command → target_of command < 16
-target_within command is = get_only (λ c. IsCommand c → target_of c < 16) (λ d r i fits. omega (arith, fits.0)) command is
+pub target_within_registers : (command : Command) → IsGet command → IsCommand command → target_of command < 16
+target_within_registers command is = get_only (λ c. IsCommand c → target_of c < 16) (λ d r i fits. omega (arith, fits.0)) command is
 
 -- an object that is there has its cells
 cell_there : (object : Option Node) (i : ℕ) → IsSome object → cell_or_refusal object i ≡ or_no_field (slice_get (node_in object).cells i)
@@ -70,31 +70,31 @@ module _ (g : Graph) (number : ℕ) (id : Id) (command : Command) (ranges : IsCo
       (λ d r i fits holds at_field. (present, fits, rw (holds, cell_there (node g id) i made, at_field) refl)) command is ranges held there
 
 -- a length changes nothing of the graph, nor does a field that isn't there
-pub graph_length : (g : Graph) (number n : ℕ) (command : Command) → IsLen command → after_reply g number command (replies.Length n) ≡ g
-graph_length g number n command is = len_only (λ c. after_reply g number c (replies.Length n) ≡ g) (λ r. refl) command is
+pub graph_same_after_length : (g : Graph) (number n : ℕ) (command : Command) → IsLen command → after_reply g number command (replies.Length n) ≡ g
+graph_same_after_length g number n command is = len_only (λ c. after_reply g number c (replies.Length n) ≡ g) (λ r. refl) command is
 
-pub graph_no_field : (g : Graph) (number : ℕ) (command : Command) → NamesField command → after_reply g number command replies.NoField ≡ g
-graph_no_field g number command is = field_only (λ c. after_reply g number c replies.NoField ≡ g) (λ d r i. refl) (λ r i v. refl) command is
+pub graph_same_after_no_field : (g : Graph) (number : ℕ) (command : Command) → NamesField command → after_reply g number command replies.NoField ≡ g
+graph_same_after_no_field g number command is = field_only (λ c. after_reply g number c replies.NoField ≡ g) (λ d r i. refl) (λ r i v. refl) command is
 
 -- what a get answers stands in its register
-pub graph_got : (g : Graph) (number : ℕ) (value : Value) (stamp : ℕ) (command : Command) → IsGet command → after_reply g number command (replies.Got value stamp) ≡ with_register g number (target_of command) value
-graph_got g number value stamp command is = get_only (λ c. after_reply g number c (replies.Got value stamp) ≡ with_register g number (target_of c) value) (λ d r i. refl) command is
+pub graph_after_got : (g : Graph) (number : ℕ) (value : Value) (stamp : ℕ) (command : Command) → IsGet command → after_reply g number command (replies.Got value stamp) ≡ with_register g number (target_of command) value
+graph_after_got g number value stamp command is = get_only (λ c. after_reply g number c (replies.Got value stamp) ≡ with_register g number (target_of c) value) (λ d r i. refl) command is
 
 module _ (heap : Heap) (play : Bool) (before : List Entry) (number : ℕ) (own : spent_of number before ≤ taken_of number before) (little : taken_of number before ≤ spent_of number before + 15) where
   -- a reply that makes nothing and shows no space and no phase keeps the rules of space
   keeps_bare : (command : Command) (reply : Reply) → made_by command reply ≡ 0 → most_kept command ≡ 15 → ShowsSpace heap play before number command reply
       → ShowsSpine heap play before number command reply → ShowsPhases heap play before number command reply → KeepsSpace heap play before (Said number command reply)
-  keeps_bare command reply none most space spine phases = keeps_said heap play before number command reply none space spine phases own (omega (arith, most, little))
+  keeps_bare command reply none most space spine phases = keeps_space_of_plain_said heap play before number command reply none space spine phases own (omega (arith, most, little))
 
   -- so these do
-  pub keeps_length : (n : ℕ) (command : Command) → IsLen command → KeepsSpace heap play before (Said number command (replies.Length n))
-  keeps_length n command is = len_only (λ c. KeepsSpace heap play before (Said number c (replies.Length n))) (λ r. keeps_bare (commands.Len r) (replies.Length n) refl refl tt tt tt) command is
+  pub keeps_space_of_length : (n : ℕ) (command : Command) → IsLen command → KeepsSpace heap play before (Said number command (replies.Length n))
+  keeps_space_of_length n command is = len_only (λ c. KeepsSpace heap play before (Said number c (replies.Length n))) (λ r. keeps_bare (commands.Len r) (replies.Length n) refl refl tt tt tt) command is
 
-  pub keeps_no_field : (command : Command) → NamesField command → KeepsSpace heap play before (Said number command replies.NoField)
-  keeps_no_field command is =
+  pub keeps_space_of_no_field : (command : Command) → NamesField command → KeepsSpace heap play before (Said number command replies.NoField)
+  keeps_space_of_no_field command is =
       field_only (λ c. KeepsSpace heap play before (Said number c replies.NoField))
       (λ d r i. keeps_bare (commands.Get d r i) replies.NoField refl refl tt tt tt) (λ r i v. keeps_bare (commands.Set r i v) replies.NoField refl refl tt tt tt) command is
 
-  pub keeps_got : (value : Value) (stamp : ℕ) (command : Command) → IsGet command → KeepsSpace heap play before (Said number command (replies.Got value stamp))
-  keeps_got value stamp command is =
+  pub keeps_space_of_got : (value : Value) (stamp : ℕ) (command : Command) → IsGet command → KeepsSpace heap play before (Said number command (replies.Got value stamp))
+  keeps_space_of_got value stamp command is =
       get_only (λ c. KeepsSpace heap play before (Said number c (replies.Got value stamp))) (λ d r i. keeps_bare (commands.Get d r i) (replies.Got value stamp) refl refl tt tt tt) command is

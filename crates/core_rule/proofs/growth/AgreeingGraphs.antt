@@ -25,19 +25,19 @@ alike_then one other third alike then_ = record {
 }
 
 -- so with graphs
-pub agree_back : (number : ℕ) (one other : Graph) → AgreeOn number one other → AgreeOn number other one
-agree_back number one other agrees = record { places = sym agrees.places; board = sym agrees.board; seat = alike_back _ _ agrees.seat }
+pub agree_on_reversed : (number : ℕ) (one other : Graph) → AgreeOn number one other → AgreeOn number other one
+agree_on_reversed number one other agrees = record { places = sym agrees.places; board = sym agrees.board; seat = alike_back _ _ agrees.seat }
 
-pub agree_then : (number : ℕ) (one other third : Graph) → AgreeOn number one other → AgreeOn number other third → AgreeOn number one third
-agree_then number one other third agrees then_ =
+pub agree_on_composed : (number : ℕ) (one other third : Graph) → AgreeOn number one other → AgreeOn number other third → AgreeOn number one third
+agree_on_composed number one other third agrees then_ =
     record { places = agrees.places ∙ then_.places; board = agrees.board ∙ then_.board; seat = alike_then _ _ _ agrees.seat then_.seat }
 
-pub agree_same : (number : ℕ) (g : Graph) → AgreeOn number g g
-agree_same number g = record { places = refl; board = refl; seat = alike_same (graph_seat g number) }
+pub agree_on_itself : (number : ℕ) (g : Graph) → AgreeOn number g g
+agree_on_itself number g = record { places = refl; board = refl; seat = alike_same (graph_seat g number) }
 
 -- the seat is another one in both, each like the other
-pub agree_with : (number : ℕ) (one other : Graph) (p q : GraphSeat) → AgreeOn number one other → AreAlike p q → AgreeOn number (with_graph_seat one number p) (with_graph_seat other number q)
-agree_with number one other p q agrees alike = record {
+pub agree_on_same_seat_change : (number : ℕ) (one other : Graph) (p q : GraphSeat) → AgreeOn number one other → AreAlike p q → AgreeOn number (with_graph_seat one number p) (with_graph_seat other number q)
+agree_on_same_seat_change number one other p q agrees alike = record {
   places = length-set one.seats number p ∙ agrees.places ∙ sym (length-set other.seats number q);
   board = agrees.board;
   seat = elim (cases_lt number (length one.seats)) [
@@ -50,8 +50,8 @@ agree_with number one other p q agrees alike = record {
 }
 
 -- another seat is another one in one of them
-pub agree_other : (number other : ℕ) (g : Graph) (p : GraphSeat) → number ≢ other → AgreeOn number g (with_graph_seat g other p)
-agree_other number other g p apart = record {
+pub agree_on_with_other_seat : (number other : ℕ) (g : Graph) (p : GraphSeat) → number ≢ other → AgreeOn number g (with_graph_seat g other p)
+agree_on_with_other_seat number other g p apart = record {
   places = sym (length-set g.seats other p);
   board = refl;
   seat = subst (AreAlike (graph_seat g number)) (sym (get_or-set_other g.seats other number p absent_graph_seat apart)) (alike_same (graph_seat g number));
@@ -69,13 +69,13 @@ cell_alike p count i cell = record {
   left = refl;
 }
 
-pub agree_write : (number : ℕ) (g : Graph) (value : Value) (i : ℕ) (cell : Cell) → AgreeOn number g (write g value i cell)
-agree_write number g Nil i cell = agree_same number g
-agree_write number g (Number n) i cell = agree_same number g
-agree_write number g (Object Board) i cell = record { places = refl; board = sym (cell_shape g.board i cell); seat = alike_same (graph_seat g number) }
-agree_write number g (Object (Made other count)) i cell = elim (cases_eq number other) [
+pub agree_on_after_write : (number : ℕ) (g : Graph) (value : Value) (i : ℕ) (cell : Cell) → AgreeOn number g (write g value i cell)
+agree_on_after_write number g Nil i cell = agree_on_itself number g
+agree_on_after_write number g (Number n) i cell = agree_on_itself number g
+agree_on_after_write number g (Object Board) i cell = record { places = refl; board = sym (cell_shape g.board i cell); seat = alike_same (graph_seat g number) }
+agree_on_after_write number g (Object (Made other count)) i cell = elim (cases_eq number other) [
   | inl same ↦ subst (λ n. AgreeOn n g (with_graph_seat g other (with_object_cell (graph_seat g other) count i cell))) (sym same) its
-  | inr apart ↦ agree_other number other g (with_object_cell (graph_seat g other) count i cell) apart
+  | inr apart ↦ agree_on_with_other_seat number other g (with_object_cell (graph_seat g other) count i cell) apart
 ]
   where
     its : AgreeOn other g (with_graph_seat g other (with_object_cell (graph_seat g other) count i cell))

@@ -14,9 +14,9 @@ use Rattle.heap_model.specs.Limits.{stamp_limit}
 use Rattle.heap_model.specs.graph.Replies.{Says, Gets}
 use Rattle.core_rule.proofs.growth.Growing.{CameFrom, was_held, was_read, IsSameSize, GrowsFrom}
 use Rattle.core_rule.proofs.growth.RegisterIds.{RegisterHolds}
-use Rattle.core_rule.proofs.growth.SeatGrowth.{set_cases, same_as_was, grows_none, grows_put, grows_leave, grows_add}
-use Rattle.core_rule.proofs.graph.CellSet.{Sets, sets_cell}
-use Rattle.core_rule.proofs.graph.Numbering.{id_tells}
+use Rattle.core_rule.proofs.growth.SeatGrowth.{set_cases, same_size_unchanged, grows_by_nothing, grows_by_put, grows_by_leave, grows_by_add}
+use Rattle.core_rule.proofs.graph.CellSet.{Sets, write_sets_cell}
+use Rattle.core_rule.proofs.graph.Numbering.{same_id_test_decides}
 
 -- a value refers to an object that has this cell
 pub record HasCell (g : Graph) (value : Value) (i : ℕ) (cell : Cell) : Type 0 where
@@ -66,7 +66,7 @@ module _ (g : Graph) (number : ℕ) (present : IsPresent g number) where
     written = write (count_set g number) (Object id) i cell
 
     set_there : Sets g written number id i cell
-    set_there = sets_cell g number id i cell object present there
+    set_there = write_sets_cell g number id i cell object present there
 
     same_registers : (s r : ℕ) → register_value written s r ≡ register_value g s r
     same_registers s r = elim (cases_eq s number) [
@@ -82,7 +82,7 @@ module _ (g : Graph) (number : ℕ) (present : IsPresent g number) where
     ]
 
     written_cells : (holder x : Id) → Points written holder x → Points g holder x ⊎ RegisterHolds g x
-    written_cells holder x points = elim (id_tells holder id) [
+    written_cells holder x points = elim (same_id_test_decides holder id) [
       | inl e ↦ elim (written_points x (subst (λ (o : Option Node). IsSomeAnd o (λ y. PointsTo y x)) (ap (node written) e.1 ∙ set_there.written object there) points)) [
         | inl old ↦ inl (subst (λ (o : Option Node). IsSomeAnd o (λ y. PointsTo y x)) (sym (ap (node g) e.1 ∙ there)) old)
         | inr its ↦ inr its
@@ -91,14 +91,14 @@ module _ (g : Graph) (number : ℕ) (present : IsPresent g number) where
     ]
 
     written_objects : (x : Id) (o : Node) → node g x ≡ Some o → IsSameSize written x o
-    written_objects x o is = elim (id_tells x id) [
+    written_objects x o is = elim (same_id_test_decides x id) [
       | inl e ↦ record {
         later = with_cell o i cell;
         there = ap (node written) e.1 ∙ set_there.written o (sym (ap (node g) e.1) ∙ is);
         kind = refl;
         cells = length-set o.cells i cell;
       }
-      | inr e ↦ same_as_was g written x o (set_there.rest x e.1) is
+      | inr e ↦ same_size_unchanged g written x o (set_there.rest x e.1) is
     ]
 
     grows_written : GrowsFrom g written
@@ -109,31 +109,31 @@ module _ (g : Graph) (number : ℕ) (present : IsPresent g number) where
     }
 
   -- a set that is no refusal finds its cell
-  pub set_cell_there : (r i v stamp : ℕ) → Says g number (commands.Set r i v) (replies.Was stamp) → (cell : Cell) × HasCell g (register_value g number r) i cell
-  set_cell_there r i v stamp sets =
+  pub set_finds_its_cell : (r i v stamp : ℕ) → Says g number (commands.Set r i v) (replies.Was stamp) → (cell : Cell) × HasCell g (register_value g number r) i cell
+  set_finds_its_cell r i v stamp sets =
       let found = found_cell g (register_value g number r) i (replies.Was stamp) (λ cell reply. (reply ≡ replies.Was cell.stamp) × ((graph_seat g number).sets + 1 < stamp_limit)) (λ e. cc e) (λ e. cc e) sets in
       (found.0, found.1)
 
   -- so it grows the graph
   grows_set : (r i v stamp : ℕ) → Says g number (commands.Set r i v) (replies.Was stamp) → GrowsFrom g (after_reply g number (commands.Set r i v) (replies.Was stamp))
   grows_set r i v stamp sets =
-      let found = set_cell_there r i v stamp sets in
+      let found = set_finds_its_cell r i v stamp sets in
       subst (λ value. GrowsFrom g (write (count_set g number) value i (record { value = register_value g number v; stamp = set_stamp number ((graph_seat g number).sets + 1) }))) (sym found.1.refers)
       (grows_written found.1.id i v _ found.1.object found.1.there refl)
 
   -- each reply that the graph gives does
   grows_said : (command : Command) (reply : Reply) → Says g number command reply → GrowsFrom g (after_reply g number command reply)
-  grows_said (commands.New d fields) (replies.Made id) says = grows_add g number present d false fields
-  grows_said (commands.Array d cells) (replies.Made id) says = grows_add g number present d true cells
-  grows_said (commands.Get d r i) (replies.Got value stamp) says = grows_put g number present d value (got_came r i value stamp says)
+  grows_said (commands.New d fields) (replies.Made id) says = grows_by_add g number present d false fields
+  grows_said (commands.Array d cells) (replies.Made id) says = grows_by_add g number present d true cells
+  grows_said (commands.Get d r i) (replies.Got value stamp) says = grows_by_put g number present d value (got_came r i value stamp says)
   grows_said (commands.Set r i v) (replies.Was stamp) says = grows_set r i v stamp says
-  grows_said (commands.Num d n) reply says = grows_put g number present d (Number n) (λ id e. cc e)
-  grows_said (commands.Nil d) reply says = grows_put g number present d Nil (λ id e. cc e)
-  grows_said (commands.Copy d r) reply says = grows_put g number present d (register_value g number r) (λ id e. was_held (record { number = number; register = r; holds = e }))
-  grows_said commands.Leave reply says = grows_leave g number present
-  grows_said command reply says = grows_none g
+  grows_said (commands.Num d n) reply says = grows_by_put g number present d (Number n) (λ id e. cc e)
+  grows_said (commands.Nil d) reply says = grows_by_put g number present d Nil (λ id e. cc e)
+  grows_said (commands.Copy d r) reply says = grows_by_put g number present d (register_value g number r) (λ id e. was_held (record { number = number; register = r; holds = e }))
+  grows_said commands.Leave reply says = grows_by_leave g number present
+  grows_said command reply says = grows_by_nothing g
 
 -- and each entry that the graph accepts
-pub grows_after : (g : Graph) (entry : Entry) → Accepts g entry → GrowsFrom g (after_entry g entry)
-grows_after g (entries.Said number command reply) accepts = grows_said g number accepts.0 command reply accepts.2
-grows_after g _ accepts = grows_none g
+pub grows_by_entry : (g : Graph) (entry : Entry) → Accepts g entry → GrowsFrom g (after_entry g entry)
+grows_by_entry g (entries.Said number command reply) accepts = grows_said g number accepts.0 command reply accepts.2
+grows_by_entry g _ accepts = grows_by_nothing g

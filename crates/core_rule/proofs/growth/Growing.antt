@@ -3,7 +3,7 @@ use Rattle.std.proofs.Common.{◌≡◌, ℕ, ◌⊎◌, inl, inr, length, Optio
 use Rattle.std.specs.Option.{option_map_or, IsSomeAnd}
 use Rattle.core_rule.proofs.Terms.{Id, Graph, Node, node, register_value, IsMade, Points, PointsTo, Reaches, from_register, from_cell, fragments_of, fragments_at}
 use Rattle.heap_model.specs.declared.id.Value.TheVariants.{Object}
-use Rattle.core_rule.proofs.growth.RegisterIds.{RegisterHolds, root_of, holding_register}
+use Rattle.core_rule.proofs.growth.RegisterIds.{RegisterHolds, register_id_is_root, root_is_in_register}
 
 -- an id was in a register, or in a cell of what was in one, or wasn't made yet
 pub data CameFrom (g : Graph) (id : Id) : Type 0 where
@@ -25,8 +25,8 @@ pub record GrowsFrom (g now : Graph) : Type 0 where
   pub objects : (id : Id) (object : Node) → node g id ≡ Some object → IsSameSize now id object
 
 -- an object with a cell was made
-pub holder_made : (g : Graph) (holder id : Id) → Points g holder id → IsMade g holder
-holder_made g holder id points = by (node g holder) points
+pub holder_is_made : (g : Graph) (holder id : Id) → Points g holder id → IsMade g holder
+holder_is_made g holder id points = by (node g holder) points
   where
     by : (object : Option Node) → IsSomeAnd object (λ o. PointsTo o id) → IsSome object
     by None some = absurd some
@@ -35,8 +35,8 @@ holder_made g holder id points = by (node g holder) points
 module _ (g now : Graph) (grows : GrowsFrom g now) where
   -- what is reached then was reached before, or is new
   came_reached : (id : Id) → IsMade g id → CameFrom g id → Reaches g id
-  came_reached id made (was_held its) = from_register id made (root_of g id its)
-  came_reached id made (was_read holder its points) = from_cell id made holder (from_register holder (holder_made g holder id points) (root_of g holder its)) points
+  came_reached id made (was_held its) = from_register id made (register_id_is_root g id its)
+  came_reached id made (was_read holder its points) = from_cell id made holder (from_register holder (holder_is_made g holder id points) (register_id_is_root g holder its)) points
   came_reached id made (was_unmade unmade) = absurd (unmade made)
 
   or_new : (id : Id) → (IsMade g id → Reaches g id) → Reaches g id ⊎ ¬ IsMade g id
@@ -46,16 +46,16 @@ module _ (g now : Graph) (grows : GrowsFrom g now) where
       by None reaches = inr (λ made. cc made)
       by (Some object) reaches = inl (reaches refl)
 
-  pub reach_back : (id : Id) → Reaches now id → Reaches g id ⊎ ¬ IsMade g id
-  reach_back _ (from_register id made root) =
-      let its : RegisterHolds now id = holding_register now id root in
+  pub reached_before_or_unmade : (id : Id) → Reaches now id → Reaches g id ⊎ ¬ IsMade g id
+  reached_before_or_unmade _ (from_register id made root) =
+      let its : RegisterHolds now id = root_is_in_register now id root in
       or_new id (λ was. came_reached id was (grows.registers its.number its.register id its.holds))
-  reach_back _ (from_cell id made holder reached points) = or_new id (λ was. elim (grows.cells holder id points) [
-    | inl old ↦ elim (reach_back holder reached) [
+  reached_before_or_unmade _ (from_cell id made holder reached points) = or_new id (λ was. elim (grows.cells holder id points) [
+    | inl old ↦ elim (reached_before_or_unmade holder reached) [
       | inl before ↦ from_cell id was holder before old
-      | inr unmade ↦ absurd (unmade (holder_made g holder id old))
+      | inr unmade ↦ absurd (unmade (holder_is_made g holder id old))
     ]
-    | inr its ↦ from_register id was (root_of g id its)
+    | inr its ↦ from_register id was (register_id_is_root g id its)
   ])
 
   -- what was made stays so

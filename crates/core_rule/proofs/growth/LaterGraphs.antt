@@ -3,35 +3,35 @@ use Rattle.std.proofs.Common.{◌≡◌, ◌⊎◌, inl, inr, List, [], ◌∷�
 use Rattle.std.proofs.lemmas.List.Sums.{fold-append}
 use Rattle.core_rule.proofs.Terms.{graph_of, Entry, Heap, Id, Graph, opening, after_entry, graph_after, Accepts, AcceptsAll, IsObjectLegal, IsMade, Reaches, fragments_at}
 use Rattle.core_rule.specs.growth.GraphLaws.{UnreachedStaysSo, EachObjectStays}
-use Rattle.core_rule.proofs.growth.EntryGrowth.{grows_after}
-use Rattle.core_rule.proofs.growth.Growing.{reach_back, made_stays, fragments_stay}
+use Rattle.core_rule.proofs.growth.EntryGrowth.{grows_by_entry}
+use Rattle.core_rule.proofs.growth.Growing.{reached_before_or_unmade, made_stays, fragments_stay}
 
 module _ (g : Graph) (entry : Entry) (accepts : Accepts g entry) where
   -- what is reached after it was reached before, or is new
   pub reach_after : (id : Id) → Reaches (after_entry g entry) id → Reaches g id ⊎ ¬ IsMade g id
-  reach_after = reach_back g (after_entry g entry) (grows_after g entry accepts)
+  reach_after = reached_before_or_unmade g (after_entry g entry) (grows_by_entry g entry accepts)
 
   -- what was made stays so, with its fragments
-  pub made_after : (id : Id) → IsMade g id → IsMade (after_entry g entry) id
-  made_after = made_stays g (after_entry g entry) (grows_after g entry accepts)
+  pub made_stays_after_entry : (id : Id) → IsMade g id → IsMade (after_entry g entry) id
+  made_stays_after_entry = made_stays g (after_entry g entry) (grows_by_entry g entry accepts)
 
   pub fragments_after : (id : Id) → IsMade g id → fragments_at (after_entry g entry) id ≡ fragments_at g id
-  fragments_after = fragments_stay g (after_entry g entry) (grows_after g entry accepts)
+  fragments_after = fragments_stay g (after_entry g entry) (grows_by_entry g entry accepts)
 
 -- so after a history
 pub made_after_all : (g : Graph) (history : List Entry) → AcceptsAll g history → (id : Id) → IsMade g id → IsMade (graph_after g history) id
 made_after_all g [] accepts id made = made
-made_after_all g (entry ∷ history) accepts id made = made_after_all (after_entry g entry) history accepts.1 id (made_after g entry accepts.0 id made)
+made_after_all g (entry ∷ history) accepts id made = made_after_all (after_entry g entry) history accepts.1 id (made_stays_after_entry g entry accepts.0 id made)
 
 pub fragments_after_all : (g : Graph) (history : List Entry) → AcceptsAll g history → (id : Id) → IsMade g id → fragments_at (graph_after g history) id ≡ fragments_at g id
 fragments_after_all g [] accepts id made = refl
 fragments_after_all g (entry ∷ history) accepts id made =
-    fragments_after_all (after_entry g entry) history accepts.1 id (made_after g entry accepts.0 id made) ∙ fragments_after g entry accepts.0 id made
+    fragments_after_all (after_entry g entry) history accepts.1 id (made_stays_after_entry g entry accepts.0 id made) ∙ fragments_after g entry accepts.0 id made
 
 pub reach_after_all : (g : Graph) (history : List Entry) → AcceptsAll g history → (id : Id) → IsMade g id → Reaches (graph_after g history) id → Reaches g id
 reach_after_all g [] accepts id made reached = reached
 reach_after_all g (entry ∷ history) accepts id made reached =
-    elim (reach_after g entry accepts.0 id (reach_after_all (after_entry g entry) history accepts.1 id (made_after g entry accepts.0 id made) reached)) [
+    elim (reach_after g entry accepts.0 id (reach_after_all (after_entry g entry) history accepts.1 id (made_stays_after_entry g entry accepts.0 id made) reached)) [
       | inl before ↦ before
       | inr unmade ↦ absurd (unmade made)
     ]

@@ -11,21 +11,21 @@ use Rattle.heap_model.specs.declared.entry.Entry.TheVariants as entries
 use Rattle.heap_model.specs.declared.id.Value.TheVariants.{Nil, Number, Object}
 use Rattle.heap_model.specs.declared.reply.Reply.TheVariants as replies
 use Rattle.heap_model.specs.graph.Graph.{GraphSeat}
-use Rattle.core_rule.proofs.entries.Others.{of_other}
+use Rattle.core_rule.proofs.entries.Others.{seat_is_not_other}
 use Rattle.core_rule.specs.growth.OwnGraphs.{Shape, shape_of, AgreeOn, EachOwnGraphIsPart}
-use Rattle.core_rule.proofs.growth.AgreeingGraphs.{agree_same, agree_back, agree_then, agree_with, agree_other, agree_write}
+use Rattle.core_rule.proofs.growth.AgreeingGraphs.{agree_on_itself, agree_on_reversed, agree_on_composed, agree_on_same_seat_change, agree_on_with_other_seat, agree_on_after_write}
 
 module _ (number : ℕ) (one other : Graph) (agrees : AgreeOn number one other) where
   -- as many objects were made
-  pub as_many : length (graph_seat one number).objects ≡ length (graph_seat other number).objects
-  as_many = sym (length-map (graph_seat one number).objects shape_of) ∙ ap (λ (l : List Shape). length l) agrees.seat.objects ∙ length-map (graph_seat other number).objects shape_of
+  pub as_many_objects_made : length (graph_seat one number).objects ≡ length (graph_seat other number).objects
+  as_many_objects_made = sym (length-map (graph_seat one number).objects shape_of) ∙ ap (λ (l : List Shape). length l) agrees.seat.objects ∙ length-map (graph_seat other number).objects shape_of
 
   -- the registers hold the same
-  pub same_value : (r : ℕ) → register_value one number r ≡ register_value other number r
-  same_value r = ap (λ (l : List Value). get_or l r Nil) agrees.seat.registers
+  pub same_register_values : (r : ℕ) → register_value one number r ≡ register_value other number r
+  same_register_values r = ap (λ (l : List Value). get_or l r Nil) agrees.seat.registers
 
   agree_put : (d : ℕ) (value : Value) → AgreeOn number (with_register one number d value) (with_register other number d value)
-  agree_put d value = agree_with number one other _ _ agrees record {
+  agree_put d value = agree_on_same_seat_change number one other _ _ agrees record {
     registers = ap (λ (l : List Value). set l d value) agrees.seat.registers;
     objects = agrees.seat.objects;
     sets = agrees.seat.sets;
@@ -33,16 +33,16 @@ module _ (number : ℕ) (one other : Graph) (agrees : AgreeOn number one other) 
   }
 
   agree_add : (d : ℕ) (object : Node) → AgreeOn number (add one number d object) (add other number d object)
-  agree_add d object = agree_with number one other _ _ agrees record {
+  agree_add d object = agree_on_same_seat_change number one other _ _ agrees record {
     registers = ap (λ (l : List Value). set l d (Object (Made number (length (graph_seat one number).objects)))) agrees.seat.registers
-        ∙ ap (λ n. set (graph_seat other number).registers d (Object (Made number n))) as_many;
+        ∙ ap (λ n. set (graph_seat other number).registers d (Object (Made number n))) as_many_objects_made;
     objects = map-append shape_of (graph_seat one number).objects (object ∷ []) ∙ ap (λ (l : List Shape). l ++ shape_of object ∷ []) agrees.seat.objects ∙ sym (map-append shape_of (graph_seat other number).objects (object ∷ []));
     sets = agrees.seat.sets;
     left = agrees.seat.left;
   }
 
   agree_count : AgreeOn number (count_set one number) (count_set other number)
-  agree_count = agree_with number one other _ _ agrees
+  agree_count = agree_on_same_seat_change number one other _ _ agrees
       record { registers = agrees.seat.registers; objects = agrees.seat.objects; sets = ap (λ n. n + 1) agrees.seat.sets; left = agrees.seat.left }
 
   -- a reply to the seat changes both alike
@@ -51,30 +51,30 @@ module _ (number : ℕ) (one other : Graph) (agrees : AgreeOn number one other) 
   agree_said (commands.Array d cells) (replies.Made id) = agree_add d (fresh true cells)
   agree_said (commands.Get d r i) (replies.Got value stamp) = agree_put d value
   agree_said (commands.Set r i v) (replies.Was stamp) =
-      agree_then number (after_reply one number (commands.Set r i v) (replies.Was stamp)) (count_set one number) (after_reply other number (commands.Set r i v) (replies.Was stamp))
-      (agree_back number (count_set one number) (after_reply one number (commands.Set r i v) (replies.Was stamp)) (agree_write number (count_set one number) (register_value one number r) i _))
-      (agree_then number (count_set one number) (count_set other number) (after_reply other number (commands.Set r i v) (replies.Was stamp)) agree_count
-      (agree_write number (count_set other number) (register_value other number r) i _))
+      agree_on_composed number (after_reply one number (commands.Set r i v) (replies.Was stamp)) (count_set one number) (after_reply other number (commands.Set r i v) (replies.Was stamp))
+      (agree_on_reversed number (count_set one number) (after_reply one number (commands.Set r i v) (replies.Was stamp)) (agree_on_after_write number (count_set one number) (register_value one number r) i _))
+      (agree_on_composed number (count_set one number) (count_set other number) (after_reply other number (commands.Set r i v) (replies.Was stamp)) agree_count
+      (agree_on_after_write number (count_set other number) (register_value other number r) i _))
   agree_said (commands.Num d n) reply = agree_put d (Number n)
   agree_said (commands.Nil d) reply = agree_put d Nil
   agree_said (commands.Copy d r) reply =
-      subst (λ v. AgreeOn number (with_register one number d (register_value one number r)) (with_register other number d v)) (same_value r) (agree_put d (register_value one number r))
-  agree_said commands.Leave reply = agree_with number one other _ _ agrees record { registers = refl; objects = agrees.seat.objects; sets = agrees.seat.sets; left = refl }
+      subst (λ v. AgreeOn number (with_register one number d (register_value one number r)) (with_register other number d v)) (same_register_values r) (agree_put d (register_value one number r))
+  agree_said commands.Leave reply = agree_on_same_seat_change number one other _ _ agrees record { registers = refl; objects = agrees.seat.objects; sets = agrees.seat.sets; left = refl }
   agree_said command reply = agrees
 
 -- a reply to another seat changes nothing of this one
 agree_others : (number other : ℕ) (g : Graph) (command : Command) (reply : Reply) → number ≢ other → AgreeOn number g (after_reply g other command reply)
-agree_others number other g (commands.New d fields) (replies.Made id) apart = agree_other number other g _ apart
-agree_others number other g (commands.Array d cells) (replies.Made id) apart = agree_other number other g _ apart
-agree_others number other g (commands.Get d r i) (replies.Got value stamp) apart = agree_other number other g _ apart
+agree_others number other g (commands.New d fields) (replies.Made id) apart = agree_on_with_other_seat number other g _ apart
+agree_others number other g (commands.Array d cells) (replies.Made id) apart = agree_on_with_other_seat number other g _ apart
+agree_others number other g (commands.Get d r i) (replies.Got value stamp) apart = agree_on_with_other_seat number other g _ apart
 agree_others number other g (commands.Set r i v) (replies.Was stamp) apart =
-    agree_then number g (count_set g other) (after_reply g other (commands.Set r i v) (replies.Was stamp)) (agree_other number other g _ apart)
-    (agree_write number (count_set g other) (register_value g other r) i _)
-agree_others number other g (commands.Num d n) reply apart = agree_other number other g _ apart
-agree_others number other g (commands.Nil d) reply apart = agree_other number other g _ apart
-agree_others number other g (commands.Copy d r) reply apart = agree_other number other g _ apart
-agree_others number other g commands.Leave reply apart = agree_other number other g _ apart
-agree_others number other g command reply apart = agree_same number g
+    agree_on_composed number g (count_set g other) (after_reply g other (commands.Set r i v) (replies.Was stamp)) (agree_on_with_other_seat number other g _ apart)
+    (agree_on_after_write number (count_set g other) (register_value g other r) i _)
+agree_others number other g (commands.Num d n) reply apart = agree_on_with_other_seat number other g _ apart
+agree_others number other g (commands.Nil d) reply apart = agree_on_with_other_seat number other g _ apart
+agree_others number other g (commands.Copy d r) reply apart = agree_on_with_other_seat number other g _ apart
+agree_others number other g commands.Leave reply apart = agree_on_with_other_seat number other g _ apart
+agree_others number other g command reply apart = agree_on_itself number g
 
 -- an entry of the seat changes both alike, and another one nothing of the seat
 same_number : (number other : ℕ) → (other == number) ≡ true → other ≡ number
@@ -90,7 +90,7 @@ agree_own number one other entry own agrees = agrees
 
 agree_apart : (number : ℕ) (g : Graph) (entry : Entry) → is_of number entry ≡ false → AgreeOn number g (after_entry g entry)
 agree_apart number g (entries.Said maker command reply) apart = agree_others number maker g command reply (other_number number maker apart)
-agree_apart number g entry apart = agree_same number g
+agree_apart number g entry apart = agree_on_itself number g
 
 -- so after every history
 agree_after : (number : ℕ) (one other : Graph) (history : List Entry) → AgreeOn number one other → AgreeOn number (graph_after one (filter (is_of number) history)) (graph_after other history)
@@ -103,7 +103,7 @@ agree_after number one other (entry ∷ history) agrees =
         → (AgreeOn number one (after_entry other entry) → AgreeOn number (graph_after one (filter (is_of number) history)) (graph_after (after_entry other entry) history))
         → AgreeOn number (graph_after one (cond own (entry ∷ filter (is_of number) history) (filter (is_of number) history))) (graph_after (after_entry other entry) history)
     by true own both past = both (agree_own number one other entry own agrees)
-    by false apart both past = past (agree_then number one other (after_entry other entry) agrees (agree_apart number other entry apart))
+    by false apart both past = past (agree_on_composed number one other (after_entry other entry) agrees (agree_apart number other entry apart))
 
 -- without objects a seat stays so while it is alike
 none_alike : (xs ys : List Node) → map shape_of xs ≡ map shape_of ys → xs ≡ [] → ys ≡ []
@@ -112,10 +112,10 @@ none_alike xs (y ∷ ys) same none = let empty : map shape_of [] ≡ map shape_o
 
 -- an entry is of one seat at most
 not_both : (number other : ℕ) (entry : Entry) → other ≢ number → is_of number entry ≡ true → is_of other entry ≡ false
-not_both number other (entries.Said maker command reply) apart own = of_other maker other (λ e. apart (e ∙ same_number number maker own))
-not_both number other (entries.Takes maker count) apart own = of_other maker other (λ e. apart (e ∙ same_number number maker own))
-not_both number other (entries.GivesBack maker count) apart own = of_other maker other (λ e. apart (e ∙ same_number number maker own))
-not_both number other (entries.Answers maker phase) apart own = of_other maker other (λ e. apart (e ∙ same_number number maker own))
+not_both number other (entries.Said maker command reply) apart own = seat_is_not_other maker other (λ e. apart (e ∙ same_number number maker own))
+not_both number other (entries.Takes maker count) apart own = seat_is_not_other maker other (λ e. apart (e ∙ same_number number maker own))
+not_both number other (entries.GivesBack maker count) apart own = seat_is_not_other maker other (λ e. apart (e ∙ same_number number maker own))
+not_both number other (entries.Answers maker phase) apart own = seat_is_not_other maker other (λ e. apart (e ∙ same_number number maker own))
 not_both number other entry apart own = refl
 
 none_after : (number other : ℕ) (g : Graph) (history : List Entry) → other ≢ number → (graph_seat g other).objects ≡ [] → (graph_seat (graph_after g (filter (is_of number) history)) other).objects ≡ []
@@ -140,6 +140,6 @@ none_at_opening heap other = elim (cases_lt other heap.seats) [
 pub each_own_graph_is_part : EachOwnGraphIsPart
 unfolding EachOwnGraphIsPart
 each_own_graph_is_part heap history number = record {
-  agrees = agree_after number (opening heap) (opening heap) history (agree_same number (opening heap));
+  agrees = agree_after number (opening heap) (opening heap) history (agree_on_itself number (opening heap));
   others = λ other apart. none_after number other (opening heap) history apart (none_at_opening heap other);
 }

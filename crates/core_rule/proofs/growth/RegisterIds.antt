@@ -21,8 +21,8 @@ contains_at xs i d x other is = elim (cases_lt i (length xs)) [
 ]
 
 -- an id in a register is a root
-pub root_of : (g : Graph) (id : Id) → RegisterHolds g id → IsRoot g id
-root_of g id held =
+pub register_id_is_root : (g : Graph) (id : Id) → RegisterHolds g id → IsRoot g id
+register_id_is_root g id held =
     let registered : Contains (graph_seat g held.number).registers (Object id) = contains_at (graph_seat g held.number).registers held.register Nil (Object id) (λ e. cc e) held.holds in
     elim (cases_lt held.number (length g.seats)) [
       | inl below ↦ (held.number, graph_seat g held.number, below, get_or_default g.seats held.number (graph_seat g held.number) absent_graph_seat below, registered)
@@ -33,8 +33,8 @@ root_of g id held =
     no_register c = omega (arith, c.1)
 
 -- and a root is in a register
-pub holding_register : (g : Graph) (id : Id) → IsRoot g id → RegisterHolds g id
-holding_register g id root =
+pub root_is_in_register : (g : Graph) (id : Id) → IsRoot g id → RegisterHolds g id
+root_is_in_register g id root =
     let seat : graph_seat g root.0 ≡ root.1 = get_or_default g.seats root.0 absent_graph_seat root.1 root.2 ∙ root.3 in
     let value : get_or root.1.registers root.4.0 Nil ≡ Object id = get_or_default root.1.registers root.4.0 Nil (Object id) root.4.1 ∙ root.4.2 in
     record { number = root.0; register = root.4.0; holds = ap (λ (p : GraphSeat). get_or p.registers root.4.0 Nil) seat ∙ value }

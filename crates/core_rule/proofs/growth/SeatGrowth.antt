@@ -9,11 +9,11 @@ use Rattle.heap_model.specs.Limits.{register_count}
 use Rattle.heap_model.specs.graph.Graph.{GraphSeat}
 use Rattle.core_rule.proofs.growth.Growing.{CameFrom, was_held, was_unmade, IsSameSize, GrowsFrom}
 use Rattle.core_rule.proofs.growth.RegisterIds.{RegisterHolds}
-use Rattle.core_rule.proofs.graph.GraphGrowth.{grown_party, node_new, node_none, node_other}
-use Rattle.core_rule.proofs.graph.GraphSeats.{party_is, party_apart, node_stays}
-use Rattle.core_rule.proofs.graph.IdsGrowth.{not_made}
-use Rattle.core_rule.proofs.graph.LeftSeats.{all_nil}
-use Rattle.core_rule.proofs.graph.Numbering.{id_tells}
+use Rattle.core_rule.proofs.graph.GraphGrowth.{grown_party, added_node_is_object, new_id_has_no_node, other_nodes_stay_by_add}
+use Rattle.core_rule.proofs.graph.GraphSeats.{party_with_seat_is_new, other_party_stays, nodes_stay_with_seat}
+use Rattle.core_rule.proofs.graph.IdsGrowth.{without_node_is_not_made}
+use Rattle.core_rule.proofs.graph.LeftSeats.{empty_register_is_nil}
+use Rattle.core_rule.proofs.graph.Numbering.{same_id_test_decides}
 
 -- what stands in a list where one element was set is that, or what stood there
 pub set_cases : {A : Type 0} (xs : List A) (i j : ℕ) (a d : A) → (get_or (set xs i a) j d ≡ a) ⊎ (get_or (set xs i a) j d ≡ get_or xs j d)
@@ -22,8 +22,8 @@ set_cases (x ∷ xs) (suc i) (suc j) a d = set_cases xs i j a d
 set_cases _ _ _ a d = inr refl
 
 -- an object that stays as it is has its size
-pub same_as_was : (g now : Graph) (id : Id) (object : Node) → node now id ≡ node g id → node g id ≡ Some object → IsSameSize now id object
-same_as_was g now id object same is = record { later = object; there = same ∙ is; kind = refl; cells = refl }
+pub same_size_unchanged : (g now : Graph) (id : Id) (object : Node) → node now id ≡ node g id → node g id ≡ Some object → IsSameSize now id object
+same_size_unchanged g now id object same is = record { later = object; there = same ∙ is; kind = refl; cells = refl }
 
 -- a cell that was never set holds no id
 pub fresh_empty : (array : Bool) (cells : ℕ) (id : Id) → ¬ PointsTo (fresh array cells) id
@@ -33,11 +33,11 @@ fresh_empty array cells id points =
     cc (cell, points.4)
 
 -- a graph that stays as it is
-pub grows_none : (g : Graph) → GrowsFrom g g
-grows_none g = record {
+pub grows_by_nothing : (g : Graph) → GrowsFrom g g
+grows_by_nothing g = record {
   registers = λ number r id holds. was_held (record { number = number; register = r; holds = holds });
   cells = λ holder id points. inl points;
-  objects = λ id object is. same_as_was g g id object refl is;
+  objects = λ id object is. same_size_unchanged g g id object refl is;
 }
 
 module _ (g : Graph) (number : ℕ) (present : (graph_seat g number).left ≡ false) where
@@ -45,16 +45,16 @@ module _ (g : Graph) (number : ℕ) (present : (graph_seat g number).left ≡ fa
   module _ (p : GraphSeat) (its : (r : ℕ) (id : Id) → get_or p.registers r Nil ≡ Object id → CameFrom g id) where
     registers_came : (s r : ℕ) (id : Id) → register_value (with_graph_seat g number p) s r ≡ Object id → CameFrom g id
     registers_came s r id holds = elim (cases_eq s number) [
-      | inl e ↦ its r id (sym (ap (λ (x : GraphSeat). get_or x.registers r Nil) (party_is g number p present)) ∙ subst (λ t. register_value (with_graph_seat g number p) t r ≡ Object id) e holds)
-      | inr apart ↦ was_held (record { number = s; register = r; holds = sym (ap (λ (x : GraphSeat). get_or x.registers r Nil) (party_apart g number p present s apart)) ∙ holds })
+      | inl e ↦ its r id (sym (ap (λ (x : GraphSeat). get_or x.registers r Nil) (party_with_seat_is_new g number p present)) ∙ subst (λ t. register_value (with_graph_seat g number p) t r ≡ Object id) e holds)
+      | inr apart ↦ was_held (record { number = s; register = r; holds = sym (ap (λ (x : GraphSeat). get_or x.registers r Nil) (other_party_stays g number p present s apart)) ∙ holds })
     ]
 
     -- its objects stay
     grows_seat : p.objects ≡ (graph_seat g number).objects → GrowsFrom g (with_graph_seat g number p)
     grows_seat objects = record {
       registers = registers_came;
-      cells = λ holder id points. inl (subst (λ (o : Option Node). IsSomeAnd o (λ x. PointsTo x id)) (node_stays g number p present objects holder) points);
-      objects = λ id object is. same_as_was g (with_graph_seat g number p) id object (node_stays g number p present objects id) is;
+      cells = λ holder id points. inl (subst (λ (o : Option Node). IsSomeAnd o (λ x. PointsTo x id)) (nodes_stay_with_seat g number p present objects holder) points);
+      objects = λ id object is. same_size_unchanged g (with_graph_seat g number p) id object (nodes_stay_with_seat g number p present objects id) is;
     }
 
   -- a register gets a value
@@ -64,12 +64,12 @@ module _ (g : Graph) (number : ℕ) (present : (graph_seat g number).left ≡ fa
     | inr old ↦ was_held (record { number = number; register = r; holds = sym old ∙ holds })
   ]
 
-  pub grows_put : (d : ℕ) (value : Value) → ((id : Id) → value ≡ Object id → CameFrom g id) → GrowsFrom g (with_register g number d value)
-  grows_put d value came = grows_seat (record (graph_seat g number) { registers = set (graph_seat g number).registers d value }) (put_came d value came) refl
+  pub grows_by_put : (d : ℕ) (value : Value) → ((id : Id) → value ≡ Object id → CameFrom g id) → GrowsFrom g (with_register g number d value)
+  grows_by_put d value came = grows_seat (record (graph_seat g number) { registers = set (graph_seat g number).registers d value }) (put_came d value came) refl
 
   -- the seat leaves
-  pub grows_leave : GrowsFrom g (leave g number)
-  grows_leave = grows_seat (record (graph_seat g number) { registers = replicate register_count Nil; left = true }) (λ r id holds. absurd (no_object r id (sym (all_nil r) ∙ holds))) refl
+  pub grows_by_leave : GrowsFrom g (leave g number)
+  grows_by_leave = grows_seat (record (graph_seat g number) { registers = replicate register_count Nil; left = true }) (λ r id holds. absurd (no_object r id (sym (empty_register_is_nil r) ∙ holds))) refl
     where
       no_object : (r : ℕ) (id : Id) → Nil ≡ Object id → ⊥
       no_object r id e = cc e
@@ -83,20 +83,20 @@ module _ (g : Graph) (number : ℕ) (present : (graph_seat g number).left ≡ fa
     grown = add g number d (fresh array cells)
 
     unmade : (id : Id) → Object new_id ≡ Object id → ¬ IsMade g id
-    unmade id e = let same : new_id ≡ id = cc e in subst (λ x. ¬ IsMade g x) same (not_made g new_id (node_none g number d (fresh array cells) present))
+    unmade id e = let same : new_id ≡ id = cc e in subst (λ x. ¬ IsMade g x) same (without_node_is_not_made g new_id (new_id_has_no_node g number d (fresh array cells) present))
 
     cells_came : (holder id : Id) → Points grown holder id → Points g holder id ⊎ RegisterHolds g id
-    cells_came holder id points = elim (id_tells holder new_id) [
-      | inl e ↦ absurd (fresh_empty array cells id (subst (λ (o : Option Node). IsSomeAnd o (λ x. PointsTo x id)) (ap (node grown) e.1 ∙ node_new g number d (fresh array cells) present) points))
-      | inr e ↦ inl (subst (λ (o : Option Node). IsSomeAnd o (λ x. PointsTo x id)) (node_other g number d (fresh array cells) present holder e.1) points)
+    cells_came holder id points = elim (same_id_test_decides holder new_id) [
+      | inl e ↦ absurd (fresh_empty array cells id (subst (λ (o : Option Node). IsSomeAnd o (λ x. PointsTo x id)) (ap (node grown) e.1 ∙ added_node_is_object g number d (fresh array cells) present) points))
+      | inr e ↦ inl (subst (λ (o : Option Node). IsSomeAnd o (λ x. PointsTo x id)) (other_nodes_stay_by_add g number d (fresh array cells) present holder e.1) points)
     ]
 
     stays_there : (id : Id) (object : Node) → node g id ≡ Some object → IsSameSize grown id object
     stays_there id object is =
-        same_as_was g grown id object (node_other g number d (fresh array cells) present id (λ e. absurd (cc (ap (node g) e, is, node_none g number d (fresh array cells) present)))) is
+        same_size_unchanged g grown id object (other_nodes_stay_by_add g number d (fresh array cells) present id (λ e. absurd (cc (ap (node g) e, is, new_id_has_no_node g number d (fresh array cells) present)))) is
 
-    pub grows_add : GrowsFrom g grown
-    grows_add = record {
+    pub grows_by_add : GrowsFrom g grown
+    grows_by_add = record {
       registers = registers_came (grown_party g number d (fresh array cells) present) (put_came d (Object new_id) (λ id e. was_unmade (unmade id e)));
       cells = cells_came;
       objects = stays_there;

@@ -9,7 +9,7 @@ use Rattle.core_machine.specs.declared.collector.stage.Copying.{Copying}
 use Rattle.core_machine.specs.declared.collector.stage.Copying.TheVariants as copying
 use Rattle.core_machine.specs.declared.collector.stage.Stage.TheVariants as stages
 use Rattle.core_machine.specs.declared.collector.stage.Visit.{Visit}
-use Rattle.core_rule.proofs.graph.SameNodes.{SameShape, shape_words}
+use Rattle.core_rule.proofs.graph.SameNodes.{SameShape, same_shape_same_words}
 
 -- the object of this number is kept, with its name, its fragments, its spine and its shape
 pub record HeadStays (nodes now_nodes : ℕ → Node) (made now_made : List Id) (now_owner : ℕ → Owner) (fragments now_fragments : ℕ → List ℕ) (spines now_spines : ℕ → Spot) (f i : ℕ) : Type 0 where
@@ -25,7 +25,7 @@ module _ (nodes now_nodes : ℕ → Node) (made now_made : List Id) (owner now_o
   abbrev begins_go : (f words : ℕ) → BeginsArray nodes owner f words → BeginsArray now_nodes now_owner f words
   begins_go f words is =
       let one = heads f is.index is.kept in
-      record { index = is.index; kept = one.kept; is_array = one.shape.kind ∙ is.is_array; as_many = is.as_many ∙ sym (shape_words (now_nodes is.index) (nodes is.index) one.shape) }
+      record { index = is.index; kept = one.kept; is_array = one.shape.kind ∙ is.is_array; as_many = is.as_many ∙ sym (same_shape_same_words (now_nodes is.index) (nodes is.index) one.shape) }
 
   marked_go : (visit : Visit) → VisitIsMarked colour visit → VisitIsMarked now_colour visit
   marked_go visit are place set = marked (16 * visit.group + place) (are place set)
@@ -58,7 +58,7 @@ module _ (nodes now_nodes : ℕ → Node) (made now_made : List Id) (owner now_o
   )
   copies_go half (copying.Swinging copy) is = (to_copy_go half copy.array copy.from is.0, is.1)
 
-  pub while_copies_go : (half : ℕ) (stage : Stage) → WhileCopying (CopyingStands nodes made owner colour fragments spines half) stage
+  pub copying_stands_still : (half : ℕ) (stage : Stage) → WhileCopying (CopyingStands nodes made owner colour fragments spines half) stage
       → WhileCopying (CopyingStands now_nodes now_made now_owner now_colour now_fragments now_spines half) stage
-  while_copies_go half (stages.Copying stage) is = copies_go half stage is
-  while_copies_go half _ is = tt
+  copying_stands_still half (stages.Copying stage) is = copies_go half stage is
+  copying_stands_still half _ is = tt

@@ -8,24 +8,24 @@ use Rattle.heap_words.specs.declared.spot.Spot.{Spot}
 use Rattle.heap_model.specs.account.Sweep.{HasSwung}
 use Rattle.core_machine.specs.collector.FitsTurns.{FitsStage}
 use Rattle.core_rule.proofs.budgets.BudgetFrames.{stepped}
-use Rattle.core_rule.proofs.halves.CopiesGo.{HeadStays, while_copies_go}
-use Rattle.core_rule.proofs.halves.HalvesFrames.{each_seat, if_some, InItsHalf}
-use Rattle.core_rule.proofs.halves.HalvesMoves.{copy_left}
+use Rattle.core_rule.proofs.halves.CopiesGo.{HeadStays, copying_stands_still}
+use Rattle.core_rule.proofs.halves.HalvesFrames.{holds_of_each_seat, if_some_of_each, InItsHalf}
+use Rattle.core_rule.proofs.halves.HalvesMoves.{copy_in_hand_where_left}
 use Rattle.core_rule.proofs.spines.OtherWords.{LeavesPlaces}
-use Rattle.core_rule.proofs.spines.SpineBirths.{born_words, born_leaves, open_was}
-use Rattle.core_rule.proofs.steps.collector.{turn_kind}
+use Rattle.core_rule.proofs.spines.SpineBirths.{born_words, spines_left_after_birth, open_was_open}
+use Rattle.core_rule.proofs.steps.collector.{turn_kind_of_each_stage}
 use Rattle.core_rule.proofs.spines.SpineFrames.{SpinesLeft}
 
 -- a range that was claimed before the flip awaits its copy: while its seat hasn't answered the phase of copying, that hasn't begun to copy
-pub early_awaits : (heap : Heap) (phase looked answered : ℕ) (stage : Stage) → FitsStage heap phase looked stage → IsNear phase answered → (looked ≡ heap.seats → answered ≡ phase)
+pub early_claim_awaits_copy : (heap : Heap) (phase looked answered : ℕ) (stage : Stage) → FitsStage heap phase looked stage → IsNear phase answered → (looked ≡ heap.seats → answered ≡ phase)
     → IsEarlyRange phase stage answered → (f : ℕ) → AwaitsCopy phase stage f
-early_awaits heap phase looked answered stage fits near all early f = by early.leaving
+early_claim_awaits_copy heap phase looked answered stage fits near all early f = by early.leaving
   where
     behind : phase % cycle_phases ≡ copying_phase → answered ≡ phase → ⊥
     behind copies same = let third = early.behind in omega (arith, copies, same, third)
 
     in_copying : phase % cycle_phases ≡ copying_phase → AwaitsCopy phase stage f
-    in_copying copies = elim ((turn_kind stage).looked heap phase looked fits) as (λ _. AwaitsCopy phase stage f) [
+    in_copying copies = elim ((turn_kind_of_each_stage stage).looked heap phase looked fits) as (λ _. AwaitsCopy phase stage f) [
       | inl looking ↦ subst (λ s. AwaitsCopy phase s f) (sym looking) copies
       | inr seen ↦ absurd (behind copies (all seen))
     ]
@@ -91,23 +91,23 @@ module _ (heap : Heap) (state : State) (book now : Book) (number : ℕ) (words :
   ]
 
   born_others : SpinesLeft heap.seats book.spine_owner (born_words number n book.spine_owner)
-  born_others = born_leaves number n book.spine_owner heap.seats (λ e. omega (arith, e, here))
+  born_others = spines_left_after_birth number n book.spine_owner heap.seats (λ e. omega (arith, e, here))
 
   -- so spines stand in their halves then
-  pub halves_born : HalvesStand heap (stepped state number words after) now
-  halves_born = record {
+  pub halves_stand_after_birth : HalvesStand heap (stepped state number words after) now
+  halves_stand_after_birth = record {
     half = rw leaves.spot old.half;
-    before = rw leaves.spot (λ half offset some. old.before half offset (λ nobodys. some (born.owners half offset ∙ open_was number n (book.spine_owner half offset) nobodys)));
+    before = rw leaves.spot (λ half offset some. old.before half offset (λ nobodys. some (born.owners half offset ∙ open_was_open number n (book.spine_owner half offset) nobodys)));
     arrays = rw leaves.spot array_now;
-    hands = rw leaves.spot (λ r below. each_seat (λ m s. InItsHalf heap state m s) state.seats number after (subst (λ m. number < m) (sym seated) here) (λ has. absurd (none has)) r
+    hands = rw leaves.spot (λ r below. holds_of_each_seat (λ m s. InItsHalf heap state m s) state.seats number after (subst (λ m. number < m) (sym seated) here) (λ has. absurd (none has)) r
         (λ apart. old.hands r below));
     swung = rw leaves.spot swung_now;
-    copies = rw leaves.spot (while_copies_go (nodes_in heap book) (nodes_in heap now) book.made now.made book.owner now.owner book.colour now.colour book.fragments now.fragments book.spines now.spines
+    copies = rw leaves.spot (copying_stands_still (nodes_in heap book) (nodes_in heap now) book.made now.made book.owner now.owner book.colour now.colour book.fragments now.fragments book.spines now.spines
         born.marked born.heads next.half state.collector.stage old.copies);
-    copy = copy_left heap state.words words book.spine_owner now.spine_owner state.collector.stage
+    copy = copy_in_hand_where_left heap state.words words book.spine_owner now.spine_owner state.collector.stage
         record {
           stays = λ half offset k is. born.owners half offset ∙ born_others.stays half offset k is;
           own = λ half offset k is. born_others.own half offset k (sym (born.owners half offset) ∙ is);
         }
-        (if_some (copy_in state.collector.stage) (λ copy copied j less. leaves.spines _ _ ∙ copied j less ∙ sym (leaves.spines _ _)) old.copy.copied) old.copy;
+        (if_some_of_each (copy_in state.collector.stage) (λ copy copied j less. leaves.spines _ _ ∙ copied j less ∙ sym (leaves.spines _ _)) old.copy.copied) old.copy;
   }

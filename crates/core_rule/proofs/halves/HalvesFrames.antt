@@ -10,24 +10,24 @@ use Rattle.core_rule.proofs.Terms.{IsLeftBehind, WhileCopying, half_at, IsKept, 
 use Rattle.heap_model.specs.account.Sweep.{HasSwung}
 use Rattle.heap_model.specs.PhasePlan.{copying as copying_phase}
 use Rattle.core_machine.specs.declared.collector.stage.Stage.TheVariants as stages
-use Rattle.core_rule.proofs.budgets.BudgetFrames.{stepped, SameGrants, kept_same, dead_same, here_same}
-use Rattle.core_rule.proofs.halves.CopiesGo.{HeadStays, while_copies_go}
+use Rattle.core_rule.proofs.budgets.BudgetFrames.{stepped, SameGrants, kept_words_same, dead_words_same, kept_words_in_half_same}
+use Rattle.core_rule.proofs.halves.CopiesGo.{HeadStays, copying_stands_still}
 use Rattle.core_rule.proofs.budgets.NoneMade.{SameRange}
 use Rattle.core_rule.proofs.spines.OtherWords.{LeavesPlaces, LeavesSpines}
 use Rattle.core_rule.proofs.words.Addresses.{SameSpines}
 
 -- a seat's new data leave the other seats'
-pub each_seat : (P : ℕ → Seat → Type 0) (seats : List Seat) (number : ℕ) (seat : Seat) → number < length seats → P number seat
+pub holds_of_each_seat : (P : ℕ → Seat → Type 0) (seats : List Seat) (number : ℕ) (seat : Seat) → number < length seats → P number seat
     → (r : ℕ) → (r ≢ number → P r (slice_index_or seats r absent_seat)) → P r (slice_index_or (slice_set seats number seat) r absent_seat)
-each_seat P seats number seat here self r other = elim (eqb_tells r number) as (λ _. P r (slice_index_or (slice_set seats number seat) r absent_seat)) [
+holds_of_each_seat P seats number seat here self r other = elim (eqb_tells r number) as (λ _. P r (slice_index_or (slice_set seats number seat) r absent_seat)) [
   | inl same ↦ subst (λ n. P n (slice_index_or (slice_set seats number seat) n absent_seat)) (sym same.1) (subst (P number) (sym (get_or-set_same seats number seat absent_seat here)) self)
   | inr apart ↦ subst (P r) (sym (get_or-set_other seats number r seat absent_seat apart.1)) (other apart.1)
 ]
 
 -- what is true of each value that there may be
-pub if_some : {A : Type 0} {P Q : A → Type 0} (o : Option A) → ((a : A) → P a → Q a) → IfSome o P → IfSome o Q
-if_some None f is = tt
-if_some (Some a) f is = f a is
+pub if_some_of_each : {A : Type 0} {P Q : A → Type 0} (o : Option A) → ((a : A) → P a → Q a) → IfSome o P → IfSome o Q
+if_some_of_each None f is = tt
+if_some_of_each (Some a) f is = f a is
 
 -- the seat's spine stands in the half of the next spine, or was claimed before the flip
 abbrev pub InItsHalf : Heap → State → ℕ → Seat → Type 0
@@ -65,29 +65,29 @@ module _ (heap : Heap) (book now : Book) (grants : SameGrants heap book now) whe
   pub while_copies_same : ((f : ℕ) → IsMarked book.colour f → IsMarked now.colour f) → (half : ℕ) (stage : Stage)
       → WhileCopying (CopyingStands (nodes_in heap book) book.made book.owner book.colour book.fragments book.spines half) stage
       → WhileCopying (CopyingStands (nodes_in heap now) now.made now.owner now.colour now.fragments now.spines half) stage
-  while_copies_same marked = while_copies_go (nodes_in heap book) (nodes_in heap now) book.made now.made book.owner now.owner book.colour now.colour book.fragments now.fragments book.spines now.spines marked heads_same
+  while_copies_same marked = copying_stands_still (nodes_in heap book) (nodes_in heap now) book.made now.made book.owner now.owner book.colour now.colour book.fragments now.fragments book.spines now.spines marked heads_same
 
 -- the copy in progress is right where the spine words are as before, and whose they are
-pub copy_same : (heap : Heap) (words now : List ℕ) (was later : ℕ → ℕ → SpineOwner) (stage : Stage) → SameSpines heap words now → ((half offset : ℕ) → later half offset ≡ was half offset)
+pub copy_in_hand_where_same : (heap : Heap) (words now : List ℕ) (was later : ℕ → ℕ → SpineOwner) (stage : Stage) → SameSpines heap words now → ((half offset : ℕ) → later half offset ≡ was half offset)
     → CopyInHand heap words was stage → CopyInHand heap now later stage
-copy_same heap words now was later stage same owners old = record {
-  placed = if_some (copy_in stage) (λ copy placed j less. owners _ _ ∙ placed j less) old.placed;
+copy_in_hand_where_same heap words now was later stage same owners old = record {
+  placed = if_some_of_each (copy_in stage) (λ copy placed j less. owners _ _ ∙ placed j less) old.placed;
   own = λ half offset j is. old.own half offset j (sym (owners half offset) ∙ is);
-  copied = if_some (copy_in stage) (λ copy copied j less. same _ _ ∙ copied j less ∙ sym (same _ _)) old.copied;
+  copied = if_some_of_each (copy_in stage) (λ copy copied j less. same _ _ ∙ copied j less ∙ sym (same _ _)) old.copied;
 }
 
 -- so spines stand in their halves after a seat's step
-pub halves_stay : (heap : Heap) (state : State) (book : Book) (number : ℕ) (words : List ℕ) (seat : Seat) (now : Book) → number < heap.seats → length state.seats ≡ heap.seats
+pub halves_stand_after_step : (heap : Heap) (state : State) (book : Book) (number : ℕ) (words : List ℕ) (seat : Seat) (now : Book) → number < heap.seats → length state.seats ≡ heap.seats
     → LeavesPlaces heap state.words words → SameRange (seat_at state number) seat → SameGrants heap book now → ((f : ℕ) → IsMarked book.colour f → IsMarked now.colour f)
     → HalvesStand heap state book → HalvesStand heap (stepped state number words seat) now
-halves_stay heap state book number words seat now here seated leaves range grants marked old = record {
+halves_stand_after_step heap state book number words seat now here seated leaves range grants marked old = record {
   half = rw leaves.spot old.half;
   before = rw leaves.spot (λ half offset some. old.before half offset (λ none. some (owner_same heap book now grants half offset ∙ none)));
   arrays = rw leaves.spot (λ i below is an_array.
       subst (λ f. ((now.spines i).half ≡ (next_spine heap state.words).half) ⊎ AwaitsCopy state.collector.phase state.collector.stage f) (sym (head_same heap book now grants i))
       (subst (λ (s : Spot). (s.half ≡ (next_spine heap state.words).half) ⊎ AwaitsCopy state.collector.phase state.collector.stage (fragment_at (book.fragments i) 0)) (sym (spine_same heap book now grants i))
       (old.arrays i (was_made heap book now grants i below) (was_kept heap book now grants i is) (sym (grants.shapes i).kind ∙ an_array))));
-  hands = rw leaves.spot (λ r below. each_seat (λ n s. InItsHalf heap state n s) state.seats number seat (subst (λ n. number < n) (sym seated) here)
+  hands = rw leaves.spot (λ r below. holds_of_each_seat (λ n s. InItsHalf heap state n s) state.seats number seat (subst (λ n. number < n) (sym seated) here)
       (λ has. let was = old.hands number here (range.had has) in
       subst (λ (a : ℕ). (seat.spine.half ≡ (next_spine heap state.words).half) ⊎ IsEarlyRange state.collector.phase state.collector.stage a) (sym (range.answered has))
       (subst (λ (s : Spot). (s.half ≡ (next_spine heap state.words).half) ⊎ IsEarlyRange state.collector.phase state.collector.stage (seat_at state number).answered) (sym (range.spine has)) was))
@@ -96,7 +96,7 @@ halves_stay heap state book number words seat now here seated leaves range grant
       (old.swung in_copying i (was_made heap book now grants i below) (was_kept heap book now grants i is)
       (subst (λ (made : List Id). HasSwung (id_at made i) book.history) grants.made (grants.told.swung (id_at now.made i) has))));
   copies = rw leaves.spot (while_copies_same heap book now grants marked (next_spine heap state.words).half state.collector.stage old.copies);
-  copy = copy_same heap state.words words book.spine_owner now.spine_owner state.collector.stage leaves.spines (owner_same heap book now grants) old.copy;
+  copy = copy_in_hand_where_same heap state.words words book.spine_owner now.spine_owner state.collector.stage leaves.spines (owner_same heap book now grants) old.copy;
 }
 
 -- what spines and budgets take of a turn: it leads to a stage from which the half of the next spine is told as before, and at which copying and the sweep have what they are to have
@@ -119,13 +119,13 @@ module _ (heap : Heap) (state : State) (book : Book) (words : List ℕ) (collect
   turned = record state { words = words; collector = collector }
 
   -- so the budget stands after the turn
-  pub budgets_turn : BudgetsStand heap state book → BudgetsStand heap turned now
-  budgets_turn old =
-      let kept = kept_same heap book now grants in
-      let dead = dead_same heap book now grants in
+  pub budgets_stand_after_turn : BudgetsStand heap state book → BudgetsStand heap turned now
+  budgets_stand_after_turn old =
+      let kept = kept_words_same heap book now grants in
+      let dead = dead_words_same heap book now grants in
       record {
-        level = rw leaves.spot (λ is. omega (arith, old.level (λ was. is (on.leaves was)), here_same heap book now grants (next_spine heap state.words).half, dead, on.copied, on.returns));
-        leaving = rw leaves.spot (λ is. omega (arith, old.leaving (on.left is), here_same heap book now grants (next_spine heap state.words).half, on.copied));
+        level = rw leaves.spot (λ is. omega (arith, old.level (λ was. is (on.leaves was)), kept_words_in_half_same heap book now grants (next_spine heap state.words).half, dead, on.copied, on.returns));
+        leaving = rw leaves.spot (λ is. omega (arith, old.leaving (on.left is), kept_words_in_half_same heap book now grants (next_spine heap state.words).half, on.copied));
         word = omega (arith, leaves.budget, old.word, kept, dead, on.returns);
         told = omega (arith, old.told, grants.told.granted, grants.told.returned, kept, dead, on.returns);
         low = omega (arith, old.low, kept, dead, on.returns);
@@ -135,8 +135,8 @@ module _ (heap : Heap) (state : State) (book : Book) (words : List ℕ) (collect
       }
 
   -- and so do the spines in their halves
-  pub halves_turn : HalvesStand heap state book → HalvesStand heap turned now
-  halves_turn old = record {
+  pub halves_stand_after_turn : HalvesStand heap state book → HalvesStand heap turned now
+  halves_stand_after_turn old = record {
     half = rw leaves.spot (old.half ∙ sym on.half);
     before = rw leaves.spot (λ half offset some. elim (old.before half offset (λ none. some (owner_same heap book now grants half offset ∙ none)))
         as (λ _. IsBeforeNext (next_spine heap state.words) half offset ⊎ IsLeftBehind heap (next_spine heap state.words) collector.phase collector.stage half offset) [

@@ -6,14 +6,14 @@ use Rattle.heap_model.specs.PhasePlan.{marking as marking_phase}
 use Rattle.core_machine.specs.declared.collector.stage.Stage.TheVariants as stages
 
 -- no half is left in the phase of marking before the flip
-pub not_leaving : (phase : ℕ) (stage : Stage) → phase % cycle_phases ≡ marking_phase → stage ≢ stages.Advancing → ¬ IsLeaving phase stage
-not_leaving phase stage third before (inl flipped) = before flipped.1
-not_leaving phase stage third before (inr (inl copies)) = omega (arith, third, copies)
-not_leaving phase stage third before (inr (inr sweeps)) = omega (arith, third, sweeps)
+pub marking_is_not_leaving : (phase : ℕ) (stage : Stage) → phase % cycle_phases ≡ marking_phase → stage ≢ stages.Advancing → ¬ IsLeaving phase stage
+marking_is_not_leaving phase stage third before (inl flipped) = before flipped.1
+marking_is_not_leaving phase stage third before (inr (inl copies)) = omega (arith, third, copies)
+marking_is_not_leaving phase stage third before (inr (inr sweeps)) = omega (arith, third, sweeps)
 
 -- a seat that has the place of a spine hasn't left
-pub has_place_present : (heap : Heap) (seat : Seat) → Fits heap seat → HasPlace seat seat.place → seat.left ≡ false
-has_place_present heap seat fits has = by seat.left refl
+pub placed_seat_has_not_left : (heap : Heap) (seat : Seat) → Fits heap seat → HasPlace seat seat.place → seat.left ≡ false
+placed_seat_has_not_left heap seat fits has = by seat.left refl
   where
     by : (left : Bool) → seat.left ≡ left → seat.left ≡ false
     by true gone = absurd (subst (HasPlace seat) (fits.gone gone).idle has)
@@ -21,26 +21,26 @@ has_place_present heap seat fits has = by seat.left refl
 
 module _ (heap : Heap) (words : List ℕ) (spine_owner : ℕ → ℕ → SpineOwner) (stage : Stage) (none : copy_in stage ≡ None) where
   -- where nothing is copied the collector has no spine words
-  pub none_copied : CopyInHand heap words spine_owner stage → (half offset k : ℕ) → spine_owner half offset ≢ Placed heap.seats k
-  none_copied copy half offset k is = absurd (let one = copy.own half offset k is in let progress : copy_in stage ≡ Some one.copy = one.progress in cc (none, progress))
+  pub uncopied_is_not_placed : CopyInHand heap words spine_owner stage → (half offset k : ℕ) → spine_owner half offset ≢ Placed heap.seats k
+  uncopied_is_not_placed copy half offset k is = absurd (let one = copy.own half offset k is in let progress : copy_in stage ≡ Some one.copy = one.progress in cc (none, progress))
 
   -- and that is all that is asked then
-  pub copy_away : ((half offset k : ℕ) → spine_owner half offset ≢ Placed heap.seats k) → CopyInHand heap words spine_owner stage
-  copy_away away = record { placed = rw none tt; own = λ half offset k is. absurd (away half offset k is); copied = rw none tt }
+  pub copy_in_hand_where_none : ((half offset k : ℕ) → spine_owner half offset ≢ Placed heap.seats k) → CopyInHand heap words spine_owner stage
+  copy_in_hand_where_none away = record { placed = rw none tt; own = λ half offset k is. absurd (away half offset k is); copied = rw none tt }
 
 module _ (heap : Heap) (state : State) (book : Book) (halves : HalvesStand heap state book) where
   -- where no array awaits a copy, all stand in the half of the next spine
-  pub arrays_here : ((f : ℕ) → ¬ AwaitsCopy state.collector.phase state.collector.stage f) → (i : ℕ) → i < length book.made → IsKept book.owner book.fragments i
+  pub arrays_in_next_spine_half : ((f : ℕ) → ¬ AwaitsCopy state.collector.phase state.collector.stage f) → (i : ℕ) → i < length book.made → IsKept book.owner book.fragments i
       → (nodes_in heap book i).array ≡ true → (book.spines i).half ≡ (next_spine heap state.words).half
-  arrays_here never i below kept kind = elim (halves.arrays i below kept kind) as (λ _. (book.spines i).half ≡ (next_spine heap state.words).half) [
+  arrays_in_next_spine_half never i below kept kind = elim (halves.arrays i below kept kind) as (λ _. (book.spines i).half ≡ (next_spine heap state.words).half) [
     | inl here ↦ here
     | inr waits ↦ absurd (never (fragment_at (book.fragments i) 0) waits)
   ]
 
   -- and so does the spine of a seat that claimed it since the flip, or while no half is left
-  pub hands_here : (r : ℕ) → r < heap.seats → ¬ IsEarlyRange state.collector.phase state.collector.stage (seat_at state r).answered → HasPlace (seat_at state r) (seat_at state r).place
+  pub seat_spine_in_next_half : (r : ℕ) → r < heap.seats → ¬ IsEarlyRange state.collector.phase state.collector.stage (seat_at state r).answered → HasPlace (seat_at state r) (seat_at state r).place
       → (seat_at state r).spine.half ≡ (next_spine heap state.words).half
-  hands_here r below late has = elim (halves.hands r below has) as (λ _. (seat_at state r).spine.half ≡ (next_spine heap state.words).half) [
+  seat_spine_in_next_half r below late has = elim (halves.hands r below has) as (λ _. (seat_at state r).spine.half ≡ (next_spine heap state.words).half) [
     | inl here ↦ here
     | inr early ↦ absurd (late early)
   ]

@@ -10,12 +10,12 @@ use Rattle.heap_words.specs.declared.spot.Spot.{Spot}
 use Rattle.heap_model.specs.account.Sweep.{HasSwung}
 use Rattle.heap_model.proofs.account_lemmas.Windows.{after_last-no, after_last-yes}
 use Rattle.core_machine.specs.declared.collector.stage.Stage.TheVariants as stages
-use Rattle.core_machine.proofs.table_lemmas.Free.{sum_zero}
-use Rattle.core_rule.proofs.budgets.BudgetFrames.{none_granted_by, none_returned_by}
-use Rattle.core_rule.proofs.halves.Leaving.{none_copied, copy_away}
-use Rattle.core_rule.proofs.halves.LeftHalf.{let_go, some_here}
+use Rattle.core_machine.proofs.table_lemmas.Free.{sum_of_nothing_is_zero}
+use Rattle.core_rule.proofs.budgets.BudgetFrames.{granted_words_stay, returned_words_stay}
+use Rattle.core_rule.proofs.halves.Leaving.{uncopied_is_not_placed, copy_in_hand_where_none}
+use Rattle.core_rule.proofs.halves.LeftHalf.{let_go, owned_is_here_and_stays}
 use Rattle.core_rule.proofs.spines.OtherWords.{LeavesSpines}
-use Rattle.core_rule.proofs.halves.StagesOn.{IsIdle, idle_quiet, quiet_returns, quiet_copied, quiet_copy}
+use Rattle.core_rule.proofs.halves.StagesOn.{IsIdle, idle_is_quiet, quiet_returns_none, quiet_copies_none, quiet_has_no_copy}
 use Rattle.core_rule.proofs.steps.TurnSteps.{after_turn}
 
 -- the phase ends at this stage: nothing is copied or returned, and behind the flip alone arrays await their copies
@@ -74,7 +74,7 @@ module _ (history : List Entry) (phase : ℕ) (entry : Entry) (begins : BeginsAt
       by true is = let none = anew_returned is in omega (arith, none)
       by false is =
           let same = ap words_returned (after_last-no begins_cycle history entry is) in
-          let none = none_returned_by (since_cycle history) entry begins.returned in
+          let none = returned_words_stay (since_cycle history) entry begins.returned in
           omega (arith, same, none)
 
 module _ (heap : Heap) (state : State) (book : Book) (rule : Rule heap state book) (ends : EndsPhase state.collector.phase state.collector.stage) (entry : Entry) (begins : BeginsAt state.collector.phase entry)
@@ -105,7 +105,7 @@ module _ (heap : Heap) (state : State) (book : Book) (rule : Rule heap state boo
 
   -- at the end of the sweep's phase nothing is to be returned any more
   none_dead : p % cycle_phases ≡ sweep_phase → dead_sum heap (words_of_object (nodes_in heap book)) book.owner ≡ 0
-  none_dead swept = sum_zero (16 * heap.groups) (λ f. dead_weight (words_of_object (nodes_in heap book)) (book.owner f)) (λ f below. undead (book.owner f) (alive swept f))
+  none_dead swept = sum_of_nothing_is_zero (16 * heap.groups) (λ f. dead_weight (words_of_object (nodes_in heap book)) (book.owner f)) (λ f below. undead (book.owner f) (alive swept f))
     where
       undead : (o : Owner) → ((i k : ℕ) → o ≢ Dead i k) → dead_weight (words_of_object (nodes_in heap book)) o ≡ 0
       undead (Dead i k) never = absurd (never i k refl)
@@ -114,11 +114,11 @@ module _ (heap : Heap) (state : State) (book : Book) (rule : Rule heap state boo
   budgets_next : BudgetsStand heap begun now
   budgets_next =
       let old = rule.space.budgets in
-      let granted = none_granted_by book.history entry begins.granted in
-      let returned = none_returned_by book.history entry begins.returned in
+      let granted = granted_words_stay book.history entry begins.granted in
+      let returned = returned_words_stay book.history entry begins.returned in
       let in_cycle = less_returned book.history p entry begins in
-      let none = quiet_returns state.collector.stage (idle_quiet state.collector.stage ends.idle) in
-      let copied = quiet_copied state.collector.stage (idle_quiet state.collector.stage ends.idle) in
+      let none = quiet_returns_none state.collector.stage (idle_is_quiet state.collector.stage ends.idle) in
+      let copied = quiet_copies_none state.collector.stage (idle_is_quiet state.collector.stage ends.idle) in
       record {
         level = rw leaves.spot (λ unleft. elim (eqb_tells (p % cycle_phases) sweep_phase) as (λ _. next.offset ≡ placed_words heap begun now next.half + unreturned heap begun now) [
           | inl swept ↦ omega (arith, old.leaving (inr (inr swept.1)), here next.half, dead, none_dead swept.1, copied)
@@ -179,22 +179,22 @@ module _ (heap : Heap) (state : State) (book : Book) (rule : Rule heap state boo
         hands = rw leaves.spot hands_next;
         swung = λ copies i below is has. absurd (none_swung book.history p entry begins (id_at book.made i) has);
         copies = tt;
-        copy = copy_away heap words spine_owner stages.Looking refl (λ half offset k placed.
-            none_copied heap state.words book.spine_owner state.collector.stage (quiet_copy state.collector.stage (idle_quiet state.collector.stage ends.idle)) old.copy half offset k
+        copy = copy_in_hand_where_none heap words spine_owner stages.Looking refl (λ half offset k placed.
+            uncopied_is_not_placed heap state.words book.spine_owner state.collector.stage (quiet_has_no_copy state.collector.stage (idle_is_quiet state.collector.stage ends.idle)) old.copy half offset k
             (sym (lets.stays half offset (λ none. absurd (cc (placed, none)))) ∙ placed));
       }
 
   -- so it stands in the next phase
-  pub space_next : SpaceStands heap begun now
-  space_next = record { budgets = budgets_next; halves = halves_next }
+  pub space_stands_next_phase : SpaceStands heap begun now
+  space_stands_next_phase = record { budgets = budgets_next; halves = halves_next }
 
 -- where each word stays whose it was, in any phase but that of the sweep
-pub lets_none : (here phase : ℕ) (spine_owner : ℕ → ℕ → SpineOwner) → phase % cycle_phases ≢ sweep_phase → LetsGo here phase spine_owner spine_owner
-lets_none here phase spine_owner other = record { stays = λ half offset some. refl; stands = λ swept. absurd (other swept) }
+pub lets_go_of_none : (here phase : ℕ) (spine_owner : ℕ → ℕ → SpineOwner) → phase % cycle_phases ≢ sweep_phase → LetsGo here phase spine_owner spine_owner
+lets_go_of_none here phase spine_owner other = record { stays = λ half offset some. refl; stands = λ swept. absurd (other swept) }
 
 -- where the half that was left is let go
-pub lets_other : (here phase : ℕ) (spine_owner : ℕ → ℕ → SpineOwner) → LetsGo here phase spine_owner (let_go here spine_owner)
-lets_other here phase spine_owner = record {
-  stays = λ half offset some. (some_here here spine_owner half offset some).1;
-  stands = λ swept half offset some. (some_here here spine_owner half offset some).0;
+pub lets_go_of_left_half : (here phase : ℕ) (spine_owner : ℕ → ℕ → SpineOwner) → LetsGo here phase spine_owner (let_go here spine_owner)
+lets_go_of_left_half here phase spine_owner = record {
+  stays = λ half offset some. (owned_is_here_and_stays here spine_owner half offset some).1;
+  stands = λ swept half offset some. (owned_is_here_and_stays here spine_owner half offset some).0;
 }

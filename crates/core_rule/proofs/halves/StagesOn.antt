@@ -7,14 +7,14 @@ use Rattle.heap_model.specs.PhasePlan.{marking as marking_phase, copying as copy
 use Rattle.core_machine.specs.declared.collector.stage.Copying.{Copying}
 use Rattle.core_machine.specs.declared.collector.stage.Copying.TheVariants as copying
 use Rattle.core_machine.specs.declared.collector.stage.Stage.TheVariants as stages
-use Rattle.core_rule.proofs.halves.HalvesFrames.{StageGoesOn, IsPlain, copy_same}
+use Rattle.core_rule.proofs.halves.HalvesFrames.{StageGoesOn, IsPlain, copy_in_hand_where_same}
 use Rattle.core_rule.proofs.words.Addresses.{SameSpines}
 
 -- the copy in progress is right at another stage that has the same one, where the spine words are as before
-pub copy_moves : (heap : Heap) (words now : List ℕ) (spine_owner : ℕ → ℕ → SpineOwner) (from to : Stage) → SameSpines heap words now → copy_in to ≡ copy_in from
+pub copy_in_hand_at_stage : (heap : Heap) (words now : List ℕ) (spine_owner : ℕ → ℕ → SpineOwner) (from to : Stage) → SameSpines heap words now → copy_in to ≡ copy_in from
     → CopyInHand heap words spine_owner from → CopyInHand heap now spine_owner to
-copy_moves heap words now spine_owner from to same copy old =
-    let still = copy_same heap words now spine_owner spine_owner from same (λ half offset. refl) old in
+copy_in_hand_at_stage heap words now spine_owner from to same copy old =
+    let still = copy_in_hand_where_same heap words now spine_owner spine_owner from same (λ half offset. refl) old in
     record {
       placed = rw copy still.placed;
       own = λ half offset j is. let one = still.own half offset j is in record { copy = one.copy; progress = copy ∙ one.progress; within = one.within; is = one.is };
@@ -73,19 +73,19 @@ IsQuiet (stages.Copying stage) = ⊥
 IsQuiet (stages.Returning group counted) = ⊥
 IsQuiet _ = Unit {0}
 
-pub quiet_returns : (stage : Stage) → IsQuiet stage → returning stage ≡ 0
-quiet_returns (stages.Returning group counted) still = absurd still
-quiet_returns _ still = refl
+pub quiet_returns_none : (stage : Stage) → IsQuiet stage → returning stage ≡ 0
+quiet_returns_none (stages.Returning group counted) still = absurd still
+quiet_returns_none _ still = refl
 
-pub quiet_copied : (stage : Stage) → IsQuiet stage → copying_words stage ≡ 0
-quiet_copied (stages.Copying (copying.Visiting group)) still = refl
-quiet_copied (stages.Copying stage) still = absurd still
-quiet_copied _ still = refl
+pub quiet_copies_none : (stage : Stage) → IsQuiet stage → copying_words stage ≡ 0
+quiet_copies_none (stages.Copying (copying.Visiting group)) still = refl
+quiet_copies_none (stages.Copying stage) still = absurd still
+quiet_copies_none _ still = refl
 
-pub quiet_copy : (stage : Stage) → IsQuiet stage → copy_in stage ≡ None
-quiet_copy (stages.Copying (copying.Visiting group)) still = refl
-quiet_copy (stages.Copying stage) still = absurd still
-quiet_copy _ still = refl
+pub quiet_has_no_copy : (stage : Stage) → IsQuiet stage → copy_in stage ≡ None
+quiet_has_no_copy (stages.Copying (copying.Visiting group)) still = refl
+quiet_has_no_copy (stages.Copying stage) still = absurd still
+quiet_has_no_copy _ still = refl
 
 pub quiet_copies : (P : Copying → Type 0) → ((group : ℕ) → P (copying.Visiting group)) → (stage : Stage) → IsQuiet stage → WhileCopying P stage
 quiet_copies P visiting (stages.Copying (copying.Visiting group)) still = visiting group
@@ -93,13 +93,13 @@ quiet_copies P visiting (stages.Copying stage) still = absurd still
 quiet_copies P visiting _ still = tt
 
 -- so a turn from one such stage to another goes on, where what awaits a copy does, and the sweep has counted
-pub quiet_goes_on : (heap : Heap) (words later : List ℕ) (now : Book) (was is : Collector) → is.phase ≡ was.phase → IsBeforeFlip was.phase was.stage is.stage → IsQuiet was.stage → IsQuiet is.stage
+pub quiet_stage_goes_on : (heap : Heap) (words later : List ℕ) (now : Book) (was is : Collector) → is.phase ≡ was.phase → IsBeforeFlip was.phase was.stage is.stage → IsQuiet was.stage → IsQuiet is.stage
     → ((f : ℕ) → AwaitsCopy was.phase was.stage f → AwaitsCopy was.phase is.stage f) → SweepCounts (words_of_object (nodes_in heap now)) now.owner is.stage
     → SameSpines heap words later → CopyInHand heap words now.spine_owner was.stage → StageGoesOn heap later now was is
-quiet_goes_on heap words later now was is phase flip before after awaits counts same copy =
-    goes_within heap later now was is phase flip awaits (quiet_returns is.stage after ∙ sym (quiet_returns was.stage before)) (quiet_copied is.stage after ∙ sym (quiet_copied was.stage before)) counts
+quiet_stage_goes_on heap words later now was is phase flip before after awaits counts same copy =
+    goes_within heap later now was is phase flip awaits (quiet_returns_none is.stage after ∙ sym (quiet_returns_none was.stage before)) (quiet_copies_none is.stage after ∙ sym (quiet_copies_none was.stage before)) counts
     (quiet_copies (CopyingStands (nodes_in heap now) now.made now.owner now.colour now.fragments now.spines (next_spine heap later).half) (λ group. tt) is.stage after)
-    (copy_moves heap words later now.spine_owner was.stage is.stage same (quiet_copy is.stage after ∙ sym (quiet_copy was.stage before)) copy)
+    (copy_in_hand_at_stage heap words later now.spine_owner was.stage is.stage same (quiet_has_no_copy is.stage after ∙ sym (quiet_has_no_copy was.stage before)) copy)
 
 -- and nothing is counted
 abbrev pub IsIdle : Stage → Type 0
@@ -107,20 +107,20 @@ IsIdle (stages.Examining group dead place counted) = ⊥
 IsIdle (stages.Freeing group dead counted) = ⊥
 IsIdle stage = IsQuiet stage
 
-pub idle_quiet : (stage : Stage) → IsIdle stage → IsQuiet stage
-idle_quiet (stages.Examining group dead place counted) idle = absurd idle
-idle_quiet (stages.Freeing group dead counted) idle = absurd idle
-idle_quiet _ idle = idle
+pub idle_is_quiet : (stage : Stage) → IsIdle stage → IsQuiet stage
+idle_is_quiet (stages.Examining group dead place counted) idle = absurd idle
+idle_is_quiet (stages.Freeing group dead counted) idle = absurd idle
+idle_is_quiet _ idle = idle
 
 idle_counts : (words : ℕ → ℕ) (owner : ℕ → Owner) (stage : Stage) → IsIdle stage → SweepCounts words owner stage
 idle_counts words owner (stages.Examining group dead place counted) idle = absurd idle
 idle_counts words owner (stages.Freeing group dead counted) idle = absurd idle
 idle_counts words owner _ idle = tt
 
-pub idle_goes_on : (heap : Heap) (words later : List ℕ) (now : Book) (was is : Collector) → is.phase ≡ was.phase → IsBeforeFlip was.phase was.stage is.stage → IsIdle was.stage → IsIdle is.stage
+pub idle_stage_goes_on : (heap : Heap) (words later : List ℕ) (now : Book) (was is : Collector) → is.phase ≡ was.phase → IsBeforeFlip was.phase was.stage is.stage → IsIdle was.stage → IsIdle is.stage
     → ((f : ℕ) → AwaitsCopy was.phase was.stage f → AwaitsCopy was.phase is.stage f) → SameSpines heap words later → CopyInHand heap words now.spine_owner was.stage → StageGoesOn heap later now was is
-idle_goes_on heap words later now was is phase flip before after awaits =
-    quiet_goes_on heap words later now was is phase flip (idle_quiet was.stage before) (idle_quiet is.stage after) awaits (idle_counts (words_of_object (nodes_in heap now)) now.owner is.stage after)
+idle_stage_goes_on heap words later now was is phase flip before after awaits =
+    quiet_stage_goes_on heap words later now was is phase flip (idle_is_quiet was.stage before) (idle_is_quiet is.stage after) awaits (idle_counts (words_of_object (nodes_in heap now)) now.owner is.stage after)
 
 -- at a plain stage nothing is, and nothing awaits a copy
 plain_idle : (stage : Stage) → IsPlain stage → IsIdle stage
@@ -141,8 +141,8 @@ plain_awaits phase (stages.Copying stage) f plain waits = plain
 plain_awaits phase _ f plain waits = waits
 
 -- so a turn from one plain stage to another goes on
-pub plain_goes_on : (heap : Heap) (words later : List ℕ) (now : Book) (was is : Collector) → is.phase ≡ was.phase → IsPlain was.stage → IsPlain is.stage
+pub plain_stage_goes_on : (heap : Heap) (words later : List ℕ) (now : Book) (was is : Collector) → is.phase ≡ was.phase → IsPlain was.stage → IsPlain is.stage
     → SameSpines heap words later → CopyInHand heap words now.spine_owner was.stage → StageGoesOn heap later now was is
-plain_goes_on heap words later now was is phase before after =
-    idle_goes_on heap words later now was is phase record { from_before = λ third. plain_before was.stage before; to_before = λ third. plain_before is.stage after }
+plain_stage_goes_on heap words later now was is phase before after =
+    idle_stage_goes_on heap words later now was is phase record { from_before = λ third. plain_before was.stage before; to_before = λ third. plain_before is.stage after }
     (plain_idle was.stage before) (plain_idle is.stage after) (λ f waits. absurd (plain_awaits was.phase was.stage f before waits))

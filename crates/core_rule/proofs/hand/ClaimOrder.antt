@@ -10,8 +10,8 @@ use Rattle.core_rule.proofs.Terms.{Heap, AreFragments, in_group, out_of_group, p
 use Rattle.core_rule.proofs.Terms.{gather_next, Seat, need}
 use Rattle.core_machine.proofs.seat_lemmas.Fitting.{goes_on_cases}
 use Rattle.core_rule.specs.hand.Together.{claim_rank, InClaims, IsInOrder, AreTogether}
-use Rattle.core_rule.proofs.hand.EmptyHand.{nothing_together}
-use Rattle.core_rule.proofs.lists.OrderedLists.{pairs_front, pairs_append, pairs_zero, pairs_all, group_last}
+use Rattle.core_rule.proofs.hand.EmptyHand.{together_where_empty}
+use Rattle.core_rule.proofs.lists.OrderedLists.{pairs_of_front, pairs_of_append, pairs_by_zero_reads, pairs_of_any, group_part_stands_last}
 
 -- a group at the start or behind it
 claim_behind : (n s a : ℕ) → s ≤ a → a < n → (a + n - s) % n ≡ a - s
@@ -55,14 +55,14 @@ module _ (heap : Heap) where
         (λ f here. ap (λ g. (g + heap.groups - cursor) % heap.groups) here ∙ claim_ahead heap.groups cursor tried within few) fs of_group
 
     -- the fragments of the group that is claimed next come behind those that were claimed
-    pub together_claims : AreTogether heap cursor tried hand [] → AreTogether heap cursor (tried + 1) (hand ++ fs) []
-    together_claims together =
+    pub together_after_claim : AreTogether heap cursor tried hand [] → AreTogether heap cursor (tried + 1) (hand ++ fs) []
+    together_after_claim together =
         let old = together.gathered refl in
         record {
           gathered = λ e. (
-            pairs_append (λ f h. claim_rank heap cursor f ≤ claim_rank heap cursor h) (λ f. claim_rank heap cursor f < tried) (λ f. claim_rank heap cursor f ≡ tried)
+            pairs_of_append (λ f h. claim_rank heap cursor f ≤ claim_rank heap cursor h) (λ f. claim_rank heap cursor f < tried) (λ f. claim_rank heap cursor f ≡ tried)
                 (λ f h before now. omega (arith, before, now)) hand fs old.1 claimed_next old.0
-                (pairs_all (λ f h. claim_rank heap cursor f ≤ claim_rank heap cursor h) (λ f. claim_rank heap cursor f ≡ tried) (λ f h one two. omega (arith, one, two)) fs claimed_next),
+                (pairs_of_any (λ f h. claim_rank heap cursor f ≤ claim_rank heap cursor h) (λ f. claim_rank heap cursor f ≡ tried) (λ f h one two. omega (arith, one, two)) fs claimed_next),
             All-append (λ f. claim_rank heap cursor f < tried + 1) hand fs
                 (All-weaker (λ f. claim_rank heap cursor f < tried) (λ f. claim_rank heap cursor f < tried + 1) (λ f less. omega (arith, less)) hand old.1)
                 (All-weaker (λ f. claim_rank heap cursor f ≡ tried) (λ f. claim_rank heap cursor f < tried + 1) (λ f same. omega (arith, same)) fs claimed_next),
@@ -78,33 +78,33 @@ module _ (heap : Heap) where
       let first : All (λ f. claim_rank heap cursor f ≡ 0) reserve
       = All-weaker (λ f. f / 16 ≡ cursor) (λ f. claim_rank heap cursor f ≡ 0)
       (λ f here. ap (λ g. (g + heap.groups - cursor) % heap.groups) here ∙ claim_behind heap.groups cursor cursor (omega arith) within ∙ omega arith) reserve of_cursor in
-      pairs_append (λ f h. claim_rank heap cursor f ≤ claim_rank heap cursor h) (λ f. claim_rank heap cursor f ≡ 0) (λ f. claim_rank heap cursor f < tried)
+      pairs_of_append (λ f h. claim_rank heap cursor f ≤ claim_rank heap cursor h) (λ f. claim_rank heap cursor f ≡ 0) (λ f. claim_rank heap cursor f < tried)
       (λ f h none some. omega (arith, none)) reserve hand first old.1
-      (pairs_all (λ f h. claim_rank heap cursor f ≤ claim_rank heap cursor h) (λ f. claim_rank heap cursor f ≡ 0) (λ f h one two. omega (arith, one, two)) reserve first) old.0
+      (pairs_of_any (λ f h. claim_rank heap cursor f ≤ claim_rank heap cursor h) (λ f. claim_rank heap cursor f ≡ 0) (λ f h one two. omega (arith, one, two)) reserve first) old.0
 
   -- a body that is all in the hand, of fragments in order
   whole_together : (start cursor tried : ℕ) (body : List ℕ) → start < heap.groups → InClaims heap start body → AreTogether heap cursor tried body body
   whole_together start cursor tried body below ordered = record {
-    gathered = λ none. (nothing_together heap cursor tried body body none none).gathered none;
+    gathered = λ none. (together_where_empty heap cursor tried body body none none).gathered none;
     chosen = λ some. record { start = start; below = below; ordered = ordered; born = []; front = sym (append-nil body) };
   }
 
   -- the first of them are the object's
-  pub together_goes_on : (seat : Seat) → seat.body ≡ [] → seat.cursor < heap.groups → All (λ f. f / 16 ≡ seat.cursor) seat.reserve
+  pub together_after_going_on : (seat : Seat) → seat.body ≡ [] → seat.cursor < heap.groups → All (λ f. f / 16 ≡ seat.cursor) seat.reserve
       → AreTogether heap seat.cursor seat.tried seat.hand seat.body
       → AreTogether heap (gather_next heap seat).cursor (gather_next heap seat).tried (gather_next heap seat).hand (gather_next heap seat).body
-  together_goes_on seat none within of_cursor together =
+  together_after_going_on seat none within of_cursor together =
       goes_on_cases (λ s. AreTogether heap s.cursor s.tried s.hand s.body) heap seat
       (λ enough. whole_together seat.cursor (last_claimed heap seat) 0 (take (need seat) (fragments_gathered seat)) within
-      (pairs_front (λ f h. claim_rank heap seat.cursor f ≤ claim_rank heap seat.cursor h) (take (need seat) (fragments_gathered seat)) (drop (need seat) (fragments_gathered seat))
+      (pairs_of_front (λ f h. claim_rank heap seat.cursor f ≤ claim_rank heap seat.cursor h) (take (need seat) (fragments_gathered seat)) (drop (need seat) (fragments_gathered seat))
       (rw (take-append-drop (need seat) (fragments_gathered seat))
       (reserve_first seat.cursor seat.tried seat.reserve seat.hand within of_cursor (subst (λ b. AreTogether heap seat.cursor seat.tried seat.hand b) none together)))))
       (λ few left. together)
       (λ few tried. together)
 
   -- those that aren't given back stay in order
-  pub together_gives : (cursor tried g : ℕ) (hand body : List ℕ) → body ≡ [] → AreTogether heap cursor tried hand body → AreTogether heap cursor tried (part_out g hand) body
-  together_gives cursor tried g hand body none together = record {
+  pub together_after_giving : (cursor tried g : ℕ) (hand body : List ℕ) → body ≡ [] → AreTogether heap cursor tried hand body → AreTogether heap cursor tried (part_out g hand) body
+  together_after_giving cursor tried g hand body none together = record {
     gathered = λ e. (
       AllPairs-filter (λ f h. claim_rank heap cursor f ≤ claim_rank heap cursor h) (out_of_group g) hand (together.gathered e).0,
       All-filter (out_of_group g) (λ f. claim_rank heap cursor f < tried) hand (together.gathered e).1,
@@ -115,7 +115,7 @@ module _ (heap : Heap) where
   module _ (start : ℕ) (hand : List ℕ) (below : start < heap.groups) (within : AreFragments heap hand) (ordered : InClaims heap start hand) where
     -- what comes behind a fragment of the last one's group is of that group too
     behind_last : AllPairs (λ f h. f / 16 ≡ last_group_of hand → h / 16 ≡ last_group_of hand) hand
-    behind_last = pairs_zero (λ f h. f / 16 ≡ last_group_of hand → h / 16 ≡ last_group_of hand) hand
+    behind_last = pairs_by_zero_reads (λ f h. f / 16 ≡ last_group_of hand → h / 16 ≡ last_group_of hand) hand
         (λ i j less here is. let last : ℕ = length hand - 1 in
         let first : claim_rank heap start (get_or hand i 0) ≤ claim_rank heap start (get_or hand j 0) = ordered i j 0 less here in
         let group : (k : ℕ) → k < length hand → get_or hand k 0 / 16 < heap.groups = λ k there. let inside : get_or hand k 0 < 16 * heap.groups = within k 0 there in omega (arith, inside) in
@@ -128,7 +128,7 @@ module _ (heap : Heap) where
 
     -- so the fragments of the last group are the last ones
     last_parted : part_out (last_group_of hand) hand ++ part_in (last_group_of hand) hand ≡ hand
-    last_parted = group_last (last_group_of hand) hand behind_last
+    last_parted = group_part_stands_last (last_group_of hand) hand behind_last
 
     -- as many as stand behind the others
     run_length : length hand - last_run hand ≡ length (part_out (last_group_of hand) hand)
@@ -157,14 +157,14 @@ module _ (heap : Heap) where
     in_order = together.chosen (λ none. let empty : length body ≡ 0 = ap length none in omega (arith, some, empty))
 
     in_claims : InClaims heap in_order.start hand
-    in_claims = pairs_front (λ f h. claim_rank heap in_order.start f ≤ claim_rank heap in_order.start h) hand in_order.born (subst (InClaims heap in_order.start) in_order.front in_order.ordered)
+    in_claims = pairs_of_front (λ f h. claim_rank heap in_order.start f ≤ claim_rank heap in_order.start h) hand in_order.born (subst (InClaims heap in_order.start) in_order.front in_order.ordered)
 
     -- the last run of the hand is what it has of its last group
-    pub last_run_is : run_of hand ≡ part_in (last_group_of hand) hand
-    last_run_is = run_is in_order.start hand in_order.below within in_claims
+    pub last_run_is_last_group : run_of hand ≡ part_in (last_group_of hand) hand
+    last_run_is_last_group = run_is in_order.start hand in_order.below within in_claims
 
-    pub before_last_is : before_run hand ≡ part_out (last_group_of hand) hand
-    before_last_is = before_is in_order.start hand in_order.below within in_claims
+    pub before_run_is_other_groups : before_run hand ≡ part_out (last_group_of hand) hand
+    before_run_is_other_groups = before_is in_order.start hand in_order.below within in_claims
 
     -- the others are the first of the body, which stays in order
     pub born_in_order : IsInOrder heap (part_out (last_group_of hand) hand) body
@@ -178,8 +178,8 @@ module _ (heap : Heap) where
           front = in_order.front ∙ ap (λ xs. xs ++ in_order.born) (sym parts) ∙ append_assoc (part_out (last_group_of hand) hand) (part_in (last_group_of hand) hand) in_order.born;
         }
 
-    pub together_bears : AreTogether heap cursor tried (part_out (last_group_of hand) hand) body
-    together_bears = record {
+    pub together_after_birth : AreTogether heap cursor tried (part_out (last_group_of hand) hand) body
+    together_after_birth = record {
       gathered = λ none. let empty : length body ≡ 0 = ap length none in absurd (omega (arith, some, empty));
       chosen = λ e. born_in_order;
     }

@@ -9,12 +9,12 @@ use Rattle.heap_model.specs.declared.command.Command.TheVariants as commands
 use Rattle.core_machine.specs.declared.place.Making.{Making}
 use Rattle.core_machine.specs.declared.place.Place.TheVariants as places
 use Rattle.core_machine.proofs.seat_lemmas.Fitting.{goes_on_cases, returning_cases, settled_cases}
-use Rattle.core_rule.proofs.spines.NoPlaces.{away_range}
+use Rattle.core_rule.proofs.spines.NoPlaces.{same_range_away}
 use Rattle.core_rule.proofs.budgets.NoneMade.{SameWeights}
-use Rattle.core_rule.proofs.entries.Begins.{SameData, same_data}
-use Rattle.core_rule.proofs.hand.Bodies.{whole_same}
-use Rattle.core_rule.proofs.gather.GatherMoves.{nothing_tried}
-use Rattle.core_rule.proofs.lists.Tallies.{tally-append, tally_parts}
+use Rattle.core_rule.proofs.entries.Begins.{SameData, begun_has_same_data}
+use Rattle.core_rule.proofs.hand.Bodies.{in_hand_of_same}
+use Rattle.core_rule.proofs.gather.GatherMoves.{gathers_right_untried}
+use Rattle.core_rule.proofs.lists.Tallies.{tally-append, tally_of_taken_and_dropped}
 
 -- what was gathered is the seat's, however it is parted into hand and reserve
 pub holding_goes_on : (heap : Heap) (owner : ℕ → Owner) (number : ℕ) (seat : Seat) → seat.body ≡ [] → Holding owner number seat.reserve seat.hand seat.body
@@ -22,8 +22,8 @@ pub holding_goes_on : (heap : Heap) (owner : ℕ → Owner) (number : ℕ) (seat
 holding_goes_on heap owner number seat none holding =
     goes_on_cases (λ s. Holding owner number s.reserve s.hand s.body) heap seat
     (λ enough. record {
-      held = λ f. omega (arith, holding.held f, tally_parts f (need seat) (fragments_gathered seat), tally-append f seat.reserve seat.hand);
-      borne = λ f. rw (whole_same (take (need seat) (fragments_gathered seat))) (omega (arith, unborn f));
+      held = λ f. omega (arith, holding.held f, tally_of_taken_and_dropped f (need seat) (fragments_gathered seat), tally-append f seat.reserve seat.hand);
+      borne = λ f. rw (in_hand_of_same (take (need seat) (fragments_gathered seat))) (omega (arith, unborn f));
     })
     (λ few left. holding)
     (λ few tried. holding)
@@ -32,11 +32,11 @@ holding_goes_on heap owner number seat none holding =
     unborn f = let e : tally f (fragments_in_hand seat.hand seat.body) ≡ tally f seat.hand = rw none refl in omega (arith, e, holding.borne f)
 
 -- it is as many fragments
-pub length_goes_on : (heap : Heap) (seat : Seat) → seat.body ≡ []
+pub held_length_goes_on : (heap : Heap) (seat : Seat) → seat.body ≡ []
     → length (gather_next heap seat).reserve + length (fragments_in_hand (gather_next heap seat).hand (gather_next heap seat).body) ≡ length seat.reserve + length (fragments_in_hand seat.hand seat.body)
-length_goes_on heap seat none =
+held_length_goes_on heap seat none =
     goes_on_cases (λ s. length s.reserve + length (fragments_in_hand s.hand s.body) ≡ length seat.reserve + length (fragments_in_hand seat.hand seat.body)) heap seat
-    (λ enough. rw (whole_same (take (need seat) (fragments_gathered seat)), none)
+    (λ enough. rw (in_hand_of_same (take (need seat) (fragments_gathered seat)), none)
     (omega (arith, length_parts (need seat) (fragments_gathered seat), length-append seat.reserve seat.hand)))
     (λ few left. refl)
     (λ few tried. refl)
@@ -45,12 +45,12 @@ length_goes_on heap seat none =
     length_parts n xs = sym (length-append (take n xs) (drop n xs)) ∙ ap length (take-append-drop n xs)
 
 -- what a gather knows stays, where it gave nothing back
-pub gathers_goes_on : (heap : Heap) (owner : ℕ → Owner) (number : ℕ) (since : List Entry) (seat : Seat) → seat.given ≡ 0
+pub gathers_right_goes_on : (heap : Heap) (owner : ℕ → Owner) (number : ℕ) (since : List Entry) (seat : Seat) → seat.given ≡ 0
     → GathersRight heap owner number since seat.cursor seat.tried seat.given
     → GathersRight heap owner number since (gather_next heap seat).cursor (gather_next heap seat).tried (gather_next heap seat).given
-gathers_goes_on heap owner number since seat none gathers =
+gathers_right_goes_on heap owner number since seat none gathers =
     goes_on_cases (λ s. GathersRight heap owner number since s.cursor s.tried s.given) heap seat
-    (λ enough. subst (λ n. GathersRight heap owner number since (last_claimed heap seat) 0 n) (sym none) (nothing_tried heap owner number since (last_claimed heap seat)))
+    (λ enough. subst (λ n. GathersRight heap owner number since (last_claimed heap seat) 0 n) (sym none) (gathers_right_untried heap owner number since (last_claimed heap seat)))
     (λ few left. gathers)
     (λ few tried. gathers)
 
@@ -61,12 +61,12 @@ pub record StaysMaking (old new : Seat) : Type 0 where
   pub placed : new.place ≡ places.Making making
 
 -- it is so on each way
-pub same_goes_on : (heap : Heap) (seat : Seat) → StaysMaking seat (gather_next heap seat)
-same_goes_on heap seat =
+pub stays_making_goes_on : (heap : Heap) (seat : Seat) → StaysMaking seat (gather_next heap seat)
+stays_making_goes_on heap seat =
     goes_on_cases (λ s. StaysMaking seat s) heap seat
-    (λ enough. record { same = same_data seat _ _ _ _ _ _ _ _ _; making = settled_place seat.command; placed = refl })
-    (λ few left. record { same = same_data seat _ _ _ _ _ _ _ _ _; making = Gathering; placed = refl })
-    (λ few tried. record { same = same_data seat _ _ _ _ _ _ _ _ _; making = refusal_place seat.hand; placed = refl })
+    (λ enough. record { same = begun_has_same_data seat _ _ _ _ _ _ _ _ _; making = settled_place seat.command; placed = refl })
+    (λ few left. record { same = begun_has_same_data seat _ _ _ _ _ _ _ _ _; making = Gathering; placed = refl })
+    (λ few tried. record { same = begun_has_same_data seat _ _ _ _ _ _ _ _ _; making = refusal_place seat.hand; placed = refl })
 
 -- the spine words that the seat's call needs are granted, and have no place yet; and it found none to be in use
 pub record IsUnplaced (words : ℕ) (seat : Seat) : Type 0 where
@@ -82,23 +82,23 @@ record_no_words (commands.New d fields) made other = refl
 record_no_words (commands.Array d cells) made other = absurd (other tt)
 record_no_words _ made other = absurd made
 
-pub none_either : (b : Bool) → ◌≡◌ {A = ℕ} (if b then 0 else 0) 0
-none_either true = refl
-none_either false = refl
+pub zero_either_way : (b : Bool) → ◌≡◌ {A = ℕ} (if b then 0 else 0) 0
+zero_either_way true = refl
+zero_either_way false = refl
 
 -- so it weighs what it weighed, where as many words were granted and none were placed or refused
-pub unplaced_weights : (words : ℕ) (old now : Seat) → granted_at old old.place ≡ words → ((half : ℕ) → placed_at half old old.place ≡ 0) → refused_at old old.place ≡ 0 → IsUnplaced words now
+pub same_weights_where_unplaced : (words : ℕ) (old now : Seat) → granted_at old old.place ≡ words → ((half : ℕ) → placed_at half old old.place ≡ 0) → refused_at old old.place ≡ 0 → IsUnplaced words now
     → SameWeights old now
-unplaced_weights words old now granted placed refused is = record {
+same_weights_where_unplaced words old now granted placed refused is = record {
   granted = is.granted ∙ sym granted;
   placed = λ half. is.placed half ∙ sym (placed half);
   refused = is.refused ∙ sym refused;
-  range = away_range old now is.no_place;
+  range = same_range_away old now is.no_place;
 }
 
 -- so it is where what was claimed is to be given back
-pub unplaced_refusing : (seat : Seat) (hand : List ℕ) → seat.place ≡ places.Making (refusal_place hand) → IsUnplaced (spine_need seat) seat
-unplaced_refusing seat hand placed =
+pub unplaced_where_refusing : (seat : Seat) (hand : List ℕ) → seat.place ≡ places.Making (refusal_place hand) → IsUnplaced (spine_need seat) seat
+unplaced_where_refusing seat hand placed =
     returning_cases (λ m. seat.place ≡ places.Making m → IsUnplaced (spine_need seat) seat) hand
     (λ none is. rw is record { granted = refl; placed = λ half. refl; refused = refl; no_place = λ has. has; none_used = λ heap history number. tt })
     (λ some is. rw is record { granted = refl; placed = λ half. refl; refused = refl; no_place = λ has. has; none_used = λ heap history number. tt })
@@ -112,11 +112,11 @@ unplaced_goes_on heap seat made =
     (λ an_array next is placed. rw (placed, is) record { granted = refl; placed = λ half. refl; refused = refl; no_place = λ has. has; none_used = λ heap history number. tt })
     (λ other next is placed. rw (placed, is) record {
       granted = refl;
-      placed = λ half. ap (λ n. if next.spine.half == half then n else 0) (record_no_words seat.command made other) ∙ none_either (next.spine.half == half);
+      placed = λ half. ap (λ n. if next.spine.half == half then n else 0) (record_no_words seat.command made other) ∙ zero_either_way (next.spine.half == half);
       refused = refl;
       no_place = other;
       none_used = λ heap history number. tt;
     })
     _ refl refl)
     (λ few left. record { granted = refl; placed = λ half. refl; refused = refl; no_place = λ has. has; none_used = λ heap history number. tt })
-    (λ few tried. unplaced_refusing _ seat.hand refl)
+    (λ few tried. unplaced_where_refusing _ seat.hand refl)

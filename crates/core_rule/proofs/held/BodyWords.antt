@@ -4,38 +4,38 @@ use Rattle.core_rule.proofs.Terms.{Heap, Granting, Withdrawing, Gathering, Givin
 use Rattle.core_rule.proofs.Terms.{SpineIsListed, newborn_word_of, Seat, tally, Book, WordPointsTo, Taken, Borne, Rule, SeatStands, HasPlace}
 use Rattle.core_machine.specs.declared.place.Making.TheVariants.{Storing}
 use Rattle.core_machine.specs.declared.place.Place.TheVariants as places
-use Rattle.core_rule.proofs.colours.BirthAhead.{body_leads}
+use Rattle.core_rule.proofs.colours.BirthAhead.{body_leads_behind}
 use Rattle.core_rule.proofs.entries.AtRest.{seat_fits}
-use Rattle.core_rule.proofs.hand.Bodies.{body_at-own}
-use Rattle.core_rule.proofs.hand.HandMoves.{bears_nothing, hand_held}
-use Rattle.core_rule.proofs.hand.MakingSeats.{spine_listed}
-use Rattle.core_rule.proofs.held.Alive.{IsAlive, own_alive}
-use Rattle.core_rule.proofs.lists.Members.{place_of, place_within}
-use Rattle.core_rule.proofs.objects.LastBirth.{all_stored}
+use Rattle.core_rule.proofs.hand.Bodies.{body_fragment_is_own}
+use Rattle.core_rule.proofs.hand.HandMoves.{is_not_borne_by_seat, hand_fragment_is_taken}
+use Rattle.core_rule.proofs.hand.MakingSeats.{listed_word_names_payload}
+use Rattle.core_rule.proofs.held.Alive.{IsAlive, own_is_alive}
+use Rattle.core_rule.proofs.lists.Members.{place_of, element_stands_at_place}
+use Rattle.core_rule.proofs.objects.LastBirth.{all_words_are_stored}
 use Rattle.core_rule.proofs.owners.OwnerLemmas.{IsOwn}
-use Rattle.core_rule.proofs.owners.Seated.{borne_by_seat}
+use Rattle.core_rule.proofs.owners.Seated.{borne_is_in_seat_body}
 
 module _ (heap : Heap) (state : State) (book : Book) (rule : Rule heap state book) (number f : ℕ) (bears : book.owner f ≡ Borne number) where
   abbrev seat : Seat
   seat = seat_at state number
 
   here : number < heap.seats
-  here = (borne_by_seat heap state book rule number f bears).0
+  here = (borne_is_in_seat_body heap state book rule number f bears).0
 
-  pub in_body : 1 ≤ tally f seat.body
-  in_body = (borne_by_seat heap state book rule number f bears).1
+  pub fragment_is_in_body : 1 ≤ tally f seat.body
+  fragment_is_in_body = (borne_is_in_seat_body heap state book rule number f bears).1
 
   stands : SeatStands heap state.words book number seat
   stands = rule.seats_stand number here
 
   some_body : seat.body ≢ []
-  some_body none = bears_nothing book.owner number seat.reserve seat.hand seat.body none stands.own.holding f bears
+  some_body none = is_not_borne_by_seat book.owner number seat.reserve seat.hand seat.body none stands.own.holding f bears
 
   -- what is in the hand isn't borne
   some_borne : seat.hand ≢ seat.body
   some_borne all =
       let held : book.owner f ≡ Taken number
-      = hand_held book.owner number seat.reserve seat.hand seat.body stands.own.holding f (subst (λ fs. 1 ≤ tally f fs) (sym all) in_body) in
+      = hand_fragment_is_taken book.owner number seat.reserve seat.hand seat.body stands.own.holding f (subst (λ fs. 1 ≤ tally f fs) (sym all) fragment_is_in_body) in
       cc (held, bears)
 
   -- so the seat stands at a birth
@@ -56,27 +56,27 @@ module _ (heap : Heap) (state : State) (book : Book) (rule : Rule heap state boo
   birth_place (places.Collecting place) fits = absurd (some_body fits.0.no_body)
   birth_place (places.Leaving place) fits = absurd (some_body fits.0.no_body)
 
-  pub bears_at_birth : seat.place ≡ places.Making Bearing
-  bears_at_birth = birth_place seat.place (seat_fits rule number here).at_place
+  pub borne_seat_is_bearing : seat.place ≡ places.Making Bearing
+  borne_seat_is_bearing = birth_place seat.place (seat_fits rule number here).at_place
 
   -- and has stored each word of the object and of its spine
-  pub bearing : (place : Place) → FitsPlace heap seat place
+  pub bearing_has_stored_all : (place : Place) → FitsPlace heap seat place
       → HasBody seat × (seat.stored ≡ 4 * length seat.body) × SpineIsListed seat.command seat.spine seat.listed × (IsArrayCall seat.command → HasPlace seat place)
-  bearing place fits =
+  bearing_has_stored_all place fits =
       let birth = birth_place place fits in
       let there = subst (FitsPlace heap seat) birth fits in
       (there.0, there.3, there.4, λ an_array. subst (HasPlace seat) (sym birth) an_array)
 
   -- a source of the fragment leads to one of the seat's
-  pub borne_leads : (source x : ℕ) → WordPointsTo heap state.words f source x → IsAlive (book.owner x)
-  borne_leads source x leads =
+  pub borne_leads_to_alive : (source x : ℕ) → WordPointsTo heap state.words f source x → IsAlive (book.owner x)
+  borne_leads_to_alive source x leads =
       let fits = seat_fits rule number here in
-      let has = bearing seat.place fits.at_place in
-      let place = place_within f seat.body in_body in
+      let has = bearing_has_stored_all seat.place fits.at_place in
+      let place = element_stands_at_place f seat.body fragment_is_in_body in
       let k : ℕ = place_of f seat.body in
-      let next = body_leads heap state.words book.owner number seat rule.machine.limits here has.0 fits.hand stands.own.holding
-      (all_stored heap state.words seat.body (newborn_word_of number seat) seat.stored has.1 stands.own.stored)
-      (spine_listed heap state.words book.spine_owner number seat stands.own.spine has.3 has.0.makes.an_object has.2)
+      let next = body_leads_behind heap state.words book.owner number seat rule.machine.limits here has.0 fits.hand stands.own.holding
+      (all_words_are_stored heap state.words seat.body (newborn_word_of number seat) seat.stored has.1 stands.own.stored)
+      (listed_word_names_payload heap state.words book.spine_owner number seat stands.own.spine has.3 has.0.makes.an_object has.2)
       k source x place.0 (subst (λ y. WordPointsTo heap state.words y source x) (sym place.1) leads) in
-      let own = body_at-own book.owner number seat.reserve seat.hand seat.body stands.own.holding next.place next.within in
-      own_alive number (book.owner x) (subst (λ y. IsOwn number (book.owner y)) (sym next.is) own)
+      let own = body_fragment_is_own book.owner number seat.reserve seat.hand seat.body stands.own.holding next.place next.within in
+      own_is_alive number (book.owner x) (subst (λ y. IsOwn number (book.owner y)) (sym next.is) own)

@@ -8,7 +8,7 @@ use Rattle.core_machine.specs.declared.step.MakingStep.TheVariants.{NewbornStore
 use Rattle.core_machine.specs.declared.step.SpineStep.TheVariants.{SpineStore}
 use Rattle.core_machine.specs.declared.step.Step.{Step}
 use Rattle.core_machine.specs.declared.step.Step.TheVariants as steps
-use Rattle.core_rule.proofs.steps.Seats.{step_kind}
+use Rattle.core_rule.proofs.steps.Seats.{step_kind_of_each_place}
 use Rattle.core_rule.proofs.steps.StepKinds.{IsStore}
 
 module _ (heap : Heap) (number : ℕ) (seat : Seat) where
@@ -17,17 +17,17 @@ module _ (heap : Heap) (number : ℕ) (seat : Seat) where
   due_at place = option_map (λ move. move.step) (move_at heap number seat place)
 
   -- so a newborn word is stored where a seat stores, and into the fragment whose turn it is
-  pub newborn_due : (fragment part word : ℕ) → due_step heap number seat ≡ Some (steps.Making (NewbornStore fragment part word))
+  pub newborn_store_is_due : (fragment part word : ℕ) → due_step heap number seat ≡ Some (steps.Making (NewbornStore fragment part word))
       → (seat.place ≡ places.Making Storing) × (fragment ≡ slice_index_or seat.body (seat.stored / 4) 0)
-  newborn_due fragment part word due = elim ((step_kind seat.place).words.stores heap number seat (subst IsStore (sym due) tt)) [
+  newborn_store_is_due fragment part word due = elim ((step_kind_of_each_place seat.place).words.stores heap number seat (subst IsStore (sym due) tt)) [
     | inl storing ↦ (storing, cc (subst (λ place. due_at place ≡ Some (steps.Making (NewbornStore fragment part word))) storing due))
     | inr listing ↦ absurd (cc (subst (λ place. due_at place ≡ Some (steps.Making (NewbornStore fragment part word))) listing due))
   ]
 
   -- and a spine word where it lists, at the next word's place
-  pub listing_due : (half offset fragment : ℕ) → due_step heap number seat ≡ Some (steps.Spine (SpineStore half offset fragment))
+  pub listing_store_is_due : (half offset fragment : ℕ) → due_step heap number seat ≡ Some (steps.Spine (SpineStore half offset fragment))
       → (seat.place ≡ places.Making Listing) × (half ≡ seat.spine.half) × (offset ≡ seat.spine.offset + seat.listed)
-  listing_due half offset fragment due = elim ((step_kind seat.place).words.stores heap number seat (subst IsStore (sym due) tt)) [
+  listing_store_is_due half offset fragment due = elim ((step_kind_of_each_place seat.place).words.stores heap number seat (subst IsStore (sym due) tt)) [
     | inl storing ↦ absurd (cc (subst (λ place. due_at place ≡ Some (steps.Spine (SpineStore half offset fragment))) storing due))
     | inr listing ↦
         let is : due_at (places.Making Listing) ≡ Some (steps.Spine (SpineStore half offset fragment)) = subst (λ place. due_at place ≡ Some (steps.Spine (SpineStore half offset fragment))) listing due in

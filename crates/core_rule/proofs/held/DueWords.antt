@@ -3,12 +3,12 @@ use Rattle.std.specs.Prelude.{IfSome, option_map}
 use Rattle.std.proofs.Common.{ℕ, ◌<◌, Option, None, Some, refl, arith}
 use Rattle.core_rule.proofs.Terms.{Heap, Place, State, seat_at, Move, move_at, Seat, InTable, HasWord, address_of, Book, Rule}
 use Rattle.core_machine.proofs.collector_lemmas.{turn_stands}
-use Rattle.core_machine.proofs.moves.{move_stands}
+use Rattle.core_machine.proofs.moves.{due_move_stands}
 use Rattle.core_machine.proofs.moves.Standing.{MoveStands}
 use Rattle.core_rule.specs.runs.TableLaws.{EachStepHasItsWord, EachTurnHasItsWord}
 use Rattle.core_rule.proofs.entries.AtRest.{seat_fits}
-use Rattle.core_rule.proofs.steps.collector.{turn_kind}
-use Rattle.core_rule.proofs.steps.Seats.{step_kind}
+use Rattle.core_rule.proofs.steps.collector.{turn_kind_of_each_stage}
+use Rattle.core_rule.proofs.steps.Seats.{step_kind_of_each_place}
 
 module _ (heap : Heap) (state : State) (book : Book) (rule : Rule heap state book) where
   module _ (number : ℕ) (here : number < heap.seats) where
@@ -24,8 +24,8 @@ module _ (heap : Heap) (state : State) (book : Book) (rule : Rule heap state boo
     in_table (Some move) stands = stands.step.in_table
 
     pub step_there : IsThere seat.place
-    step_there = (step_kind seat.place).words.there heap state book rule number here refl (in_table (move_at heap number seat seat.place)
-        (move_stands heap number seat rule.machine.limits (omega (arith, here, rule.machine.limits.seats_fit)) (seat_fits rule number here)))
+    step_there = (step_kind_of_each_place seat.place).words.there heap state book rule number here refl (in_table (move_at heap number seat seat.place)
+        (due_move_stands heap number seat rule.machine.limits (omega (arith, here, rule.machine.limits.seats_fit)) (seat_fits rule number here)))
 
 pub each_step_has_its_word : EachStepHasItsWord
 unfolding EachStepHasItsWord
@@ -33,5 +33,5 @@ each_step_has_its_word heap state book number rule here = step_there heap state 
 
 pub each_turn_has_its_word : EachTurnHasItsWord
 unfolding EachTurnHasItsWord
-each_turn_has_its_word heap state book rule = (turn_kind state.collector.stage).spines.there heap state book rule refl
+each_turn_has_its_word heap state book rule = (turn_kind_of_each_stage state.collector.stage).spines.there heap state book rule refl
     (turn_stands heap state.collector rule.machine.limits rule.machine.collector_fit).step.in_table

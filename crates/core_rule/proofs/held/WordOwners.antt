@@ -10,20 +10,20 @@ use Rattle.heap_model.specs.Command.{IsCommand}
 use Rattle.heap_model.specs.declared.command.Command.TheVariants as commands
 use Rattle.core_machine.specs.declared.collector.stage.SpineCopy.{SpineCopy}
 use Rattle.core_rule.specs.held.HeldWords.{IsAmong, IsInHandOf, IsLoadedBy, IsInCopy, IsOfHeld, IsHeldWord}
-use Rattle.core_rule.proofs.colours.NoSpines.{newborn_no_spine}
+use Rattle.core_rule.proofs.colours.NoSpines.{newborn_tells_no_spine}
 use Rattle.core_rule.proofs.entries.AtRest.{seat_fits}
 use Rattle.core_rule.proofs.held.Alive.{IsAlive}
-use Rattle.core_rule.proofs.held.BodyWords.{bearing, in_body}
-use Rattle.core_rule.proofs.held.HeldFragments.{held_alive, held_within_heap, born_owner}
-use Rattle.core_rule.proofs.lists.Members.{place_of, place_within}
-use Rattle.core_rule.proofs.marking.ObjectEdges.{kept_tells}
-use Rattle.core_rule.proofs.objects.LastBirth.{all_stored}
-use Rattle.core_rule.proofs.objects.SpinePlaces.{spine_placed}
-use Rattle.core_rule.proofs.owners.Seated.{borne_by_seat}
-use Rattle.core_rule.proofs.dying.DeadWords.{none_behind}
-use Rattle.core_rule.proofs.ways.ArrayWords.{words_in-meta, spot_in-word}
-use Rattle.core_rule.proofs.ways.KeptWords.{spine_found, record_no_words}
-use Rattle.core_rule.proofs.ways.LoadedPlaces.{loaded_there, loaded_way, called_head}
+use Rattle.core_rule.proofs.held.BodyWords.{bearing_has_stored_all, fragment_is_in_body}
+use Rattle.core_rule.proofs.held.HeldFragments.{held_is_alive, held_within_heap, born_fragment_has_bit}
+use Rattle.core_rule.proofs.lists.Members.{place_of, element_stands_at_place}
+use Rattle.core_rule.proofs.marking.ObjectEdges.{kept_tells_spine_words}
+use Rattle.core_rule.proofs.objects.LastBirth.{all_words_are_stored}
+use Rattle.core_rule.proofs.objects.SpinePlaces.{array_spine_fits_spot}
+use Rattle.core_rule.proofs.owners.Seated.{borne_is_in_seat_body}
+use Rattle.core_rule.proofs.dying.DeadWords.{no_words_behind_first}
+use Rattle.core_rule.proofs.ways.ArrayWords.{spine_words_in-meta, spot_in-word}
+use Rattle.core_rule.proofs.ways.KeptWords.{word_tells_spine_spot, record_has_no_words}
+use Rattle.core_rule.proofs.ways.LoadedPlaces.{while_loaded_holds, loaded_is_on_way, called_register_is_first}
 
 -- what is so of a spine's word is so of the word that is meant
 word_of : (spine_owner : ℕ → ℕ → SpineOwner) (spine : Spot) (half offset k : ℕ) (o : SpineOwner) → IsWordOf spine half offset k → spine_owner spine.half (spine.offset + k) ≡ o → spine_owner half offset ≡ o
@@ -38,7 +38,7 @@ has_spine : (object : Node) (k : ℕ) → k < spine_words_of object → object.a
 has_spine object k within = by object.array refl where
   by : (b : Bool) → object.array ≡ b → object.array ≡ true
   by true is = is
-  by false is = absurd (omega (arith, record_no_words object is, within))
+  by false is = absurd (omega (arith, record_has_no_words object is, within))
 
 -- a word among those of one spine is among those of another that is the same
 among_same : (spine other : Spot) (words more half offset : ℕ) → spine ≡ other → words ≡ more → IsAmong spine words half offset → IsAmong other more half offset
@@ -64,31 +64,31 @@ module _ (heap : Heap) (state : State) (book : Book) (rule : Rule heap state boo
       (i, among.index, word_of book.spine_owner (book.spines i) half offset among.index (Spined i among.index) among.is (rule.heap_stands.spines.kept i among.index below kept among.within))
 
   -- a fragment of a kept object whose first word tells spine words is an array's first, and its words tell where they stand
-  pub kept_word : (f i k : ℕ) → book.owner f ≡ Kept i k → IsAmong (spot_in (at heap state.words (Word f 2))) (spine_words_in (at heap state.words (Word f 0))) half offset → IsSpined
-  kept_word f i k owned among =
+  pub kept_word_is_spined : (f i k : ℕ) → book.owner f ≡ Kept i k → IsAmong (spot_in (at heap state.words (Word f 2))) (spine_words_in (at heap state.words (Word f 0))) half offset → IsSpined
+  kept_word_is_spined f i k owned among =
       let back = rule.heap_stands.objects.back f i k owned in
-      by k refl (nodes i).array refl back.0 back.1 back.3 (kept_tells heap state book rule f i k owned).1.told
+      by k refl (nodes i).array refl back.0 back.1 back.3 (kept_tells_spine_words heap state book rule f i k owned).1.told
     where
       by : (n : ℕ) → k ≡ n → (array : Bool) → (nodes i).array ≡ array → i < length book.made → IsKept book.owner book.fragments i → f ≡ fragment_at (book.fragments i) k
           → spine_words_in (at heap state.words (Word f 0)) ≡ (if k == 0 then spine_words_of (nodes i) else 0) → IsSpined
       by (suc n) later array kind below kept here told =
-          let none : spine_words_in (at heap state.words (Word f 0)) ≡ 0 = told ∙ none_behind k (spine_words_of (nodes i)) (omega (arith, later)) in
+          let none : spine_words_in (at heap state.words (Word f 0)) ≡ 0 = told ∙ no_words_behind_first k (spine_words_of (nodes i)) (omega (arith, later)) in
           absurd (omega (arith, none, among.within))
       by zero first false kind below kept here told =
           let many : spine_words_in (at heap state.words (Word f 0)) ≡ spine_words_of (nodes i) = told ∙ rw first refl in
-          absurd (omega (arith, many, record_no_words (nodes i) kind, among.within))
+          absurd (omega (arith, many, record_has_no_words (nodes i) kind, among.within))
       by zero first true kind below kept here told =
           let many : spine_words_in (at heap state.words (Word f 0)) ≡ spine_words_of (nodes i) = told ∙ rw first refl in
           let head : f ≡ fragment_at (book.fragments i) 0 = here ∙ ap (fragment_at (book.fragments i)) first in
           let there : spot_in (at heap state.words (Word f 2)) ≡ book.spines i
           = ap (λ x. spot_in (at heap state.words (Word x 2))) head
-          ∙ spine_found heap state.words g book.made book.owner book.fragments rule.machine.limits rule.heap_stands.control_words rule.heap_stands.ids rule.heap_stands.objects i below kept kind
-          (spine_placed rule i below kept kind) in
+          ∙ word_tells_spine_spot heap state.words g book.made book.owner book.fragments rule.machine.limits rule.heap_stands.control_words rule.heap_stands.ids rule.heap_stands.objects i below kept kind
+          (array_spine_fits_spot rule i below kept kind) in
           spined i below kept (among_same (spot_in (at heap state.words (Word f 2))) (book.spines i) (spine_words_in (at heap state.words (Word f 0))) (spine_words_of (nodes i)) half offset there many among)
 
   -- a seat has the words of the spine in its hand
-  pub hand_word : (number : ℕ) → number < heap.seats → IsInHandOf state number half offset → (k : ℕ) × (the_owner ≡ Placed number k)
-  hand_word number here hand =
+  pub hand_word_is_placed : (number : ℕ) → number < heap.seats → IsInHandOf state number half offset → (k : ℕ) × (the_owner ≡ Placed number k)
+  hand_word_is_placed number here hand =
       let among = hand.among in
       let spine : Spot = (seat_at state number).spine in
       (among.index, word_of book.spine_owner spine half offset among.index (Placed number among.index) among.is ((rule.seats_stand number here).own.spine.placed hand.has among.index among.within))
@@ -102,7 +102,7 @@ module _ (heap : Heap) (state : State) (book : Book) (rule : Rule heap state boo
     k = place_of f seat.body
 
     here : number < heap.seats
-    here = (borne_by_seat heap state book rule number f bears).0
+    here = (borne_is_in_seat_body heap state book rule number f bears).0
 
     by_command : (command : Command) → seat.command ≡ command → MakesObject command → IsCommand command → (IsArrayCall command → HasPlace seat seat.place) → k < length seat.body
         → ((part : ℕ) → part < 4 → at heap state.words (Word f part) ≡ newborn_word command (next_name number seat) seat.spine seat.body k part) → IsInHandOf state number half offset
@@ -112,7 +112,7 @@ module _ (heap : Heap) (state : State) (book : Book) (rule : Rule heap state boo
         omega (arith, inside, rule.machine.limits.groups_fit)
         in
         let none : spine_words_in (at heap state.words (Word f 0)) ≡ 0
-        = ap spine_words_in (stored 0 (omega arith)) ∙ newborn_no_spine seat.body small (next_name number seat) fields k (omega (arith, range.1.1)) in
+        = ap spine_words_in (stored 0 (omega arith)) ∙ newborn_tells_no_spine seat.body small (next_name number seat) fields k (omega (arith, range.1.1)) in
         absurd (omega (arith, none, among.within))
     by_command (commands.Array d cells) is made range placed within stored = at_row k refl
       where
@@ -124,7 +124,7 @@ module _ (heap : Heap) (state : State) (book : Book) (rule : Rule heap state boo
         at_row zero first =
             let meta : at heap state.words (Word f 0) ≡ array_meta cells = stored 0 (omega arith) ∙ rw first refl in
             let place : at heap state.words (Word f 2) ≡ spot_word seat.spine = stored 2 (omega arith) ∙ rw first refl in
-            let many : spine_words_in (at heap state.words (Word f 0)) ≡ spine_need seat = ap spine_words_in meta ∙ words_in-meta cells (omega (arith, range.1.1)) ∙ ap spine_need_of (sym is) in
+            let many : spine_words_in (at heap state.words (Word f 0)) ≡ spine_need seat = ap spine_words_in meta ∙ spine_words_in-meta cells (omega (arith, range.1.1)) ∙ ap spine_need_of (sym is) in
             let there : spot_in (at heap state.words (Word f 2)) ≡ seat.spine = ap spot_in place ∙ spot_in-word seat.spine (seat_fits rule number here).hand.spine_within in
             record {
               has = placed tt;
@@ -134,38 +134,38 @@ module _ (heap : Heap) (state : State) (book : Book) (rule : Rule heap state boo
 
     pub borne_word : IsInHandOf state number half offset
     borne_word =
-        let has = bearing heap state book rule number f bears seat.place (seat_fits rule number here).at_place in
-        let place = place_within f seat.body (in_body heap state book rule number f bears) in
+        let has = bearing_has_stored_all heap state book rule number f bears seat.place (seat_fits rule number here).at_place in
+        let place = element_stands_at_place f seat.body (fragment_is_in_body heap state book rule number f bears) in
         by_command seat.command refl has.0.makes.an_object has.0.makes.in_range has.3 place.0
         (λ part within. subst (λ x. at heap state.words (Word x part) ≡ newborn_word_of number seat k part) place.1
-        (all_stored heap state.words seat.body (newborn_word_of number seat) seat.stored has.1 (rule.seats_stand number here).own.stored k part place.0 within))
+        (all_words_are_stored heap state.words seat.body (newborn_word_of number seat) seat.stored has.1 (rule.seats_stand number here).own.stored k part place.0 within))
 
   -- so the spine of what is held is an array's, or that of a seat which has borne it
-  pub of_held_word : IsOfHeld heap state half offset → IsSpined ⊎ ((number : ℕ) × (f : ℕ) × (book.owner f ≡ Borne number) × IsInHandOf state number half offset)
-  of_held_word of_held =
+  pub held_word_is_spined_or_borne : IsOfHeld heap state half offset → IsSpined ⊎ ((number : ℕ) × (f : ℕ) × (book.owner f ≡ Borne number) × IsInHandOf state number half offset)
+  held_word_is_spined_or_borne of_held =
       let f : ℕ = of_held.sentinel in
-      by f (book.owner f) refl (held_alive heap state book rule f of_held.held) (born_owner heap state book rule f (held_within_heap heap state book rule f of_held.held) of_held.born) of_held.among
+      by f (book.owner f) refl (held_is_alive heap state book rule f of_held.held) (born_fragment_has_bit heap state book rule f (held_within_heap heap state book rule f of_held.held) of_held.born) of_held.among
     where
       by : (f : ℕ) (o : Owner) → book.owner f ≡ o → IsAlive (book.owner f) → born_bit (book.owner f) ≡ 1
           → IsAmong (spot_in (at heap state.words (Word f 2))) (spine_words_in (at heap state.words (Word f 0))) half offset
           → IsSpined ⊎ ((number : ℕ) × (x : ℕ) × (book.owner x ≡ Borne number) × IsInHandOf state number half offset)
-      by f (Kept i k) is alive born among = inl (kept_word f i k is among)
+      by f (Kept i k) is alive born among = inl (kept_word_is_spined f i k is among)
       by f (Borne number) is alive born among = inr (number, f, is, borne_word number f is among)
       by f (Taken number) is alive born among = absurd (omega (arith, born, ap born_bit is))
       by f Free is alive born among = absurd (subst IsAlive is alive)
       by f (Dead i k) is alive born among = absurd (subst IsAlive is alive)
 
   -- a word of a spine whose place a call has loaded is the array's, or one that the array has left
-  pub loaded_word : (number : ℕ) → number < heap.seats → IsLoadedBy heap state number half offset → IsSpined ⊎ (the_owner ≡ Gone)
-  loaded_word number here loads =
+  pub loaded_word_is_spined_or_gone : (number : ℕ) → number < heap.seats → IsLoadedBy heap state number half offset → IsSpined ⊎ (the_owner ≡ Gone)
+  loaded_word_is_spined_or_gone number here loads =
       let seat : Seat = seat_at state number in
       let stands = rule.seats_stand number here in
-      let on = loaded_way nodes book.made book.owner book.fragments seat seat.place loads.loaded stands.names.way in
-      let reads : ReadsSpine heap state.words nodes book.owner book.fragments book.spines book.spine_owner seat = loaded_there seat.place loads.loaded stands.names.address in
+      let on = loaded_is_on_way nodes book.made book.owner book.fragments seat seat.place loads.loaded stands.names.way in
+      let reads : ReadsSpine heap state.words nodes book.owner book.fragments book.spines book.spine_owner seat = while_loaded_holds seat.place loads.loaded stands.names.address in
       let i : ℕ = on.index in
       let f : ℕ = loads.sentinel in
-      let owned : book.owner f ≡ Kept i 0 = ap book.owner (called_head book.made book.owner book.fragments seat i on.row f on.way loads.calls) ∙ on.way.kept in
-      let many : spine_words_in (at heap state.words (Word f 0)) ≡ spine_words_of (nodes i) = (kept_tells heap state book rule f i 0 owned).1.told in
+      let owned : book.owner f ≡ Kept i 0 = ap book.owner (called_register_is_first book.made book.owner book.fragments seat i on.row f on.way loads.calls) ∙ on.way.kept in
+      let many : spine_words_in (at heap state.words (Word f 0)) ≡ spine_words_of (nodes i) = (kept_tells_spine_words heap state book rule f i 0 owned).1.told in
       let among : IsAmong seat.address (spine_words_of (nodes i)) half offset = subst (λ n. IsAmong seat.address n half offset) many loads.among in
       let back = rule.heap_stands.objects.back f i 0 owned in
       elim (reads i f loads.calls owned (has_spine (nodes i) among.index among.within)) [
@@ -174,8 +174,8 @@ module _ (heap : Heap) (state : State) (book : Book) (rule : Rule heap state boo
       ]
 
   -- and a word of a copy is the collector's
-  pub copy_word : IsInCopy state half offset → (k : ℕ) × (the_owner ≡ Placed heap.seats k)
-  copy_word copies =
+  pub copy_word_is_collectors : IsInCopy state half offset → (k : ℕ) × (the_owner ≡ Placed heap.seats k)
+  copy_word_is_collectors copies =
       let copy : SpineCopy = copies.copy in
       let among = copies.among in
       let placed : (j : ℕ) → j < copy.array.words → book.spine_owner copy.to.half (copy.to.offset + j) ≡ Placed heap.seats j
@@ -183,11 +183,11 @@ module _ (heap : Heap) (state : State) (book : Book) (rule : Rule heap state boo
       (among.index, word_of book.spine_owner copy.to half offset among.index (Placed heap.seats among.index) among.is (placed among.index among.within))
 
   -- so none that is held is nobody's
-  pub held_some : IsHeldWord heap state half offset → the_owner ≢ Open
-  held_some (inl of_held) none = elim (of_held_word of_held) [
+  pub held_word_is_owned : IsHeldWord heap state half offset → the_owner ≢ Open
+  held_word_is_owned (inl of_held) none = elim (held_word_is_spined_or_borne of_held) [
     | inl its ↦ cc (its.2, none)
-    | inr borne ↦ let hand = hand_word borne.0 (borne_by_seat heap state book rule borne.0 borne.1 borne.2).0 borne.3 in cc (hand.1, none)
+    | inr borne ↦ let hand = hand_word_is_placed borne.0 (borne_is_in_seat_body heap state book rule borne.0 borne.1 borne.2).0 borne.3 in cc (hand.1, none)
   ]
-  held_some (inr (inl (number, here, inl hand))) none = let its = hand_word number here hand in cc (its.1, none)
-  held_some (inr (inl (number, here, inr loads))) none = elim (loaded_word number here loads) [ inl its ↦ cc (its.2, none) | inr gone ↦ cc (gone, none) ]
-  held_some (inr (inr copies)) none = let its = copy_word copies in cc (its.1, none)
+  held_word_is_owned (inr (inl (number, here, inl hand))) none = let its = hand_word_is_placed number here hand in cc (its.1, none)
+  held_word_is_owned (inr (inl (number, here, inr loads))) none = elim (loaded_word_is_spined_or_gone number here loads) [ inl its ↦ cc (its.2, none) | inr gone ↦ cc (gone, none) ]
+  held_word_is_owned (inr (inr copies)) none = let its = copy_word_is_collectors copies in cc (its.1, none)

@@ -4,10 +4,10 @@ use Rattle.std.proofs.lemmas.Bool.{cases_lt}
 use Rattle.std.proofs.lemmas.Bool.Decides.{eqb_tells}
 use Rattle.heap_words.specs.declared.spot.Spot.{Spot}
 use Rattle.core_rule.proofs.Terms.{Heap, Id, Graph, fragments_at, tally, sum_upto, id_at, AreMade, Objects, IsKept, Owner, Free, Kept, one_at}
-use Rattle.core_machine.proofs.table_lemmas.Free.{sum_same, sum_zero}
-use Rattle.core_rule.proofs.graph.SameNodes.{made_size}
-use Rattle.core_rule.proofs.lists.Members.{place_of, tally_at, place_within}
-use Rattle.core_rule.proofs.lists.Tallies.{one_at_same, one_at_other, one_at_bit, sum_tally}
+use Rattle.core_machine.proofs.table_lemmas.Free.{sum_of_same_functions, sum_of_nothing_is_zero}
+use Rattle.core_rule.proofs.graph.SameNodes.{made_node_has_size}
+use Rattle.core_rule.proofs.lists.Members.{place_of, element_is_tallied, element_stands_at_place}
+use Rattle.core_rule.proofs.lists.Tallies.{one_at_same_is_one, one_at_other_is_none, one_at_within_one, sum_of_tallies_is_length}
 use Rattle.core_rule.proofs.owners.Handed.{none_or_some}
 
 -- whether a fragment is part of the object of this number
@@ -19,10 +19,10 @@ part_bit n _ = 0
 once_each : (fs : List ℕ) → ((j k : ℕ) → j < length fs → k < length fs → get_or fs j 0 ≡ get_or fs k 0 → j ≡ k) → (f : ℕ) → tally f fs ≤ 1
 once_each [] apart f = omega arith
 once_each (x ∷ xs) apart f = elim (none_or_some (tally f xs)) as (λ _. tally f (x ∷ xs) ≤ 1) [
-  | inl none ↦ omega (arith, none, one_at_bit x f)
+  | inl none ↦ omega (arith, none, one_at_within_one x f)
   | inr some ↦ elim (eqb_tells x f) as (λ _. tally f (x ∷ xs) ≤ 1) [
-    | inl e ↦ absurd (first_again (place_within f xs some) e.1)
-    | inr e ↦ omega (arith, one_at_other x f e.1, once_each xs (λ j k p q same. omega (arith, apart (suc j) (suc k) (omega (arith, p)) (omega (arith, q)) same)) f)
+    | inl e ↦ absurd (first_again (element_stands_at_place f xs some) e.1)
+    | inr e ↦ omega (arith, one_at_other_is_none x f e.1, once_each xs (λ j k p q same. omega (arith, apart (suc j) (suc k) (omega (arith, p)) (omega (arith, q)) same)) f)
   ]
 ]
   where
@@ -33,11 +33,11 @@ once_each (x ∷ xs) apart f = elim (none_or_some (tally f xs)) as (λ _. tally 
 
 module _ (heap : Heap) (words : List ℕ) (g : Graph) (made : List Id) (owner : ℕ → Owner) (fragments : ℕ → List ℕ) {spines : ℕ → Spot} (ids : AreMade g made) (objects : Objects heap words g made owner fragments spines) where
   -- what isn't kept has no fragment
-  pub parts_none : (n : ℕ) → (n < length made → IsKept owner fragments n → ⊥) → sum_upto (16 * heap.groups) (λ f. part_bit n (owner f)) ≡ 0
-  parts_none n gone = sum_zero (16 * heap.groups) (λ f. part_bit n (owner f)) (λ f less. by f (owner f) refl)
+  pub unkept_has_no_parts : (n : ℕ) → (n < length made → IsKept owner fragments n → ⊥) → sum_upto (16 * heap.groups) (λ f. part_bit n (owner f)) ≡ 0
+  unkept_has_no_parts n gone = sum_of_nothing_is_zero (16 * heap.groups) (λ f. part_bit n (owner f)) (λ f less. by f (owner f) refl)
     where
       by : (f : ℕ) (o : Owner) → owner f ≡ o → part_bit n o ≡ 0
-      by f (Kept i k) is = one_at_other i n (λ same. let back = objects.back f i k is in gone (subst (λ j. j < length made) same back.0) (subst (λ j. IsKept owner fragments j) same back.1))
+      by f (Kept i k) is = one_at_other_is_none i n (λ same. let back = objects.back f i k is in gone (subst (λ j. j < length made) same back.0) (subst (λ j. IsKept owner fragments j) same back.1))
       by f _ is = refl
 
   module _ (n : ℕ) (within : n < length made) (kept : IsKept owner fragments n) where
@@ -52,25 +52,25 @@ module _ (heap : Heap) (words : List ℕ) (g : Graph) (made : List Id) (owner : 
     is_part f = elim (none_or_some (tally f (fragments n))) as (λ _. part_bit n (owner f) ≡ tally f (fragments n)) [
       | inl none ↦ by (owner f) refl none ∙ sym none
       | inr some ↦
-          let place = place_within f (fragments n) some in
+          let place = element_stands_at_place f (fragments n) some in
           let its : owner f ≡ Kept n (place_of f (fragments n)) = subst (λ x. owner x ≡ Kept n (place_of f (fragments n))) place.1 ((objects.kept n within kept).owned (place_of f (fragments n)) place.0) in
-          omega (arith, ap (part_bit n) its, one_at_same n n refl, parts_once f, some)
+          omega (arith, ap (part_bit n) its, one_at_same_is_one n n refl, parts_once f, some)
     ]
       where
         there : (i k : ℕ) → i ≡ n → owner f ≡ Kept i k → 1 ≤ tally f (fragments n)
         there i k same is =
             let back = objects.back f i k is in
-            subst (λ j. 1 ≤ tally f (fragments j)) same (subst (λ x. 1 ≤ tally x (fragments i)) (sym back.3) (tally_at (fragments i) k back.2))
+            subst (λ j. 1 ≤ tally f (fragments j)) same (subst (λ x. 1 ≤ tally x (fragments i)) (sym back.3) (element_is_tallied (fragments i) k back.2))
 
         by : (o : Owner) → owner f ≡ o → tally f (fragments n) ≡ 0 → part_bit n o ≡ 0
-        by (Kept i k) is none = one_at_other i n (λ same. omega (arith, there i k same is, none))
+        by (Kept i k) is none = one_at_other_is_none i n (λ same. omega (arith, there i k same is, none))
         by _ is none = refl
 
     -- they are as many as the graph's object has
-    pub parts_counted : ((f : ℕ) → 16 * heap.groups ≤ f → owner f ≡ Free) → sum_upto (16 * heap.groups) (λ f. part_bit n (owner f)) ≡ fragments_at g (id_at made n)
-    parts_counted outside =
-        sum_same (16 * heap.groups) (λ f. part_bit n (owner f)) (λ f. tally f (fragments n)) (λ f less. is_part f) ∙ sum_tally (16 * heap.groups) (fragments n) below
-        ∙ (objects.kept n within kept).whole ∙ made_size _ (ids.in_graph n within)
+    pub part_count_is_size : ((f : ℕ) → 16 * heap.groups ≤ f → owner f ≡ Free) → sum_upto (16 * heap.groups) (λ f. part_bit n (owner f)) ≡ fragments_at g (id_at made n)
+    part_count_is_size outside =
+        sum_of_same_functions (16 * heap.groups) (λ f. part_bit n (owner f)) (λ f. tally f (fragments n)) (λ f less. is_part f) ∙ sum_of_tallies_is_length (16 * heap.groups) (fragments n) below
+        ∙ (objects.kept n within kept).whole ∙ made_node_has_size _ (ids.in_graph n within)
       where
         below : (f : ℕ) → 1 ≤ tally f (fragments n) → f < 16 * heap.groups
         below f there = elim (cases_lt f (16 * heap.groups)) [

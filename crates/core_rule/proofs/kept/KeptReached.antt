@@ -12,10 +12,10 @@ use Rattle.heap_model.specs.declared.graph.cell.Cell.{Cell}
 use Rattle.core_machine.specs.declared.place.Access.TheVariants.{Naming}
 use Rattle.core_machine.specs.declared.place.Place.TheVariants as places
 use Rattle.core_machine.specs.declared.seat.register.Register.TheVariants as registers
-use Rattle.core_rule.proofs.sweep_exact.GoneSeats.{gone_after_all, gone_opens}
-use Rattle.core_rule.proofs.graph.LeftSeats.{left_empty}
-use Rattle.core_rule.proofs.graph.Numbering.{id_at-number_of}
-use Rattle.core_rule.proofs.growth.RegisterIds.{RegisterHolds, holding_register}
+use Rattle.core_rule.proofs.sweep_exact.GoneSeats.{gone_stays_after_history, gone_at_opening}
+use Rattle.core_rule.proofs.graph.LeftSeats.{left_registers_are_nil}
+use Rattle.core_rule.proofs.graph.Numbering.{id_at_own_number}
+use Rattle.core_rule.proofs.growth.RegisterIds.{RegisterHolds, root_is_in_register}
 
 -- a cell of an object holds what the object points to
 pointing_cell : (o : Option Node) (id : Id) → IsSomeAnd o (λ object. PointsTo object id) → (j : ℕ) × (cell : Cell) × (slice_get (node_in o).cells j ≡ Some cell) × (cell.value ≡ values.Object id)
@@ -57,19 +57,19 @@ module _ (heap : Heap) (state : State) (book : Book) (rule : Rule heap state boo
   -- what a root is
   root_kept : (id : Id) → IsRoot g id → IsNamedKept id
   root_kept id root =
-      let its : RegisterHolds g id = holding_register g id root in
+      let its : RegisterHolds g id = root_is_in_register g id root in
       elim (cases_lt its.number heap.seats) [
         | inl here ↦ register_kept its.number its.register id here its.holds (seat_at state its.number).place refl
         | inr past ↦
-            let nil = left_empty heap book.history its.number rule.heap_stands.legal.objects
-            (gone_after_all (opening heap) its.number book.history rule.heap_stands.legal.objects (gone_opens heap its.number past)) its.register in
+            let nil = left_registers_are_nil heap book.history its.number rule.heap_stands.legal.objects
+            (gone_stays_after_history (opening heap) its.number book.history rule.heap_stands.legal.objects (gone_at_opening heap its.number past)) its.register in
             absurd (let held = its.holds in cc (nil, held))
       ]
 
-  pub reached_kept : (id : Id) → Reaches g id → IsNamedKept id
-  reached_kept _ (from_register id made root) = root_kept id root
-  reached_kept _ (from_cell id made holder reached points) =
-      let kept = reached_kept holder reached in
+  pub reached_is_named_kept : (id : Id) → Reaches g id → IsNamedKept id
+  reached_is_named_kept _ (from_register id made root) = root_kept id root
+  reached_is_named_kept _ (from_cell id made holder reached points) =
+      let kept = reached_is_named_kept holder reached in
       let i : ℕ = object_number book.made holder in
-      let there = pointing_cell (node g (id_at book.made i)) id (subst (λ x. Points g x id) (sym (id_at-number_of book.made holder kept.0)) points) in
+      let there = pointing_cell (node g (id_at book.made i)) id (subst (λ x. Points g x id) (sym (id_at_own_number book.made holder kept.0)) points) in
       subst (NamesKept book.made book.owner book.fragments) there.3 (rule.heap_stands.objects.named i there.0 kept.0 kept.1 there.1 there.2).0

@@ -6,12 +6,12 @@ use Rattle.std.proofs.lemmas.List.Sums.{sum_by-cons}
 use Rattle.heap_words.specs.declared.spot.Spot.{Spot}
 use Rattle.core_rule.proofs.Terms.{Heap, Id, Board, Made, Graph, IsBefore, fragments_at, fragments_of_all, sum_upto, fragment_at, id_at, object_number, AreMade, Objects, IsKept}
 use Rattle.core_rule.proofs.Terms.{Owner, Free, Taken, Borne, Kept, Dead}
-use Rattle.core_machine.proofs.table_lemmas.Free.{sum_zero}
+use Rattle.core_machine.proofs.table_lemmas.Free.{sum_of_nothing_is_zero}
 use Rattle.core_rule.specs.footprint.Footprint.{is_among, kept_bit}
-use Rattle.core_rule.proofs.kept.KeptParts.{part_bit, parts_none, parts_counted}
-use Rattle.core_rule.proofs.graph.Numbering.{id_tells, id_at-number_of}
+use Rattle.core_rule.proofs.kept.KeptParts.{part_bit, unkept_has_no_parts, part_count_is_size}
+use Rattle.core_rule.proofs.graph.Numbering.{same_id_test_decides, id_at_own_number}
 use Rattle.core_rule.proofs.lists.SumLemmas.{sum_plus}
-use Rattle.core_rule.proofs.lists.Tallies.{one_at_same, one_at_other}
+use Rattle.core_rule.proofs.lists.Tallies.{one_at_same_is_one, one_at_other_is_none}
 
 -- no id is before itself
 not_before_itself : (id : Id) → IsBefore id id → ⊥
@@ -22,7 +22,7 @@ not_before_itself (Made number count) (inr less) = omega (arith, less.1)
 -- the first id of a list in order isn't among the others
 not_among : (x : Id) (xs : List Id) → ((i : ℕ) → i < length xs → (y : Id) → IsBefore x (get_or xs i y)) → is_among xs x ≡ false
 not_among x [] before = refl
-not_among x (y ∷ xs) before = elim (id_tells x y) as (λ _. is_among (y ∷ xs) x ≡ false) [
+not_among x (y ∷ xs) before = elim (same_id_test_decides x y) as (λ _. is_among (y ∷ xs) x ≡ false) [
   | inl same ↦ absurd (not_before_itself x (subst (λ z. IsBefore x z) (sym same.1) (before 0 (omega arith) y)))
   | inr apart ↦ rw apart.0 (not_among x xs (λ i below z. before (suc i) (omega (arith, below)) z))
 ]
@@ -51,14 +51,14 @@ module _ (heap : Heap) (words : List ℕ) (g : Graph) (made : List Id) (owner : 
   -- a fragment is of an object among some ids where it is of the first one's or of the others'
   among_parts : (x : Id) (xs : List Id) → is_among xs x ≡ false → (o : Owner) → ((i k : ℕ) → o ≡ Kept i k → i < length made)
       → kept_bit (is_among (x ∷ xs)) made o ≡ part_bit (object_number made x) o + kept_bit (is_among xs) made o
-  among_parts x xs apart (Kept i k) within = elim (id_tells (id_at made i) x) as (λ _. kept_bit (is_among (x ∷ xs)) made (Kept i k) ≡ part_bit (object_number made x) (Kept i k) + kept_bit (is_among xs) made (Kept i k)) [
+  among_parts x xs apart (Kept i k) within = elim (same_id_test_decides (id_at made i) x) as (λ _. kept_bit (is_among (x ∷ xs)) made (Kept i k) ≡ part_bit (object_number made x) (Kept i k) + kept_bit (is_among xs) made (Kept i k)) [
     | inl same ↦
         let number : i ≡ object_number made x = sym (ids.distinct i (within i k refl)) ∙ ap (object_number made) same.1 in
         let others : is_among xs (id_at made i) ≡ false = ap (is_among xs) same.1 ∙ apart in
-        rw (same.0, others, one_at_same i (object_number made x) number) refl
+        rw (same.0, others, one_at_same_is_one i (object_number made x) number) refl
     | inr other ↦
-        let number : i ≢ object_number made x = λ e. other.1 (ap (id_at made) e ∙ id_at-number_of made x (subst (λ j. j < length made) e (within i k refl))) in
-        rw (other.0, one_at_other i (object_number made x) number) (omega arith)
+        let number : i ≢ object_number made x = λ e. other.1 (ap (id_at made) e ∙ id_at_own_number made x (subst (λ j. j < length made) e (within i k refl))) in
+        rw (other.0, one_at_other_is_none i (object_number made x) number) (omega arith)
   ]
   among_parts x xs apart Free within = omega arith
   among_parts x xs apart (Taken number) within = omega arith
@@ -75,35 +75,35 @@ module _ (heap : Heap) (words : List ℕ) (g : Graph) (made : List Id) (owner : 
   none_among _ = refl
 
   among_none : sum_upto (16 * heap.groups) (λ f. kept_bit (is_among []) made (owner f)) ≡ 0
-  among_none = sum_zero (16 * heap.groups) (λ f. kept_bit (is_among []) made (owner f)) (λ f less. none_among (owner f))
+  among_none = sum_of_nothing_is_zero (16 * heap.groups) (λ f. kept_bit (is_among []) made (owner f)) (λ f less. none_among (owner f))
 
   module _ (outside : (f : ℕ) → 16 * heap.groups ≤ f → owner f ≡ Free) where
     -- a kept object's fragments are those of the graph's
     kept_size : (x : Id) → object_number made x < length made → IsKept owner fragments (object_number made x)
         → sum_upto (16 * heap.groups) (λ f. part_bit (object_number made x) (owner f)) ≡ fragments_at g x
     kept_size x within kept =
-        let its : id_at made (object_number made x) ≡ x = id_at-number_of made x within in
-        parts_counted heap words g made owner fragments ids objects (object_number made x) within kept outside ∙ ap (fragments_at g) its
+        let its : id_at made (object_number made x) ≡ x = id_at_own_number made x within in
+        part_count_is_size heap words g made owner fragments ids objects (object_number made x) within kept outside ∙ ap (fragments_at g) its
 
     -- and at most these where it may not be kept
     most_size : (x : Id) → sum_upto (16 * heap.groups) (λ f. part_bit (object_number made x) (owner f)) ≤ fragments_at g x
     most_size x = elim (cases_lt (object_number made x) (length made)) [
       | inl within ↦ elim (first_tells (object_number made x) (owner (fragment_at (fragments (object_number made x)) 0))) [
         | inl kept ↦ omega (arith, kept_size x within kept)
-        | inr gone ↦ omega (arith, parts_none heap words g made owner fragments ids objects (object_number made x) (λ below kept. gone kept))
+        | inr gone ↦ omega (arith, unkept_has_no_parts heap words g made owner fragments ids objects (object_number made x) (λ below kept. gone kept))
       ]
-      | inr past ↦ omega (arith, parts_none heap words g made owner fragments ids objects (object_number made x) (λ below kept. omega (arith, below, past)))
+      | inr past ↦ omega (arith, unkept_has_no_parts heap words g made owner fragments ids objects (object_number made x) (λ below kept. omega (arith, below, past)))
     ]
 
     -- what is kept of some ids is no more than their objects have
-    pub kept_among_most : (xs : List Id) → AllPairs IsBefore xs → sum_upto (16 * heap.groups) (λ f. kept_bit (is_among xs) made (owner f)) ≤ fragments_of_all g xs
-    kept_among_most [] pairs = omega (arith, among_none)
-    kept_among_most (x ∷ xs) pairs = omega (arith, sum_by-cons (fragments_at g) x xs, among_sum x xs (first_apart x xs pairs), most_size x, kept_among_most xs (rest_ordered x xs pairs))
+    pub kept_sum_within_sizes : (xs : List Id) → AllPairs IsBefore xs → sum_upto (16 * heap.groups) (λ f. kept_bit (is_among xs) made (owner f)) ≤ fragments_of_all g xs
+    kept_sum_within_sizes [] pairs = omega (arith, among_none)
+    kept_sum_within_sizes (x ∷ xs) pairs = omega (arith, sum_by-cons (fragments_at g) x xs, among_sum x xs (first_apart x xs pairs), most_size x, kept_sum_within_sizes xs (rest_ordered x xs pairs))
 
     -- and as much, where all are kept
-    pub kept_among : (xs : List Id) → AllPairs IsBefore xs → ((id : Id) → Contains xs id → (object_number made id < length made) × IsKept owner fragments (object_number made id))
+    pub kept_sum_is_sizes : (xs : List Id) → AllPairs IsBefore xs → ((id : Id) → Contains xs id → (object_number made id < length made) × IsKept owner fragments (object_number made id))
         → sum_upto (16 * heap.groups) (λ f. kept_bit (is_among xs) made (owner f)) ≡ fragments_of_all g xs
-    kept_among [] pairs all = among_none
-    kept_among (x ∷ xs) pairs all =
+    kept_sum_is_sizes [] pairs all = among_none
+    kept_sum_is_sizes (x ∷ xs) pairs all =
         let first = all x (0, omega arith, refl) in
-        omega (arith, sum_by-cons (fragments_at g) x xs, among_sum x xs (first_apart x xs pairs), kept_size x first.0 first.1, kept_among xs (rest_ordered x xs pairs) (λ id its. all id (suc its.0, omega (arith, its.1), its.2)))
+        omega (arith, sum_by-cons (fragments_at g) x xs, among_sum x xs (first_apart x xs pairs), kept_size x first.0 first.1, kept_sum_is_sizes xs (rest_ordered x xs pairs) (λ id its. all id (suc its.0, omega (arith, its.1), its.2)))

@@ -10,13 +10,13 @@ use Rattle.heap_model.specs.declared.graph.cell.Cell.{Cell}
 use Rattle.heap_model.specs.declared.reply.Reply.TheVariants as replies
 use Rattle.heap_model.specs.graph.Graph.{GraphSeat}
 use Rattle.heap_model.specs.graph.Replies.{Says}
-use Rattle.core_rule.proofs.graph.CellSet.{sets_cell}
-use Rattle.core_rule.proofs.graph.GraphGrowth.{node_new, node_other}
-use Rattle.core_rule.proofs.graph.GraphSeats.{node_stays}
-use Rattle.core_rule.proofs.graph.Numbering.{id_tells}
-use Rattle.core_rule.proofs.growth.EntryGrowth.{grows_after, set_cell_there}
+use Rattle.core_rule.proofs.graph.CellSet.{write_sets_cell}
+use Rattle.core_rule.proofs.graph.GraphGrowth.{added_node_is_object, other_nodes_stay_by_add}
+use Rattle.core_rule.proofs.graph.GraphSeats.{nodes_stay_with_seat}
+use Rattle.core_rule.proofs.graph.Numbering.{same_id_test_decides}
+use Rattle.core_rule.proofs.growth.EntryGrowth.{grows_by_entry, set_finds_its_cell}
 use Rattle.core_rule.proofs.growth.Growing.{GrowsFrom}
-use Rattle.core_rule.proofs.growth.LaterGraphs.{made_after}
+use Rattle.core_rule.proofs.growth.LaterGraphs.{made_stays_after_entry}
 
 -- no object is new but one, which has so many spine words
 pub record MakesOne (g now : Graph) (words : ℕ) : Type 0 where
@@ -32,25 +32,25 @@ module _ (g : Graph) (number : ℕ) (present : (graph_seat g number).left ≡ fa
   makes_added : (d cells : ℕ) (array : Bool) (words : ℕ) → spine_words_of (fresh array cells) ≡ words → MakesOne g (add g number d (fresh array cells)) words
   makes_added d cells array words has = record {
     new = Made number (length (graph_seat g number).objects);
-    others = λ id made. elim (id_tells id (Made number (length (graph_seat g number).objects))) [
-      | inl same ↦ inr (same.1, ap (λ (o : Option Node). option_map_or spine_words_of o 0) (ap (node (add g number d (fresh array cells))) same.1 ∙ node_new g number d (fresh array cells) present) ∙ has)
-      | inr apart ↦ inl (subst (λ (o : Option Node). IsSome o) (node_other g number d (fresh array cells) present id apart.1) made)
+    others = λ id made. elim (same_id_test_decides id (Made number (length (graph_seat g number).objects))) [
+      | inl same ↦ inr (same.1, ap (λ (o : Option Node). option_map_or spine_words_of o 0) (ap (node (add g number d (fresh array cells))) same.1 ∙ added_node_is_object g number d (fresh array cells) present) ∙ has)
+      | inr apart ↦ inl (subst (λ (o : Option Node). IsSome o) (other_nodes_stay_by_add g number d (fresh array cells) present id apart.1) made)
     ];
   }
 
   -- one whose registers change makes none
   makes_seat : (p : GraphSeat) (words : ℕ) → p.objects ≡ (graph_seat g number).objects → MakesOne g (with_graph_seat g number p) words
-  makes_seat p words objects = makes_none g (with_graph_seat g number p) words (node_stays g number p present objects)
+  makes_seat p words objects = makes_none g (with_graph_seat g number p) words (nodes_stay_with_seat g number p present objects)
 
   -- nor does a set
   makes_set : (r i v stamp words : ℕ) → Says g number (commands.Set r i v) (replies.Was stamp) → MakesOne g (after_reply g number (commands.Set r i v) (replies.Was stamp)) words
   makes_set r i v stamp words sets =
-      let found = set_cell_there g number present r i v stamp sets in
+      let found = set_finds_its_cell g number present r i v stamp sets in
       let cell : Cell = record { value = register_value g number v; stamp = set_stamp number ((graph_seat g number).sets + 1) } in
-      let there = sets_cell g number found.1.id i cell found.1.object present found.1.there in
+      let there = write_sets_cell g number found.1.id i cell found.1.object present found.1.there in
       subst (λ value. MakesOne g (write (count_set g number) value i cell) words) (sym found.1.refers) record {
         new = Board;
-        others = λ id made. elim (id_tells id found.1.id) [
+        others = λ id made. elim (same_id_test_decides id found.1.id) [
           | inl same ↦ inl (subst (λ (o : Option Node). IsSome o) (sym (ap (node g) same.1 ∙ found.1.there)) refl)
           | inr apart ↦ inl (subst (λ (o : Option Node). IsSome o) (there.rest id apart.1) made)
         ];
@@ -68,9 +68,9 @@ module _ (g : Graph) (number : ℕ) (present : (graph_seat g number).left ≡ fa
   makes_said command reply says = makes_none g _ _ (λ id. refl)
 
 -- so an entry makes one at most
-pub makes_after : (g : Graph) (entry : Entry) → Accepts g entry → MakesOne g (after_entry g entry) (effect_of entry).words
-makes_after g (entries.Said number command reply) accepts = makes_said g number accepts.0 command reply accepts.2
-makes_after g entry accepts = makes_none g _ _ (λ id. refl)
+pub entry_makes_one : (g : Graph) (entry : Entry) → Accepts g entry → MakesOne g (after_entry g entry) (effect_of entry).words
+entry_makes_one g (entries.Said number command reply) accepts = makes_said g number accepts.0 command reply accepts.2
+entry_makes_one g entry accepts = makes_none g _ _ (λ id. refl)
 
 -- an object keeps its words as a graph grows
 words_stay : (g now : Graph) → GrowsFrom g now → (id : Id) → IsMade g id → spine_words_at now id ≡ spine_words_at g id
@@ -83,7 +83,7 @@ words_stay g now grows id made = by (node g id) refl made
         ap (λ (o : Option Node). option_map_or spine_words_of o 0) same.there ∙ cc (same.kind, same.cells) ∙ sym (ap (λ (o : Option Node). option_map_or spine_words_of o 0) is)
 
 -- and after a history
-pub words_after_all : (g : Graph) (history : List Entry) → AcceptsAll g history → (id : Id) → IsMade g id → spine_words_at (graph_after g history) id ≡ spine_words_at g id
-words_after_all g [] accepts id made = refl
-words_after_all g (entry ∷ history) accepts id made =
-    words_after_all (after_entry g entry) history accepts.1 id (made_after g entry accepts.0 id made) ∙ words_stay g (after_entry g entry) (grows_after g entry accepts.0) id made
+pub spine_words_stay_after_history : (g : Graph) (history : List Entry) → AcceptsAll g history → (id : Id) → IsMade g id → spine_words_at (graph_after g history) id ≡ spine_words_at g id
+spine_words_stay_after_history g [] accepts id made = refl
+spine_words_stay_after_history g (entry ∷ history) accepts id made =
+    spine_words_stay_after_history (after_entry g entry) history accepts.1 id (made_stays_after_entry g entry accepts.0 id made) ∙ words_stay g (after_entry g entry) (grows_by_entry g entry accepts.0) id made

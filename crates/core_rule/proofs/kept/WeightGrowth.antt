@@ -9,9 +9,9 @@ use Rattle.core_rule.proofs.book.Going.{OwnerGoes, stays, is_taken, is_given, is
 use Rattle.core_rule.proofs.lists.SumLemmas.{sum_le, sum_plus}
 
 -- a test counts once at most
-pub test_once : (b : Bool) → (if b then 1 else 0) ≤ 1
-test_once true = omega arith
-test_once false = omega arith
+pub test_counts_once : (b : Bool) → (if b then 1 else 0) ≤ 1
+test_counts_once true = omega arith
+test_counts_once false = omega arith
 
 test_less : (b : Bool) (now was : ℕ) → now ≤ was → (if b then now else 0) ≤ (if b then was else 0)
 test_less true now was less = less
@@ -22,8 +22,8 @@ test_later true now was more less = omega arith
 test_later false now was more less = less
 
 -- what was added to a history is added to its sums
-pub total-added : (part : Effect → ℕ) (history added : List Entry) → total part (history ++ added) ≡ total part history + total part added
-total-added part history added = sum_by-append (λ e. part (effect_of e)) history added
+pub total_of_appended : (part : Effect → ℕ) (history added : List Entry) → total part (history ++ added) ≡ total part history + total part added
+total_of_appended part history added = sum_by-append (λ e. part (effect_of e)) history added
 
 -- a number of each fragment that grows only where the fragment is taken grows by no more than what is taken
 module _ (heap : Heap) (count : ℕ) (owner now : ℕ → Owner) (history added : List Entry) (goes : OwnersGoOn count owner now) (used : AreUsed heap owner history) (used_now : AreUsed heap now (history ++ added)) where
@@ -32,9 +32,9 @@ module _ (heap : Heap) (count : ℕ) (owner now : ℕ → Owner) (history added 
     arith,
     used,
     used_now,
-    total-added (λ e. e.taken) history added,
-    total-added (λ e. e.given) history added,
-    total-added (λ e. e.freed) history added,
+    total_of_appended (λ e. e.taken) history added,
+    total_of_appended (λ e. e.given) history added,
+    total_of_appended (λ e. e.freed) history added,
   )
 
   pub weight_grows : (weight later : ℕ → ℕ) → ((f : ℕ) → later f ≤ weight f + (taken_bit (now f) - taken_bit (owner f))) → sum_upto (16 * heap.groups) later ≤ sum_upto (16 * heap.groups) weight + total (λ e. e.taken) added
@@ -61,8 +61,8 @@ module _ (made made_now : List Id) (ids : MadeGoesOn made made_now) where
   inside_goes inside _ _ within (is_taken number) = omega arith
   inside_goes inside _ _ within (is_given number) = omega arith
   inside_goes inside _ _ within (is_borne number) = omega arith
-  inside_goes inside _ _ within (takes_part number i k new) = omega (arith, test_once (inside (id_at made_now i)))
-  inside_goes inside _ _ within (becomes_part number i k new) = omega (arith, test_once (inside (id_at made_now i)))
+  inside_goes inside _ _ within (takes_part number i k new) = omega (arith, test_counts_once (inside (id_at made_now i)))
+  inside_goes inside _ _ within (becomes_part number i k new) = omega (arith, test_counts_once (inside (id_at made_now i)))
   inside_goes inside _ _ within (is_settled i k) = omega arith
   inside_goes inside _ _ within (is_freed i k) = omega arith
 
@@ -86,9 +86,9 @@ module _ (heap : Heap) (made made_now : List Id) (owner now : ℕ → Owner) (go
     (within : (f i k : ℕ) → owner f ≡ Kept i k → i < length made) where
   module _ (history added : List Entry) (used : AreUsed heap owner history) (used_now : AreUsed heap now (history ++ added)) where
     -- what is inside grows by no more than what was taken
-    pub size_grows : (inside : Id → Bool)
+    pub inside_grows_within_taken : (inside : Id → Bool)
         → sum_upto (16 * heap.groups) (λ f. inside_bit inside made_now (now f)) ≤ sum_upto (16 * heap.groups) (λ f. inside_bit inside made (owner f)) + total (λ e. e.taken) added
-    size_grows inside = weight_grows heap (length made) owner now history added goes used used_now (λ f. inside_bit inside made (owner f)) (λ f. inside_bit inside made_now (now f))
+    inside_grows_within_taken inside = weight_grows heap (length made) owner now history added goes used used_now (λ f. inside_bit inside made (owner f)) (λ f. inside_bit inside made_now (now f))
         (λ f. inside_goes made made_now ids inside (owner f) (now f) (within f) (goes.each f))
 
     -- so does what is taken in the groups that are still to be cleared
@@ -106,9 +106,9 @@ module _ (heap : Heap) (made made_now : List Id) (owner now : ℕ → Owner) (go
         (kept_goes made made_now ids begun (owner f) (now f) (within f) (new f) (goes.each f)))
 
     -- what is counted while marks are cleared goes on to be right
-    pub cleared_goes_on : (history added : List Entry) → AreUsed heap owner history → AreUsed heap now (history ++ added) → (most group kept : ℕ)
+    pub cleared_within_goes_on : (history added : List Entry) → AreUsed heap owner history → AreUsed heap now (history ++ added) → (most group kept : ℕ)
         → ClearedWithin heap made begun owner most group kept → ClearedWithin heap made_now begun now (most + total (λ e. e.taken) added) group kept
-    cleared_goes_on history added used used_now most group kept cleared = record {
+    cleared_within_goes_on history added used used_now most group kept cleared = record {
       at_most = omega (arith, cleared.at_most, to_clear_grows history added used used_now group);
       at_least = omega (arith, cleared.at_least, kept_falls group);
     }

@@ -9,10 +9,10 @@ use Rattle.heap_words.specs.declared.spot.Spot.{Spot}
 use Rattle.core_rule.proofs.Terms.{effect_of, words_granted, Entry, Heap, Id, Graph, Node, after_entry, graph_after, AcceptsAll, node, IsMade, spine_words_of, spine_words_at}
 use Rattle.core_rule.proofs.Terms.{spine_words_of_all, sum_upto, fragment_at, id_at, object_number, kept_weight, kept_sum, words_of_object, AreMade, Objects, node_in, node_at}
 use Rattle.core_rule.proofs.Terms.{Owner, Kept}
-use Rattle.core_machine.proofs.table_lemmas.Free.{sum_zero, sum_upto-none}
+use Rattle.core_machine.proofs.table_lemmas.Free.{sum_of_nothing_is_zero, sum_upto-none}
 use Rattle.core_rule.specs.footprint.Footprint.{is_among}
-use Rattle.core_rule.proofs.kept.NewWords.{makes_after, words_after_all}
-use Rattle.core_rule.proofs.graph.Numbering.{id_tells}
+use Rattle.core_rule.proofs.kept.NewWords.{entry_makes_one, spine_words_stay_after_history}
+use Rattle.core_rule.proofs.graph.Numbering.{same_id_test_decides}
 use Rattle.core_rule.proofs.lists.SumLemmas.{sum-suc, sum_le, sum_plus}
 
 -- a number at one place alone is no more in a sum
@@ -20,7 +20,7 @@ sum_at_one : (n at c : ℕ) → sum_upto n (λ f. if at == f then c else 0) ≤ 
 sum_at_one zero at c = omega (arith, sum_upto-none (λ f. if at == f then c else 0))
 sum_at_one (suc n) at c = elim (eqb_tells at n) as (λ _. sum_upto (suc n) (λ f. if at == f then c else 0) ≤ c) [
   | inl here ↦
-      let before = sum_zero n (λ f. if at == f then c else 0) (λ f below. elim (eqb_tells at f) as (λ _. (if at == f then c else 0) ≡ 0) [
+      let before = sum_of_nothing_is_zero n (λ f. if at == f then c else 0) (λ f below. elim (eqb_tells at f) as (λ _. (if at == f then c else 0) ≡ 0) [
         | inl same ↦ absurd (omega (arith, same.1, here.1, below))
         | inr apart ↦ rw apart.0 refl
       ]) in
@@ -46,8 +46,8 @@ head_or_none _ = inr (λ weight. refl)
 
 module _ (heap : Heap) (owner : ℕ → Owner) where
   -- kept weights are no more than two others together, where that is so of each kept object
-  pub kept_plus : (w u v : ℕ → ℕ) → ((f i : ℕ) → owner f ≡ Kept i 0 → w i ≤ u i + v i) → kept_sum heap w owner ≤ kept_sum heap u owner + kept_sum heap v owner
-  kept_plus w u v each =
+  pub kept_sum_within_both : (w u v : ℕ → ℕ) → ((f i : ℕ) → owner f ≡ Kept i 0 → w i ≤ u i + v i) → kept_sum heap w owner ≤ kept_sum heap u owner + kept_sum heap v owner
+  kept_sum_within_both w u v each =
       let both = sum_plus (16 * heap.groups) (λ f. kept_weight u (owner f) + kept_weight v (owner f)) (λ f. kept_weight u (owner f)) (λ f. kept_weight v (owner f)) (λ f below. refl) in
       let less = sum_le (16 * heap.groups) (λ f. kept_weight w (owner f)) (λ f. kept_weight u (owner f) + kept_weight v (owner f)) (λ f below. by f) in
       omega (arith, both, less)
@@ -60,7 +60,7 @@ module _ (heap : Heap) (owner : ℕ → Owner) where
 
   -- nothing where no kept object has any
   pub kept_none : (w : ℕ → ℕ) → ((f i : ℕ) → owner f ≡ Kept i 0 → w i ≡ 0) → kept_sum heap w owner ≡ 0
-  kept_none w each = sum_zero (16 * heap.groups) (λ f. kept_weight w (owner f)) (λ f below. elim (head_or_none (owner f)) [ inl head ↦ rw head.1 (each f head.0 head.1) | inr none ↦ none w ])
+  kept_none w each = sum_of_nothing_is_zero (16 * heap.groups) (λ f. kept_weight w (owner f)) (λ f below. elim (head_or_none (owner f)) [ inl head ↦ rw head.1 (each f head.0 head.1) | inr none ↦ none w ])
 
 module _ (heap : Heap) (words : List ℕ) (g : Graph) (made : List Id) (owner : ℕ → Owner) (fragments : ℕ → List ℕ) {spines : ℕ → Spot} (ids : AreMade g made) (objects : Objects heap words g made owner fragments spines) where
   -- the weight of one object is counted once
@@ -117,49 +117,49 @@ module _ (heap : Heap) (words : List ℕ) (g : Graph) (made : List Id) (owner : 
       less false = omega arith
 
   -- what was made since a graph has no more words than were granted since
-  pub since_words : (earlier : Graph) (later : List Entry) → AcceptsAll earlier later → graph_after earlier later ≡ g → kept_sum heap (words_new earlier) owner ≤ words_granted later
-  since_words earlier [] accepts same =
+  pub new_words_within_granted : (earlier : Graph) (later : List Entry) → AcceptsAll earlier later → graph_after earlier later ≡ g → kept_sum heap (words_new earlier) owner ≤ words_granted later
+  new_words_within_granted earlier [] accepts same =
       omega (
         arith,
         kept_none heap owner (words_new earlier) (λ f i is.
             let there : is_some (node earlier (id_at made i)) ≡ true = subst (λ h. IsMade h (id_at made i)) (sym same) (ids.in_graph i (objects.back f i 0 is).0) in
             rw there refl),
       )
-  since_words earlier (entry ∷ later) accepts same =
-      let makes = makes_after earlier entry accepts.0 in
+  new_words_within_granted earlier (entry ∷ later) accepts same =
+      let makes = entry_makes_one earlier entry accepts.0 in
       let now : Graph = after_entry earlier entry in
       let c : ℕ = (effect_of entry).words in
       let others : (id : Id) → IsMade now id → IsMade earlier id ⊎ ((id ≡ makes.new) × (spine_words_at g id ≡ c)) = λ id there. elim (makes.others id there) [
         | inl was ↦ inl was
-        | inr its ↦ inr (its.0, subst (λ h. spine_words_at h id ≡ c) same (words_after_all now later accepts.1 id there ∙ its.1))
+        | inr its ↦ inr (its.0, subst (λ h. spine_words_at h id ≡ c) same (spine_words_stay_after_history now later accepts.1 id there ∙ its.1))
       ] in
-      let parts = kept_plus heap owner (words_new earlier) (words_new now) (λ i. if i == object_number made makes.new then c else 0) (λ f i is. new_step earlier now makes.new c i (objects.back f i 0 is).0 others) in
-      omega (arith, parts, one_kept (object_number made makes.new) c, since_words now later accepts.1 same, sum_by-cons (λ e. (effect_of e).words) entry later)
+      let parts = kept_sum_within_both heap owner (words_new earlier) (words_new now) (λ i. if i == object_number made makes.new then c else 0) (λ f i is. new_step earlier now makes.new c i (objects.back f i 0 is).0 others) in
+      omega (arith, parts, one_kept (object_number made makes.new) c, new_words_within_granted now later accepts.1 same, sum_by-cons (λ e. (effect_of e).words) entry later)
 
   -- what is kept of some ids has no more words than their objects
-  pub among_words : (earlier : Graph) → ((id : Id) → IsMade earlier id → spine_words_at g id ≡ spine_words_at earlier id) → (xs : List Id) → ((id : Id) → is_among xs id ≡ true → IsMade earlier id)
+  pub kept_words_within_sizes : (earlier : Graph) → ((id : Id) → IsMade earlier id → spine_words_at g id ≡ spine_words_at earlier id) → (xs : List Id) → ((id : Id) → is_among xs id ≡ true → IsMade earlier id)
       → kept_sum heap (words_among xs) owner ≤ spine_words_of_all earlier xs
-  among_words earlier stay [] all = omega (arith, kept_none heap owner (words_among []) (λ f i is. refl))
-  among_words earlier stay (x ∷ xs) all =
+  kept_words_within_sizes earlier stay [] all = omega (arith, kept_none heap owner (words_among []) (λ f i is. refl))
+  kept_words_within_sizes earlier stay (x ∷ xs) all =
       let n : ℕ = object_number made x in
       let c : ℕ = spine_words_at earlier x in
-      let parts = kept_plus heap owner (words_among (x ∷ xs)) (λ i. if i == n then c else 0) (words_among xs) (λ f i is. by i (objects.back f i 0 is).0) in
-      omega (arith, parts, one_kept n c, among_words earlier stay xs (λ id there. all id (rest id there)), sum_by-cons (spine_words_at earlier) x xs)
+      let parts = kept_sum_within_both heap owner (words_among (x ∷ xs)) (λ i. if i == n then c else 0) (words_among xs) (λ f i is. by i (objects.back f i 0 is).0) in
+      omega (arith, parts, one_kept n c, kept_words_within_sizes earlier stay xs (λ id there. all id (rest id there)), sum_by-cons (spine_words_at earlier) x xs)
     where
       rest : (id : Id) → is_among xs id ≡ true → is_among (x ∷ xs) id ≡ true
-      rest id there = elim (id_tells id x) as (λ _. is_among (x ∷ xs) id ≡ true) [
+      rest id there = elim (same_id_test_decides id x) as (λ _. is_among (x ∷ xs) id ≡ true) [
         | inl same ↦ rw same.0 refl
         | inr apart ↦ rw apart.0 there
       ]
 
       its : is_among (x ∷ xs) x ≡ true
-      its = elim (id_tells x x) as (λ _. is_among (x ∷ xs) x ≡ true) [
+      its = elim (same_id_test_decides x x) as (λ _. is_among (x ∷ xs) x ≡ true) [
         | inl same ↦ rw same.0 refl
         | inr apart ↦ absurd (apart.1 refl)
       ]
 
       by : (i : ℕ) → i < length made → words_among (x ∷ xs) i ≤ (if i == object_number made x then spine_words_at earlier x else 0) + words_among xs i
-      by i below = elim (id_tells (id_at made i) x) as (λ _. words_among (x ∷ xs) i ≤ (if i == object_number made x then spine_words_at earlier x else 0) + words_among xs i) [
+      by i below = elim (same_id_test_decides (id_at made i) x) as (λ _. words_among (x ∷ xs) i ≤ (if i == object_number made x then spine_words_at earlier x else 0) + words_among xs i) [
         | inl same ↦
             let number : i ≡ object_number made x = sym (ids.distinct i below) ∙ ap (object_number made) same.1 in
             let has : words_of_object nodes i ≡ spine_words_at earlier x = words_in_node (node g (id_at made i)) ∙ ap (spine_words_at g) same.1 ∙ stay x (all x its) in

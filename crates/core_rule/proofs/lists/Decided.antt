@@ -24,18 +24,18 @@ one_where (inr fails) = 0
 
 -- of an element of a list, or of none
 module _ {A : Type 0} where
-  pub any_of : (P : A → Type 0) (xs : List A) (x : A) → Contains xs x → P x → Any P xs
-  any_of P xs x there holds = (there.0, x, there.1, there.2, holds)
+  pub any_of_contained : (P : A → Type 0) (xs : List A) (x : A) → Contains xs x → P x → Any P xs
+  any_of_contained P xs x there holds = (there.0, x, there.1, there.2, holds)
 
   pub any_decided : (P : A → Type 0) → ((x : A) → Decided (P x)) → (xs : List A) → Decided (Any P xs)
   any_decided P each [] = inr (λ any. absurd (omega (arith, any.2)))
   any_decided P each (x ∷ xs) = elim (each x) [
-    | inl holds ↦ inl (any_of P (x ∷ xs) x (contains_head x xs) holds)
+    | inl holds ↦ inl (any_of_contained P (x ∷ xs) x (contains_head x xs) holds)
     | inr fails ↦ elim (any_decided P each xs) [
-      | inl later ↦ inl (any_of P (x ∷ xs) later.1 (contains_tail x xs later.1 (later.0, later.2, later.3)) later.4)
+      | inl later ↦ inl (any_of_contained P (x ∷ xs) later.1 (contains_tail x xs later.1 (later.0, later.2, later.3)) later.4)
       | inr none ↦ inr (λ any. elim (contains_cases x xs any.1 (any.0, any.2, any.3)) [
         | inl first ↦ fails (subst P (sym first) any.4)
-        | inr later ↦ none (any_of P xs any.1 later any.4)
+        | inr later ↦ none (any_of_contained P xs any.1 later any.4)
       ])
     ]
   ]
@@ -45,11 +45,11 @@ module _ {A : Type 0} where
   count_of P each [] = 0
   count_of P each (x ∷ xs) = one_where (each x) + count_of P each xs
 
-  pub count_within : (P : A → Type 0) (each : (x : A) → Decided (P x)) (xs : List A) → count_of P each xs ≤ length xs
-  count_within P each [] = omega arith
-  count_within P each (x ∷ xs) = elim (each x) as (λ d. one_where d + count_of P each xs ≤ length (x ∷ xs)) [
-    | inl holds ↦ omega (arith, count_within P each xs)
-    | inr fails ↦ omega (arith, count_within P each xs)
+  pub count_within_length : (P : A → Type 0) (each : (x : A) → Decided (P x)) (xs : List A) → count_of P each xs ≤ length xs
+  count_within_length P each [] = omega arith
+  count_within_length P each (x ∷ xs) = elim (each x) as (λ d. one_where d + count_of P each xs ≤ length (x ∷ xs)) [
+    | inl holds ↦ omega (arith, count_within_length P each xs)
+    | inr fails ↦ omega (arith, count_within_length P each xs)
   ]
 
   -- where the one follows from the other, this holds of more elements, or of none that the other doesn't
@@ -80,6 +80,6 @@ module _ {A : Type 0} where
       ],
     )
 
-    pub grows : (xs : List A) → Grows xs
-    grows [] = inr (omega arith, λ y there holds. absurd (omega (arith, there.1)))
-    grows (x ∷ xs) = grows_by x xs (each x) (every x) (grows xs)
+    pub list_grows : (xs : List A) → Grows xs
+    list_grows [] = inr (omega arith, λ y there holds. absurd (omega (arith, there.1)))
+    list_grows (x ∷ xs) = grows_by x xs (each x) (every x) (list_grows xs)

@@ -4,7 +4,7 @@ use Rattle.std.proofs.lemmas.Bool.{cases_lt}
 use Rattle.std.proofs.lemmas.Bool.Decides.{eqb_tells}
 use Rattle.std.proofs.lemmas.List.Elements.{All-head, All-tail}
 use Rattle.core_rule.proofs.Terms.{tally}
-use Rattle.core_rule.proofs.lists.Tallies.{one_at_same, one_at_other}
+use Rattle.core_rule.proofs.lists.Tallies.{one_at_same_is_one, one_at_other_is_none}
 
 -- the place of a number's first occurrence in a list; its length where it has none
 abbrev pub place_of : ℕ → List ℕ → ℕ
@@ -12,14 +12,14 @@ place_of f [] = 0
 place_of f (x ∷ xs) = if x == f then 0 else place_of f xs + 1
 
 -- the number at a place stands in the list
-pub tally_at : (fs : List ℕ) (k : ℕ) → k < length fs → 1 ≤ tally (get_or fs k 0) fs
-tally_at [] k below = absurd (omega arith)
-tally_at (x ∷ xs) zero below = omega (arith, one_at_same x x refl)
-tally_at (x ∷ xs) (suc k) below = omega (arith, tally_at xs k (omega arith))
+pub element_is_tallied : (fs : List ℕ) (k : ℕ) → k < length fs → 1 ≤ tally (get_or fs k 0) fs
+element_is_tallied [] k below = absurd (omega arith)
+element_is_tallied (x ∷ xs) zero below = omega (arith, one_at_same_is_one x x refl)
+element_is_tallied (x ∷ xs) (suc k) below = omega (arith, element_is_tallied xs k (omega arith))
 
 -- a number at two places stands there twice
 tally_pair : (fs : List ℕ) (j k : ℕ) → j < k → k < length fs → get_or fs j 0 ≡ get_or fs k 0 → 2 ≤ tally (get_or fs k 0) fs
-tally_pair (x ∷ xs) zero (suc k) less below same = omega (arith, one_at_same x (get_or xs k 0) same, tally_at xs k (omega arith))
+tally_pair (x ∷ xs) zero (suc k) less below same = omega (arith, one_at_same_is_one x (get_or xs k 0) same, element_is_tallied xs k (omega arith))
 tally_pair (x ∷ xs) (suc j) (suc k) less below same = omega (arith, tally_pair xs j k (omega arith) (omega arith) same)
 tally_pair _ _ _ less below same = absurd (omega arith)
 
@@ -30,8 +30,8 @@ not_before fs j k once less below same =
     omega arith
 
 -- where each number stands once, places with the same number are the same
-pub same_place : (fs : List ℕ) (j k : ℕ) → ((f : ℕ) → tally f fs ≤ 1) → j < length fs → k < length fs → get_or fs j 0 ≡ get_or fs k 0 → j ≡ k
-same_place fs j k once p number same = elim (cases_lt j k) [
+pub equal_elements_same_place : (fs : List ℕ) (j k : ℕ) → ((f : ℕ) → tally f fs ≤ 1) → j < length fs → k < length fs → get_or fs j 0 ≡ get_or fs k 0 → j ≡ k
+equal_elements_same_place fs j k once p number same = elim (cases_lt j k) [
   | inl less ↦ absurd (not_before fs j k once less number same)
   | inr more ↦ elim (cases_lt k j) [
     | inl less ↦ absurd (not_before fs k j once less p (sym same))
@@ -44,21 +44,21 @@ place_past : (x f : ℕ) (xs : List ℕ) → (place_of f xs < length xs) × (get
 place_past x f xs rest = let one : place_of f xs + 1 ≡ suc (place_of f xs) = omega arith in (omega (arith, rest.0), rw one (rest.1))
 
 -- a number of the list stands at its place
-pub place_within : (f : ℕ) (fs : List ℕ) → 1 ≤ tally f fs → (place_of f fs < length fs) × (get_or fs (place_of f fs) 0 ≡ f)
-place_within f [] there = absurd (omega arith)
-place_within f (x ∷ xs) there = elim (eqb_tells x f) as (λ _. (place_of f (x ∷ xs) < length (x ∷ xs)) × (get_or (x ∷ xs) (place_of f (x ∷ xs)) 0 ≡ f)) [
+pub element_stands_at_place : (f : ℕ) (fs : List ℕ) → 1 ≤ tally f fs → (place_of f fs < length fs) × (get_or fs (place_of f fs) 0 ≡ f)
+element_stands_at_place f [] there = absurd (omega arith)
+element_stands_at_place f (x ∷ xs) there = elim (eqb_tells x f) as (λ _. (place_of f (x ∷ xs) < length (x ∷ xs)) × (get_or (x ∷ xs) (place_of f (x ∷ xs)) 0 ≡ f)) [
   | inl e ↦ rw e.0 (omega arith, e.1)
-  | inr e ↦ rw e.0 (place_past x f xs (place_within f xs (omega (arith, one_at_other x f e.1))))
+  | inr e ↦ rw e.0 (place_past x f xs (element_stands_at_place f xs (omega (arith, one_at_other_is_none x f e.1))))
 ]
 
 -- and in a list that has each once, nowhere else
-pub place_of-at : (fs : List ℕ) (k : ℕ) → ((f : ℕ) → tally f fs ≤ 1) → k < length fs → place_of (get_or fs k 0) fs ≡ k
-place_of-at fs k once below =
-    let there = place_within (get_or fs k 0) fs (tally_at fs k below) in
-    same_place fs (place_of (get_or fs k 0) fs) k once there.0 below there.1
+pub place_of_element_is_place : (fs : List ℕ) (k : ℕ) → ((f : ℕ) → tally f fs ≤ 1) → k < length fs → place_of (get_or fs k 0) fs ≡ k
+place_of_element_is_place fs k once below =
+    let there = element_stands_at_place (get_or fs k 0) fs (element_is_tallied fs k below) in
+    equal_elements_same_place fs (place_of (get_or fs k 0) fs) k once there.0 below there.1
 
 -- what holds of each number of a list
-pub all_at : (P : ℕ → Type 0) (fs : List ℕ) (k : ℕ) → All P fs → k < length fs → P (get_or fs k 0)
-all_at P [] k all below = absurd (omega arith)
-all_at P (x ∷ xs) zero all below = All-head P x xs all
-all_at P (x ∷ xs) (suc k) all below = all_at P xs k (All-tail P x xs all) (omega arith)
+pub all_holds_at_place : (P : ℕ → Type 0) (fs : List ℕ) (k : ℕ) → All P fs → k < length fs → P (get_or fs k 0)
+all_holds_at_place P [] k all below = absurd (omega arith)
+all_holds_at_place P (x ∷ xs) zero all below = All-head P x xs all
+all_holds_at_place P (x ∷ xs) (suc k) all below = all_holds_at_place P xs k (All-tail P x xs all) (omega arith)

@@ -6,8 +6,8 @@ use Rattle.std.proofs.lemmas.List.{get_or_append_left, length-append}
 use Rattle.std.proofs.lemmas.List.Elements.{All-append, All-weaker, All-head, All-tail}
 use Rattle.std.proofs.lemmas.List.Kept.{AllPairs-cons}
 use Rattle.core_rule.proofs.Terms.{part_in, part_out, tally, fragment_at}
-use Rattle.core_rule.proofs.lists.Members.{tally_at, place_of, place_within, same_place}
-use Rattle.core_rule.proofs.lists.Parts.{not_there}
+use Rattle.core_rule.proofs.lists.Members.{element_is_tallied, place_of, element_stands_at_place, equal_elements_same_place}
+use Rattle.core_rule.proofs.lists.Parts.{zero_where_not_positive}
 
 module _ (R : ℕ → ℕ → Type 0) where
   pairs_head : (x : ℕ) (xs : List ℕ) → AllPairs R (x ∷ xs) → All (R x) xs
@@ -16,26 +16,26 @@ module _ (R : ℕ → ℕ → Type 0) where
   pairs_tail : (x : ℕ) (xs : List ℕ) → AllPairs R (x ∷ xs) → AllPairs R xs
   pairs_tail x xs pairs i j d less below = pairs (suc i) (suc j) d (omega (arith, less)) (omega (arith, below))
 
-  pub pairs_front : (xs ys : List ℕ) → AllPairs R (xs ++ ys) → AllPairs R xs
-  pairs_front xs ys pairs i j d less below =
+  pub pairs_of_front : (xs ys : List ℕ) → AllPairs R (xs ++ ys) → AllPairs R xs
+  pairs_of_front xs ys pairs i j d less below =
       rw (← get_or_append_left xs ys d i (omega (arith, less, below)), ← get_or_append_left xs ys d j below)
       (pairs i j d less (rw (length-append xs ys) (omega (arith, below))))
 
-  pub pairs_append : (P Q : ℕ → Type 0) → ((x y : ℕ) → P x → Q y → R x y) → (xs ys : List ℕ) → All P xs → All Q ys → AllPairs R xs → AllPairs R ys → AllPairs R (xs ++ ys)
-  pairs_append P Q cross [] ys first second front back = back
-  pairs_append P Q cross (x ∷ xs) ys first second front back =
+  pub pairs_of_append : (P Q : ℕ → Type 0) → ((x y : ℕ) → P x → Q y → R x y) → (xs ys : List ℕ) → All P xs → All Q ys → AllPairs R xs → AllPairs R ys → AllPairs R (xs ++ ys)
+  pairs_of_append P Q cross [] ys first second front back = back
+  pairs_of_append P Q cross (x ∷ xs) ys first second front back =
       AllPairs-cons R x (xs ++ ys)
       (All-append (R x) xs ys (pairs_head x xs front) (All-weaker Q (R x) (λ y is. cross x y (first zero 0 (omega arith)) is) ys second))
-      (pairs_append P Q cross xs ys (λ i d below. first (suc i) d (omega (arith, below))) second (pairs_tail x xs front) back)
+      (pairs_of_append P Q cross xs ys (λ i d below. first (suc i) d (omega (arith, below))) second (pairs_tail x xs front) back)
 
   -- by reads with the default 0
-  pub pairs_zero : (xs : List ℕ) → ((i j : ℕ) → i < j → j < length xs → R (get_or xs i 0) (get_or xs j 0)) → AllPairs R xs
-  pairs_zero xs pairs i j d less below =
+  pub pairs_by_zero_reads : (xs : List ℕ) → ((i j : ℕ) → i < j → j < length xs → R (get_or xs i 0) (get_or xs j 0)) → AllPairs R xs
+  pairs_by_zero_reads xs pairs i j d less below =
       rw (get_or_default_zero xs i d (omega (arith, less, below)), get_or_default_zero xs j d below) (pairs i j less below)
 
 -- all of one claim
-pub pairs_all : (R : ℕ → ℕ → Type 0) (P : ℕ → Type 0) → ((x y : ℕ) → P x → P y → R x y) → (xs : List ℕ) → All P xs → AllPairs R xs
-pairs_all R P each xs all i j d less below = each _ _ (all i d (omega (arith, less, below))) (all j d below)
+pub pairs_of_any : (R : ℕ → ℕ → Type 0) (P : ℕ → Type 0) → ((x y : ℕ) → P x → P y → R x y) → (xs : List ℕ) → All P xs → AllPairs R xs
+pairs_of_any R P each xs all i j d less below = each _ _ (all i d (omega (arith, less, below))) (all j d below)
 
 module _ (g : ℕ) where
   -- a list of one group's fragments is all in it
@@ -54,25 +54,25 @@ module _ (g : ℕ) where
   ]
 
   -- where all behind one of the group's are of the group, these are the list's last ones
-  pub group_last : (xs : List ℕ) → AllPairs (λ f h. f / 16 ≡ g → h / 16 ≡ g) xs → part_out g xs ++ part_in g xs ≡ xs
-  group_last [] pairs = refl
-  group_last (x ∷ xs) pairs = elim (eqb_tells (x / 16) g) as (λ _. part_out g (x ∷ xs) ++ part_in g (x ∷ xs) ≡ x ∷ xs) [
+  pub group_part_stands_last : (xs : List ℕ) → AllPairs (λ f h. f / 16 ≡ g → h / 16 ≡ g) xs → part_out g xs ++ part_in g xs ≡ xs
+  group_part_stands_last [] pairs = refl
+  group_part_stands_last (x ∷ xs) pairs = elim (eqb_tells (x / 16) g) as (λ _. part_out g (x ∷ xs) ++ part_in g (x ∷ xs) ≡ x ∷ xs) [
     | inl here ↦
         let behind : All (λ f. f / 16 ≡ g) xs = λ i d below. pairs_head (λ f h. f / 16 ≡ g → h / 16 ≡ g) x xs pairs i d below here.1 in
         rw (here.0, none_out xs behind, all_in xs behind) refl
-    | inr away ↦ rw away.0 (ap (λ ys. x ∷ ys) (group_last xs (pairs_tail (λ f h. f / 16 ≡ g → h / 16 ≡ g) x xs pairs)))
+    | inr away ↦ rw away.0 (ap (λ ys. x ∷ ys) (group_part_stands_last xs (pairs_tail (λ f h. f / 16 ≡ g → h / 16 ≡ g) x xs pairs)))
   ]
 
 -- what stands behind one that isn't of the front isn't either
-pub past_front : (front rest body : List ℕ) (k m : ℕ) → body ≡ front ++ rest → ((f : ℕ) → tally f body ≤ 1) → k < m → m < length body
+pub behind_front_not_in_front : (front rest body : List ℕ) (k m : ℕ) → body ≡ front ++ rest → ((f : ℕ) → tally f body ≤ 1) → k < m → m < length body
     → tally (fragment_at body k) front ≡ 0 → tally (fragment_at body m) front ≡ 0
-past_front front rest body k m parted once behind below away = not_there (tally (fragment_at body m) front) (λ there.
-    let place = place_within (fragment_at body m) front there in
+behind_front_not_in_front front rest body k m parted once behind below away = zero_where_not_positive (tally (fragment_at body m) front) (λ there.
+    let place = element_stands_at_place (fragment_at body m) front there in
     let long : length body ≡ length front + length rest = ap length parted ∙ length-append front rest in
     let read : (i : ℕ) → i < length front → get_or body i 0 ≡ get_or front i 0 = λ i less. ap (λ xs. get_or xs i 0) parted ∙ get_or_append_left front rest 0 i less in
     let same : place_of (fragment_at body m) front ≡ m
-    = same_place body (place_of (fragment_at body m) front) m once (omega (arith, long, place.0)) below (read _ place.0 ∙ place.1) in
+    = equal_elements_same_place body (place_of (fragment_at body m) front) m once (omega (arith, long, place.0)) below (read _ place.0 ∙ place.1) in
     let less : k < length front = omega (arith, same, place.0, behind) in
-    let some : 1 ≤ tally (get_or front k 0) front = tally_at front k less in
+    let some : 1 ≤ tally (get_or front k 0) front = element_is_tallied front k less in
     let none : tally (get_or front k 0) front ≡ 0 = ap (λ f. tally f front) (sym (read k less)) ∙ away in
     omega (arith, some, none))

@@ -5,15 +5,15 @@ use Rattle.std.proofs.lemmas.Bool.{false≢true, true≢false, eq-eqb}
 use Rattle.std.proofs.lemmas.Bool.Decides.{eqb_tells}
 use Rattle.std.proofs.lemmas.List.Filters.{length-filter_both}
 use Rattle.core_rule.proofs.Terms.{in_group, out_of_group, part_in, part_out, tally, first_group_of, sum_upto, one_at}
-use Rattle.core_machine.proofs.table_lemmas.Bits.{bool_tells}
-use Rattle.core_machine.proofs.table_lemmas.Free.{sum_zero}
+use Rattle.core_machine.proofs.table_lemmas.Bits.{true_or_false}
+use Rattle.core_machine.proofs.table_lemmas.Free.{sum_of_nothing_is_zero}
 use Rattle.core_rule.proofs.lists.SumLemmas.{sum_parts}
-use Rattle.core_rule.proofs.lists.Tallies.{one_at_same, one_at_other, sum_tally}
+use Rattle.core_rule.proofs.lists.Tallies.{one_at_same_is_one, one_at_other_is_none, sum_of_tallies_is_length}
 
 -- a number of things is none where it isn't one or more
-pub not_there : (n : ℕ) → (1 ≤ n → ⊥) → n ≡ 0
-not_there zero none = refl
-not_there (suc n) none = absurd (none (omega arith))
+pub zero_where_not_positive : (n : ℕ) → (1 ≤ n → ⊥) → n ≡ 0
+zero_where_not_positive zero none = refl
+zero_where_not_positive (suc n) none = absurd (none (omega arith))
 
 tally-cond : (f x : ℕ) (xs : List ℕ) (b : Bool) → tally f (cond b (x ∷ xs) xs) ≡ cond {A = ℕ} b (one_at x f) 0 + tally f xs
 tally-cond f x xs true = refl
@@ -34,7 +34,7 @@ kept_too false true one t u e (inr same) = absurd (false≢true same)
 same_or_none : (p : ℕ → Bool) (x f : ℕ) → (one_at x f ≡ 0) ⊎ (p x ≡ p f)
 same_or_none p x f = elim (eqb_tells x f) as (λ _. (one_at x f ≡ 0) ⊎ (p x ≡ p f)) [
   | inl same ↦ inr (ap p same.1)
-  | inr apart ↦ inl (one_at_other x f apart.1)
+  | inr apart ↦ inl (one_at_other_is_none x f apart.1)
 ]
 
 -- a fragment stands in the filtered list where it passes, as often as before
@@ -52,30 +52,30 @@ tally-filter_no p f xs fails = tally-filter p f xs ∙ rw fails refl
 pub tally-range_below : (f a n : ℕ) → f < a → tally f (range_with_len a n) ≡ 0
 tally-range_below f a zero low = refl
 tally-range_below f a (suc n) low =
-    omega (arith, one_at_other a f (λ e. omega (arith, e)), tally-range_below f (a + 1) n (omega arith))
+    omega (arith, one_at_other_is_none a f (λ e. omega (arith, e)), tally-range_below f (a + 1) n (omega arith))
 
 pub tally-range : (f a n : ℕ) → a ≤ f → f < a + n → tally f (range_with_len a n) ≡ 1
 tally-range f a zero low high = absurd (omega arith)
 tally-range f a (suc n) low high = elim (eqb_tells a f) as (λ _. tally f (range_with_len a (suc n)) ≡ 1) [
-  | inl same ↦ omega (arith, one_at_same a f same.1, tally-range_below f (a + 1) n (omega (arith, same.1)))
-  | inr apart ↦ omega (arith, one_at_other a f apart.1, tally-range f (a + 1) n (omega (arith, apart.1)) (omega arith))
+  | inl same ↦ omega (arith, one_at_same_is_one a f same.1, tally-range_below f (a + 1) n (omega (arith, same.1)))
+  | inr apart ↦ omega (arith, one_at_other_is_none a f apart.1, tally-range f (a + 1) n (omega (arith, apart.1)) (omega arith))
 ]
 
 pub tally-range_above : (f a n : ℕ) → a + n ≤ f → tally f (range_with_len a n) ≡ 0
 tally-range_above f a zero high = refl
 tally-range_above f a (suc n) high =
-    omega (arith, one_at_other a f (λ e. omega (arith, e)), tally-range_above f (a + 1) n (omega arith))
+    omega (arith, one_at_other_is_none a f (λ e. omega (arith, e)), tally-range_above f (a + 1) n (omega arith))
 
 module _ (g f : ℕ) (xs : List ℕ) where
   -- the part in a group has what is of the group
-  pub part_in-here : f / 16 ≡ g → tally f (part_in g xs) ≡ tally f xs
-  part_in-here here = tally-filter_yes (in_group g) f xs (elim (eqb_tells (f / 16) g) as (λ _. in_group g f ≡ true) [
+  pub part_in_has_own_group : f / 16 ≡ g → tally f (part_in g xs) ≡ tally f xs
+  part_in_has_own_group here = tally-filter_yes (in_group g) f xs (elim (eqb_tells (f / 16) g) as (λ _. in_group g f ≡ true) [
     | inl same ↦ same.0
     | inr apart ↦ absurd (apart.1 here)
   ])
 
-  pub part_in-away : f / 16 ≢ g → tally f (part_in g xs) ≡ 0
-  part_in-away away = tally-filter_no (in_group g) f xs (elim (eqb_tells (f / 16) g) as (λ _. in_group g f ≡ false) [
+  pub part_in_has_no_other : f / 16 ≢ g → tally f (part_in g xs) ≡ 0
+  part_in_has_no_other away = tally-filter_no (in_group g) f xs (elim (eqb_tells (f / 16) g) as (λ _. in_group g f ≡ false) [
     | inl same ↦ absurd (away same.1)
     | inr apart ↦ apart.0
   ])
@@ -93,33 +93,33 @@ module _ (g f : ℕ) (xs : List ℕ) where
   ])
 
   -- both parts together are the list
-  pub parts_tally : tally f (part_in g xs) + tally f (part_out g xs) ≡ tally f xs
-  parts_tally = elim (eqb_tells (f / 16) g) as (λ _. tally f (part_in g xs) + tally f (part_out g xs) ≡ tally f xs) [
-    | inl same ↦ omega (arith, part_in-here same.1, part_out-here same.1)
-    | inr apart ↦ omega (arith, part_in-away apart.1, part_out-away apart.1)
+  pub part_tallies_make_whole : tally f (part_in g xs) + tally f (part_out g xs) ≡ tally f xs
+  part_tallies_make_whole = elim (eqb_tells (f / 16) g) as (λ _. tally f (part_in g xs) + tally f (part_out g xs) ≡ tally f xs) [
+    | inl same ↦ omega (arith, part_in_has_own_group same.1, part_out-here same.1)
+    | inr apart ↦ omega (arith, part_in_has_no_other apart.1, part_out-away apart.1)
   ]
 
 -- so are their lengths
-pub parts_length : (g : ℕ) (xs : List ℕ) → length (part_in g xs) + length (part_out g xs) ≡ length xs
-parts_length g xs = length-filter_both (in_group g) (out_of_group g) (λ x. refl) xs
+pub part_lengths_make_whole : (g : ℕ) (xs : List ℕ) → length (part_in g xs) + length (part_out g xs) ≡ length xs
+part_lengths_make_whole g xs = length-filter_both (in_group g) (out_of_group g) (λ x. refl) xs
 
 -- a list of fragments of one group, each counted in the group
-pub group_length : (g : ℕ) (fs : List ℕ) → ((f : ℕ) → 1 ≤ tally f fs → f / 16 ≡ g) → sum_upto 16 (λ j. tally (16 * g + j) fs) ≡ length fs
-group_length g fs here =
-    let all : sum_upto (16 * g + 16) (λ f. tally f fs) ≡ length fs = sum_tally (16 * g + 16) fs (λ f there. omega (arith, here f there)) in
-    let before : sum_upto (16 * g) (λ f. tally f fs) ≡ 0 = sum_zero (16 * g) (λ f. tally f fs) (λ f below. not_there (tally f fs) (λ there. omega (arith, here f there, below))) in
+pub group_tallies_are_length : (g : ℕ) (fs : List ℕ) → ((f : ℕ) → 1 ≤ tally f fs → f / 16 ≡ g) → sum_upto 16 (λ j. tally (16 * g + j) fs) ≡ length fs
+group_tallies_are_length g fs here =
+    let all : sum_upto (16 * g + 16) (λ f. tally f fs) ≡ length fs = sum_of_tallies_is_length (16 * g + 16) fs (λ f there. omega (arith, here f there)) in
+    let before : sum_upto (16 * g) (λ f. tally f fs) ≡ 0 = sum_of_nothing_is_zero (16 * g) (λ f. tally f fs) (λ f below. zero_where_not_positive (tally f fs) (λ there. omega (arith, here f there, below))) in
     let parts : sum_upto (16 * g + 16) (λ f. tally f fs) ≡ sum_upto (16 * g) (λ f. tally f fs) + sum_upto 16 (λ j. tally (16 * g + j) fs) = sum_parts (16 * g) 16 (λ f. tally f fs) in
     omega (arith, all, before, parts)
 
 -- the first group of a hand has a fragment of it
-pub first_some : (hand : List ℕ) → 0 < length hand → 1 ≤ length (part_in (first_group_of hand) hand)
-first_some [] some = absurd (omega (arith, some))
-first_some (f ∷ hand) some = let here : in_group (f / 16) f ≡ true = eq-eqb (f / 16) (f / 16) refl in rw here (omega arith)
+pub first_group_part_is_some : (hand : List ℕ) → 0 < length hand → 1 ≤ length (part_in (first_group_of hand) hand)
+first_group_part_is_some [] some = absurd (omega (arith, some))
+first_group_part_is_some (f ∷ hand) some = let here : in_group (f / 16) f ≡ true = eq-eqb (f / 16) (f / 16) refl in rw here (omega arith)
 
 -- a filter that all pass keeps the list
-pub filter_all : (p : ℕ → Bool) (xs : List ℕ) → list_all p xs ≡ true → filter p xs ≡ xs
-filter_all p [] all = refl
-filter_all p (x ∷ xs) all = elim (bool_tells (p x)) as (λ _. filter p (x ∷ xs) ≡ x ∷ xs) [
-  | inl passes ↦ rw passes (ap (λ ys. x ∷ ys) (filter_all p xs (rw passes at all)))
+pub filter_keeps_all : (p : ℕ → Bool) (xs : List ℕ) → list_all p xs ≡ true → filter p xs ≡ xs
+filter_keeps_all p [] all = refl
+filter_keeps_all p (x ∷ xs) all = elim (true_or_false (p x)) as (λ _. filter p (x ∷ xs) ≡ x ∷ xs) [
+  | inl passes ↦ rw passes (ap (λ ys. x ∷ ys) (filter_keeps_all p xs (rw passes at all)))
   | inr fails ↦ absurd (false≢true (rw fails at all))
 ]

@@ -1,7 +1,7 @@
 -- Sums over all numbers below one.
 use Rattle.std.proofs.Common.{◌≡◌, ℕ, zero, suc, ◌+◌, ◌*◌, ◌<◌, ◌≤◌, ◌-◌, ◌%◌, refl, ap, subst, arith}
 use Rattle.core_rule.proofs.Terms.{sum_upto}
-use Rattle.core_machine.proofs.table_lemmas.Free.{sum_same, sum_upto-none}
+use Rattle.core_machine.proofs.table_lemmas.Free.{sum_of_same_functions, sum_upto-none}
 
 -- a sum of one more
 pub sum-suc : (n : ℕ) (f : ℕ → ℕ) → sum_upto (suc n) f ≡ sum_upto n f + f n
@@ -61,9 +61,9 @@ sum_wrapped n c f within =
     let wrapped : sum_upto ((n - c) + c) (λ j. f ((c + j) % n)) ≡ sum_upto (n - c) (λ j. f ((c + j) % n)) + sum_upto c (λ i. f ((c + ((n - c) + i)) % n))
     = sum_parts (n - c) c (λ j. f ((c + j) % n)) in
     let first : sum_upto (n - c) (λ j. f ((c + j) % n)) ≡ sum_upto (n - c) (λ i. f (c + i))
-    = sum_same (n - c) (λ j. f ((c + j) % n)) (λ i. f (c + i)) (λ j below. ap f (mod_below (c + j) n (omega (arith, below, within)))) in
+    = sum_of_same_functions (n - c) (λ j. f ((c + j) % n)) (λ i. f (c + i)) (λ j below. ap f (mod_below (c + j) n (omega (arith, below, within)))) in
     let second : sum_upto c (λ i. f ((c + ((n - c) + i)) % n)) ≡ sum_upto c f
-    = sum_same c (λ i. f ((c + ((n - c) + i)) % n)) f (λ i below. ap f (mod_past i n (c + ((n - c) + i)) (omega (arith, within)) (omega (arith, below, within)))) in
+    = sum_of_same_functions c (λ i. f ((c + ((n - c) + i)) % n)) f (λ i below. ap f (mod_past i n (c + ((n - c) + i)) (omega (arith, within)) (omega (arith, below, within)))) in
     let left : sum_upto n (λ j. f ((c + j) % n)) ≡ sum_upto (n - c) (λ i. f (c + i)) + sum_upto c f
     = subst (λ m. sum_upto m (λ j. f ((c + j) % n)) ≡ sum_upto (n - c) (λ i. f (c + i)) + sum_upto c f) turned (omega (arith, wrapped, first, second)) in
     let right : sum_upto n f ≡ sum_upto c f + sum_upto (n - c) (λ i. f (c + i))

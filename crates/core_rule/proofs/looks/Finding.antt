@@ -6,7 +6,7 @@ use Rattle.std.proofs.lemmas.List.{append-nil}
 use Rattle.core_rule.proofs.Terms.{Entry, Heap, phase, last_answer, has_left, since_reply, is_reply_to, Place, State, at, Book, Rule}
 use Rattle.heap_model.specs.Behind.{behind_of}
 use Rattle.heap_model.specs.account.Phases.{IsBehind, WasBehind}
-use Rattle.heap_model.proofs.account_lemmas.Windows.{parts, all_since}
+use Rattle.heap_model.proofs.account_lemmas.Windows.{window_parts_make_whole, total_since_reply}
 use Rattle.core_machine.specs.declared.place.Access.TheVariants.{Naming}
 use Rattle.core_machine.specs.declared.place.Collecting.TheVariants.{Asking, Comparing}
 use Rattle.core_machine.specs.declared.place.Place.TheVariants as places
@@ -14,7 +14,7 @@ use Rattle.core_machine.specs.declared.table.address.Address.TheVariants.{Answer
 use Rattle.core_machine.specs.declared.seat.looks.Looks.{Looks}
 use Rattle.core_machine.specs.seat.Looks.{first_of, looked, seen_phase, compared, found_behind}
 use Rattle.core_rule.specs.looks.Looks.{WasSeen, WasFound, IsOther, HasCompared, LooksStand}
-use Rattle.core_rule.proofs.looks.Words.{word_below}
+use Rattle.core_rule.proofs.looks.Words.{word_is_last_answer}
 
 module _ (heap : Heap) (state : State) (book : Book) (rule : Rule heap state book) (number : ℕ) where
   abbrev history : List Entry
@@ -27,8 +27,8 @@ module _ (heap : Heap) (state : State) (book : Book) (rule : Rule heap state boo
   is_phase = rule.heap_stands.cycle.word
 
   -- a load of the phase
-  pub looks_seen : (place : Place) (looks : Looks) → ((other p : ℕ) → place ≢ places.Collecting (Comparing other p)) → LooksStand heap history number place looks → LooksStand heap history number place (seen_phase found looks)
-  looks_seen place looks uncompared stands = record {
+  pub looks_stand_after_seen : (place : Place) (looks : Looks) → ((other p : ℕ) → place ≢ places.Collecting (Comparing other p)) → LooksStand heap history number place looks → LooksStand heap history number place (seen_phase found looks)
+  looks_stand_after_seen place looks uncompared stands = record {
     seen = omega (arith, is_phase);
     found = λ unnamed. record { first = (stands.found unnamed).first; behind = (stands.found unnamed).behind };
     asks = stands.asks;
@@ -40,22 +40,22 @@ module _ (heap : Heap) (state : State) (book : Book) (rule : Rule heap state boo
   over looks other p comparing = absurd (cc comparing)
 
   seen_now : WasSeen history number found
-  seen_now = record { since = omega (arith, is_phase, all_since number (λ e. e.phases) history); begun = omega (arith, is_phase) }
+  seen_now = record { since = omega (arith, is_phase, total_since_reply number (λ e. e.phases) history); begun = omega (arith, is_phase) }
 
   first_now : (first : Option ℕ) → IfSome first (WasSeen history number) → IfSome (first_of first found) (WasSeen history number)
   first_now None seen = seen_now
   first_now (Some p) seen = seen
 
   -- a look
-  pub looks_looked : (place : Place) (looks : Looks) → place ≢ places.Access Naming → LooksStand heap history number place looks → LooksStand heap history number places.Idle (looked found looks)
-  looks_looked place looks unnamed stands =
+  pub looks_stand_after_look : (place : Place) (looks : Looks) → place ≢ places.Access Naming → LooksStand heap history number place looks → LooksStand heap history number places.Idle (looked found looks)
+  looks_stand_after_look place looks unnamed stands =
       let was = stands.found unnamed in
       record { seen = omega (arith, is_phase); found = λ still. record { first = first_now looks.first was.first; behind = was.behind }; asks = tt; compares = over (looked found looks) }
 
   -- the phase with which another seat's word is to be compared
-  pub looks_asked : (other : ℕ) (looks : Looks) → LooksStand heap history number (places.Collecting (Asking other)) looks
+  pub looks_stand_while_comparing : (other : ℕ) (looks : Looks) → LooksStand heap history number (places.Collecting (Asking other)) looks
       → LooksStand heap history number (places.Collecting (Comparing other found)) (seen_phase found looks)
-  looks_asked other looks stands =
+  looks_stand_while_comparing other looks stands =
       let was = stands.found (λ named. cc named) in
       let asked : IsOther heap number other = stands.asks in
       record {
@@ -78,14 +78,14 @@ module _ (heap : Heap) (state : State) (book : Book) (rule : Rule heap state boo
               since_reply number history,
               [],
               sym (append-nil (since_reply number history)),
-              subst (λ es. IsBehind other (last_answer other history) found es) (sym (parts (is_reply_to number) history)) record { present = present; answered = refl; here = sym is_phase },
+              subst (λ es. IsBehind other (last_answer other history) found es) (sym (window_parts_make_whole (is_reply_to number) history)) record { present = present; answered = refl; here = sym is_phase },
             ),
           )
 
   -- another seat's word
-  pub looks_compared : (other p : ℕ) (looks : Looks) → LooksStand heap history number (places.Collecting (Comparing other p)) looks
+  pub looks_stand_after_compare : (other p : ℕ) (looks : Looks) → LooksStand heap history number (places.Collecting (Comparing other p)) looks
       → LooksStand heap history number places.Idle (compared other p (at heap state.words (Answer other)) looks)
-  looks_compared other p looks stands =
+  looks_stand_after_compare other p looks stands =
       elim (leb_tells (suc word) p) as (λ _. LooksStand heap history number places.Idle (compared other p word looks)) [
         | inl less ↦ subst (λ b. LooksStand heap history number places.Idle (if b then found_behind (behind_of other word p) looks else record looks { behind = None }))
             (sym less.0) record { seen = stands.seen; found = λ still. record { first = (stands.found (λ named. cc named)).first; behind = behind less.1 }; asks = tt; compares = over looks }
@@ -101,7 +101,7 @@ module _ (heap : Heap) (state : State) (book : Book) (rule : Rule heap state boo
 
       behind : word < p → WasFound heap history number (behind_of other word p)
       behind less =
-          let told = word_below heap state book rule other asks.asked.below word refl (omega (arith, less, asks.begun)) in
+          let told = word_is_last_answer heap state book rule other asks.asked.below word refl (omega (arith, less, asks.begun)) in
           let its = asks.behind told.0 (omega (arith, less, told.1)) in
           record {
             below = asks.asked.below;

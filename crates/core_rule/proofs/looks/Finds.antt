@@ -8,9 +8,9 @@ use Rattle.core_rule.proofs.Terms.{next_move, due_step, Seat, absent_seat, Book}
 use Rattle.core_machine.specs.declared.seat.looks.Looks.{Looks}
 use Rattle.core_rule.specs.Stands.{Stands}
 use Rattle.core_rule.specs.looks.Finds.{FollowsSteps, step_made, EachEventIsFollowed}
-use Rattle.core_rule.proofs.looks.Ways.{begin_stays}
-use Rattle.core_rule.proofs.looks.Follows.{MoveFollows, blind_follows}
-use Rattle.core_rule.proofs.steps.Seats.{step_kind}
+use Rattle.core_rule.proofs.looks.Ways.{stays_found_after_begin}
+use Rattle.core_rule.proofs.looks.Follows.{MoveFollows, looks_follow_blind_step}
+use Rattle.core_rule.proofs.steps.Seats.{step_kind_of_each_place}
 
 module _ (heap : Heap) (state : State) where
   -- where one seat is another
@@ -31,7 +31,7 @@ module _ (heap : Heap) (state : State) where
 
   -- nothing is found out by an event that is no step of the seat
   unmoved : (old new : Looks) → new ≡ old → FollowsSteps heap state None old new
-  unmoved old new same = blind_follows heap state None old new tt (ap (λ (l : Looks). l.waits) same) (ap (λ (l : Looks). l.seen) same)
+  unmoved old new same = looks_follow_blind_step heap state None old new tt (ap (λ (l : Looks). l.waits) same) (ap (λ (l : Looks). l.seen) same)
 
   -- by the seat's own step
   own_step : (number : ℕ) → number < length state.seats → (move : Option Move) → MoveFollows heap state (seat_at state number) move
@@ -46,23 +46,23 @@ module _ (heap : Heap) (state : State) where
   other_step number other apart (Some move) = ap (λ (s : Seat). s.looks) (other_same number other _ apart)
 
 -- each event is followed
-pub event_follows : (heap : Heap) (state : State) (book : Book) (event : Event) (number : ℕ) → Stands heap state book → Can heap state event → number < heap.seats
+pub looks_follow_event : (heap : Heap) (state : State) (book : Book) (event : Event) (number : ℕ) → Stands heap state book → Can heap state event → number < heap.seats
     → FollowsSteps heap state (step_made heap state number event) (seat_at state number).looks (seat_at (state_after heap state event) number).looks
-event_follows heap state book (Begins other command) number stands can below =
+looks_follow_event heap state book (Begins other command) number stands can below =
     let seat : Seat = seat_at state other in
-    unmoved heap state _ _ (same_looks heap state number other (after_begin heap seat command) can.0 (begin_stays heap seat command can.1.idle).looks)
-event_follows heap state book (BeginsInner other inner) number stands can below =
+    unmoved heap state _ _ (same_looks heap state number other (after_begin heap seat command) can.0 (stays_found_after_begin heap seat command can.1.idle).looks)
+looks_follow_event heap state book (BeginsInner other inner) number stands can below =
     unmoved heap state _ _ (same_looks heap state number other (after_inner_begin (seat_at state other) inner) can.0 refl)
-event_follows heap state book (Steps other) number stands can below =
+looks_follow_event heap state book (Steps other) number stands can below =
     elim (eqb_tells number other) as (λ _. FollowsSteps heap state (step_made heap state number (Steps other)) (seat_at state number).looks (seat_at (state_after heap state (Steps other)) number).looks) [
       | inl same ↦ rw same.0 (subst (λ n. FollowsSteps heap state (due_step heap number (seat_at state number)) (seat_at state number).looks (seat_at (state_after heap state (Steps n)) number).looks) same.1
           (own_step heap state number (rw stands.rule.machine.seated below) (next_move heap number (seat_at state number))
-          ((step_kind (seat_at state number).place).looks.follows heap state number (seat_at state number) (stands.looks number below).compares refl)))
+          ((step_kind_of_each_place (seat_at state number).place).looks.follows heap state number (seat_at state number) (stands.looks number below).compares refl)))
       | inr apart ↦ rw apart.0 (unmoved heap state _ _ (other_step heap state number other apart.0 (next_move heap other (seat_at state other))))
     ]
-event_follows heap state book Turns number stands can below = unmoved heap state _ _ refl
+looks_follow_event heap state book Turns number stands can below = unmoved heap state _ _ refl
 
 -- which the law says
 pub each_event_is_followed : EachEventIsFollowed
 unfolding EachEventIsFollowed
-each_event_is_followed = event_follows
+each_event_is_followed = looks_follow_event

@@ -15,7 +15,7 @@ use Rattle.core_machine.specs.seat.Handshake.{answer_next, polling_over}
 use Rattle.core_machine.specs.seat.Looks.{forgotten, compared, found_behind}
 use Rattle.core_rule.specs.looks.Finds.{CountsFind, FollowsSteps}
 use Rattle.core_rule.proofs.entries.PhasesTold.{over_cases}
-use Rattle.core_rule.proofs.looks.Ways.{StaysFound, stays_length}
+use Rattle.core_rule.proofs.looks.Ways.{StaysFound, stays_found_after_length}
 
 -- the step loads neither the phase nor another seat's word
 abbrev pub IsBlind : Option Step → Type 0
@@ -41,19 +41,19 @@ compare_seen false found looks = refl
 
 module _ (heap : Heap) (state : State) where
   -- a step that looks at neither leaves count and phase
-  pub blind_follows : (step : Option Step) (old new : Looks) → IsBlind step → new.waits ≡ old.waits → new.seen ≡ old.seen → FollowsSteps heap state step old new
-  blind_follows (Some PollLoad) old new blind waits seen = absurd blind
-  blind_follows (Some (Turning (LookLoad other))) old new blind waits seen = absurd blind
-  blind_follows _ old new blind waits seen = record { counts = waits; behind = tt; seen = seen }
+  pub looks_follow_blind_step : (step : Option Step) (old new : Looks) → IsBlind step → new.waits ≡ old.waits → new.seen ≡ old.seen → FollowsSteps heap state step old new
+  looks_follow_blind_step (Some PollLoad) old new blind waits seen = absurd blind
+  looks_follow_blind_step (Some (Turning (LookLoad other))) old new blind waits seen = absurd blind
+  looks_follow_blind_step _ old new blind waits seen = record { counts = waits; behind = tt; seen = seen }
 
   -- a load of the phase is seen
-  pub load_follows : (old new : Looks) → new.waits ≡ old.waits → new.seen ≡ found_by heap state PollLoad → FollowsSteps heap state (Some PollLoad) old new
-  load_follows old new waits seen = record { counts = waits; behind = tt; seen = seen }
+  pub looks_follow_phase_load : (old new : Looks) → new.waits ≡ old.waits → new.seen ≡ found_by heap state PollLoad → FollowsSteps heap state (Some PollLoad) old new
+  looks_follow_phase_load old new waits seen = record { counts = waits; behind = tt; seen = seen }
 
   -- another seat's word is compared with the phase that was loaded
-  pub compare_follows : (other p : ℕ) (looks : Looks) → p ≡ looks.seen
+  pub looks_follow_compare : (other p : ℕ) (looks : Looks) → p ≡ looks.seen
       → FollowsSteps heap state (Some (Turning (LookLoad other))) looks (compared other p (found_by heap state (Turning (LookLoad other))) looks)
-  compare_follows other p looks same =
+  looks_follow_compare other p looks same =
       subst (λ q. FollowsSteps heap state (Some (Turning (LookLoad other))) looks (compared other q word looks)) (sym same)
       record { counts = compare_counts below found looks; behind = compare_behind below found looks; seen = compare_seen below found looks }
     where
@@ -72,36 +72,36 @@ module _ (heap : Heap) (state : State) where
   MoveFollows seat (Some move) = FollowsSteps heap state (Some move.step) seat.looks (move.told (found_by heap state move.step)).looks
 
   module _ (number : ℕ) (seat : Seat) where
-    pub follows_way : (step : Step) (now : Seat) → IsBlind (Some step) → StaysFound seat now → FollowsSteps heap state (Some step) seat.looks now.looks
-    follows_way step now blind stays = blind_follows (Some step) seat.looks now.looks blind (ap (λ (l : Looks). l.waits) stays.looks) (ap (λ (l : Looks). l.seen) stays.looks)
+    pub looks_follow_way : (step : Step) (now : Seat) → IsBlind (Some step) → StaysFound seat now → FollowsSteps heap state (Some step) seat.looks now.looks
+    looks_follow_way step now blind stays = looks_follow_blind_step (Some step) seat.looks now.looks blind (ap (λ (l : Looks). l.waits) stays.looks) (ap (λ (l : Looks). l.seen) stays.looks)
 
-    pub refusal_follows : (command : Command) (words : ℕ)
+    pub looks_follow_refusal : (command : Command) (words : ℕ)
         → FollowsSteps heap state (Some (refusal_step command words)) seat.looks (forgotten (refusal_looks command (found_by heap state (refusal_step command words)) seat.looks))
-    refusal_follows (commands.Array d cells) words = blind_follows _ _ _ tt refl refl
-    refusal_follows _ words = load_follows _ _ refl refl
+    looks_follow_refusal (commands.Array d cells) words = looks_follow_blind_step _ _ _ tt refl refl
+    looks_follow_refusal _ words = looks_follow_phase_load _ _ refl refl
 
-    pub birth_follows : (last : Bool) → MoveFollows seat (Some (if last then last_birth_move number seat else birth_move seat))
-    birth_follows true = blind_follows _ _ _ tt refl refl
-    birth_follows false = blind_follows _ _ _ tt refl refl
+    pub looks_follow_birth : (last : Bool) → MoveFollows seat (Some (if last then last_birth_move number seat else birth_move seat))
+    looks_follow_birth true = looks_follow_blind_step _ _ _ tt refl refl
+    looks_follow_birth false = looks_follow_blind_step _ _ _ tt refl refl
 
-    pub meta_follows : (step : Step) → IsBlind (Some step) → (found : ℕ) (reply : Option Reply) → FollowsSteps heap state (Some step) seat.looks (after_meta seat found reply).looks
-    meta_follows step blind found None = follows_way step _ blind (stays_length seat found (array_length_of found))
-    meta_follows step blind found (Some reply) = blind_follows (Some step) _ _ blind refl refl
+    pub looks_follow_meta : (step : Step) → IsBlind (Some step) → (found : ℕ) (reply : Option Reply) → FollowsSteps heap state (Some step) seat.looks (after_meta seat found reply).looks
+    looks_follow_meta step blind found None = looks_follow_way step _ blind (stays_found_after_length seat found (array_length_of found))
+    looks_follow_meta step blind found (Some reply) = looks_follow_blind_step (Some step) _ _ blind refl refl
 
-    pub get_follows : (step : Step) → IsBlind (Some step) → (found : ℕ) (head : Option ℕ) → FollowsSteps heap state (Some step) seat.looks (after_get seat found head).looks
-    get_follows step blind found None = blind_follows (Some step) _ _ blind refl refl
-    get_follows step blind found (Some head) = blind_follows (Some step) _ _ blind refl refl
+    pub looks_follow_get : (step : Step) → IsBlind (Some step) → (found : ℕ) (head : Option ℕ) → FollowsSteps heap state (Some step) seat.looks (after_get seat found head).looks
+    looks_follow_get step blind found None = looks_follow_blind_step (Some step) _ _ blind refl refl
+    looks_follow_get step blind found (Some head) = looks_follow_blind_step (Some step) _ _ blind refl refl
 
-    pub old_follows : (step : Step) → IsBlind (Some step) → (found : ℕ) (head : Option ℕ) → FollowsSteps heap state (Some step) seat.looks (after_old_load (record seat { loaded = found }) head).looks
-    old_follows step blind found None = blind_follows (Some step) _ _ blind refl refl
-    old_follows step blind found (Some head) = blind_follows (Some step) _ _ blind refl refl
+    pub looks_follow_old_load : (step : Step) → IsBlind (Some step) → (found : ℕ) (head : Option ℕ) → FollowsSteps heap state (Some step) seat.looks (after_old_load (record seat { loaded = found }) head).looks
+    looks_follow_old_load step blind found None = looks_follow_blind_step (Some step) _ _ blind refl refl
+    looks_follow_old_load step blind found (Some head) = looks_follow_blind_step (Some step) _ _ blind refl refl
 
-    pub poll_follows : (b : Bool) (p : ℕ) → p ≡ found_by heap state PollLoad
+    pub looks_follow_poll : (b : Bool) (p : ℕ) → p ≡ found_by heap state PollLoad
         → FollowsSteps heap state (Some PollLoad) seat.looks (if b then polling_over seat.command (with_seen p seat) else answer_next (record (with_seen p seat) { asked = p })).looks
-    poll_follows true p is = over_cases (λ (s : Seat). FollowsSteps heap state (Some PollLoad) seat.looks s.looks) seat.command (with_seen p seat) (load_follows _ _ refl is) (load_follows _ _ refl is)
-    poll_follows false p is = load_follows _ _ refl is
+    looks_follow_poll true p is = over_cases (λ (s : Seat). FollowsSteps heap state (Some PollLoad) seat.looks s.looks) seat.command (with_seen p seat) (looks_follow_phase_load _ _ refl is) (looks_follow_phase_load _ _ refl is)
+    looks_follow_poll false p is = looks_follow_phase_load _ _ refl is
 
-    pub answer_follows : (step : Step) → IsBlind (Some step) → (answered : ℕ) → FollowsSteps heap state (Some step) seat.looks (polling_over seat.command (record seat { answered = answered })).looks
-    answer_follows step blind answered =
-        over_cases (λ (s : Seat). FollowsSteps heap state (Some step) seat.looks s.looks) seat.command (record seat { answered = answered }) (blind_follows (Some step) _ _ blind refl refl)
-        (blind_follows (Some step) _ _ blind refl refl)
+    pub looks_follow_answer : (step : Step) → IsBlind (Some step) → (answered : ℕ) → FollowsSteps heap state (Some step) seat.looks (polling_over seat.command (record seat { answered = answered })).looks
+    looks_follow_answer step blind answered =
+        over_cases (λ (s : Seat). FollowsSteps heap state (Some step) seat.looks s.looks) seat.command (record seat { answered = answered }) (looks_follow_blind_step (Some step) _ _ blind refl refl)
+        (looks_follow_blind_step (Some step) _ _ blind refl refl)

@@ -13,9 +13,9 @@ use Rattle.core_machine.specs.declared.seat.looks.Looks.{Looks}
 use Rattle.heap_model.specs.declared.behind.Behind.{Behind}
 use Rattle.core_machine.specs.seat.Looks.{forgotten}
 use Rattle.core_rule.specs.looks.Looks.{WasSeen, WasFound, HasCompared, CollectingStands, WhileCollecting, LooksStand}
-use Rattle.core_rule.proofs.entries.PhaseEntries.{answers_grow, was_present}
-use Rattle.core_rule.proofs.kept.WeightGrowth.{total-added}
-use Rattle.core_rule.proofs.lists.Options.{if_some}
+use Rattle.core_rule.proofs.entries.PhaseEntries.{last_answer_grows, had_not_left}
+use Rattle.core_rule.proofs.kept.WeightGrowth.{total_of_appended}
+use Rattle.core_rule.proofs.lists.Options.{if_some_goes_on}
 
 -- none of the entries passes the test
 abbrev pub NoneOf : (Entry → Bool) → List Entry → Type 0
@@ -25,11 +25,11 @@ any_parts : (a b : Bool) → (a || b) ≡ false → (a ≡ false) × (b ≡ fals
 any_parts true b none = cc
 any_parts false b none = (refl, none)
 
-pub up_to_last-none : (test : Entry → Bool) (before added : List Entry) → NoneOf test added → up_to_last test (before ++ added) ≡ up_to_last test before
-up_to_last-none test before [] none = ap (up_to_last test) (append-nil before)
-up_to_last-none test before (entry ∷ more) none =
+pub up_to_last_stays : (test : Entry → Bool) (before added : List Entry) → NoneOf test added → up_to_last test (before ++ added) ≡ up_to_last test before
+up_to_last_stays test before [] none = ap (up_to_last test) (append-nil before)
+up_to_last_stays test before (entry ∷ more) none =
     let parts = any_parts (test entry) (list_any test more) none in
-    ap (up_to_last test) (sym (append_assoc before (entry ∷ []) more)) ∙ up_to_last-none test (before ++ entry ∷ []) more parts.1 ∙ up_to_last-no test before entry parts.0
+    ap (up_to_last test) (sym (append_assoc before (entry ∷ []) more)) ∙ up_to_last_stays test (before ++ entry ∷ []) more parts.1 ∙ up_to_last-no test before entry parts.0
 
 pub after_last-none : (test : Entry → Bool) (before added : List Entry) → NoneOf test added → after_last test (before ++ added) ≡ after_last test before ++ added
 after_last-none test before [] none = ap (after_last test) (append-nil before) ∙ sym (append-nil (after_last test before))
@@ -39,14 +39,14 @@ after_last-none test before (entry ∷ more) none =
     ∙ ap (λ es. es ++ more) (after_last-no test before entry parts.0) ∙ append_assoc (after_last test before) (entry ∷ []) more
 
 phase_grows : (before added : List Entry) → phase before ≤ phase (before ++ added)
-phase_grows before added = omega (arith, total-added (λ e. e.phases) before added)
+phase_grows before added = omega (arith, total_of_appended (λ e. e.phases) before added)
 
 module _ (heap : Heap) (number : ℕ) (before added : List Entry) (none : NoneOf (is_reply_to number) added) where
   abbrev now : List Entry
   now = before ++ added
 
   up_to : up_to_reply number now ≡ up_to_reply number before
-  up_to = up_to_last-none (is_reply_to number) before added none
+  up_to = up_to_last_stays (is_reply_to number) before added none
 
   since : since_reply number now ≡ since_reply number before ++ added
   since = after_last-none (is_reply_to number) before added none
@@ -70,8 +70,8 @@ module _ (heap : Heap) (number : ℕ) (before added : List Entry) (none : NoneOf
     asked = was.asked;
     begun = omega (arith, was.begun, phase_grows before added);
     behind = λ present less.
-        let grows = answers_grow other before added in
-        let old = was.behind (was_present other before added present) (omega (arith, less, grows)) in
+        let grows = last_answer_grows other before added in
+        let old = was.behind (had_not_left other before added present) (omega (arith, less, grows)) in
         let same : last_answer other now ≡ last_answer other before = omega (arith, old.0, less, grows) in
         (old.0 ∙ ap (λ n. n + 1) (sym same), behind_on other (last_answer other now) p (subst (λ a. WasBehind number other a p before) (sym same) old.1));
   }
@@ -87,12 +87,12 @@ module _ (heap : Heap) (number : ℕ) (before added : List Entry) (none : NoneOf
   asks_on _ stands = tt
 
   -- where none of the entries is a reply to the seat
-  pub looks_on : (place : Place) (looks : Looks) → LooksStand heap before number place looks → LooksStand heap now number place looks
-  looks_on place looks stands = record {
+  pub looks_stand_without_reply : (place : Place) (looks : Looks) → LooksStand heap before number place looks → LooksStand heap now number place looks
+  looks_stand_without_reply place looks stands = record {
     seen = omega (arith, stands.seen, phase_grows before added);
     found = λ unnamed. let was = stands.found unnamed in record {
-      first = if_some (WasSeen before number) (WasSeen now number) seen_on looks.first was.first;
-      behind = if_some (WasFound heap before number) (WasFound heap now number) found_on looks.behind was.behind;
+      first = if_some_goes_on (WasSeen before number) (WasSeen now number) seen_on looks.first was.first;
+      behind = if_some_goes_on (WasFound heap before number) (WasFound heap now number) found_on looks.behind was.behind;
     };
     asks = asks_on place stands.asks;
     compares = stands.compares;
@@ -112,19 +112,19 @@ nothing_compared : (place : Place) (looks : Looks) → IsElsewhere place → (ot
 nothing_compared place looks elsewhere other p comparing = absurd (subst IsElsewhere comparing elsewhere)
 
 -- where the seat goes elsewhere
-pub looks_elsewhere : (heap : Heap) (history : List Entry) (number : ℕ) (place next : Place) (looks : Looks) → place ≢ places.Access Naming → IsElsewhere next
+pub looks_stand_elsewhere : (heap : Heap) (history : List Entry) (number : ℕ) (place next : Place) (looks : Looks) → place ≢ places.Access Naming → IsElsewhere next
     → LooksStand heap history number place looks → LooksStand heap history number next looks
-looks_elsewhere heap history number place next looks unnamed elsewhere stands =
+looks_stand_elsewhere heap history number place next looks unnamed elsewhere stands =
     record { seen = stands.seen; found = λ still. stands.found unnamed; asks = nothing_asked (CollectingStands heap history number) next elsewhere; compares = nothing_compared next looks elsewhere }
 
 -- after a reply all is forgotten
-pub looks_forgotten : (heap : Heap) (before added : List Entry) (number : ℕ) (place : Place) (looks : Looks) → LooksStand heap before number place looks
+pub looks_stand_after_reply : (heap : Heap) (before added : List Entry) (number : ℕ) (place : Place) (looks : Looks) → LooksStand heap before number place looks
     → LooksStand heap (before ++ added) number places.Idle (forgotten looks)
-looks_forgotten heap before added number place looks stands =
+looks_stand_after_reply heap before added number place looks stands =
     record { seen = omega (arith, stands.seen, phase_grows before added); found = λ unnamed. record { first = tt; behind = tt }; asks = tt; compares = nothing_compared places.Idle (forgotten looks) tt }
 
 -- and where a name is awaited it is about to be
-pub looks_awaiting : (heap : Heap) (before added : List Entry) (number : ℕ) (place : Place) (looks : Looks) → LooksStand heap before number place looks
+pub looks_stand_while_awaiting : (heap : Heap) (before added : List Entry) (number : ℕ) (place : Place) (looks : Looks) → LooksStand heap before number place looks
     → LooksStand heap (before ++ added) number (places.Access Naming) looks
-looks_awaiting heap before added number place looks stands =
+looks_stand_while_awaiting heap before added number place looks stands =
     record { seen = omega (arith, stands.seen, phase_grows before added); found = λ unnamed. absurd (unnamed refl); asks = tt; compares = nothing_compared (places.Access Naming) looks tt }

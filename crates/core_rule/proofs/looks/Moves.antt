@@ -16,10 +16,10 @@ use Rattle.core_machine.specs.seat.Handshake.{answer_next, polling_over}
 use Rattle.core_machine.specs.seat.HandshakeMoves.{phase_told}
 use Rattle.core_machine.specs.seat.Looks.{forgotten}
 use Rattle.core_rule.specs.looks.Looks.{LooksStand}
-use Rattle.core_rule.proofs.entries.Others.{of_other}
-use Rattle.core_rule.proofs.looks.Finding.{looks_seen}
-use Rattle.core_rule.proofs.looks.Ways.{StaysFound, IsNote, elsewhere_unnoted, stays_length}
-use Rattle.core_rule.proofs.looks.Growth.{NoneOf, IsElsewhere, looks_on, looks_elsewhere, looks_forgotten, looks_awaiting}
+use Rattle.core_rule.proofs.entries.Others.{seat_is_not_other}
+use Rattle.core_rule.proofs.looks.Finding.{looks_stand_after_seen}
+use Rattle.core_rule.proofs.looks.Ways.{StaysFound, IsNote, elsewhere_is_no_note, stays_found_after_length}
+use Rattle.core_rule.proofs.looks.Growth.{NoneOf, IsElsewhere, looks_stand_without_reply, looks_stand_elsewhere, looks_stand_after_reply, looks_stand_while_awaiting}
 
 -- none of the entries is a reply to another seat
 abbrev pub NoneToOthers : ℕ → List Entry → Type 0
@@ -29,11 +29,11 @@ NoneToOthers number added = (r : ℕ) → r ≢ number → NoneOf (is_reply_to r
 abbrev pub NoReplies : List Entry → Type 0
 NoReplies added = (r : ℕ) → NoneOf (is_reply_to r) added
 
-pub no_entries : NoReplies []
-no_entries r = refl
+pub empty_has_no_replies : NoReplies []
+empty_has_no_replies r = refl
 
-pub one_own : (number r : ℕ) → r ≢ number → ((number == r) || false) ≡ false
-one_own number r apart = rw (of_other number r apart) refl
+pub other_is_not_own : (number r : ℕ) → r ≢ number → ((number == r) || false) ≡ false
+other_is_not_own number r apart = rw (seat_is_not_other number r apart) refl
 
 -- how a seat goes by a move
 module _ (heap : Heap) (number : ℕ) (before : List Entry) (seat : Seat) where
@@ -43,20 +43,20 @@ module _ (heap : Heap) (number : ℕ) (before : List Entry) (seat : Seat) where
     pub stands : LooksStand heap before number seat.place seat.looks → LooksStand heap (before ++ shown) number now.place now.looks
 
   -- nothing is told, and it stays with what it has found
-  pub quiet : (now : Seat) (shown : List Entry) → seat.place ≢ places.Access Naming → NoReplies shown → StaysFound seat now → LooksGo now shown
-  quiet now shown unnamed none stays = record {
+  pub looks_go_quiet : (now : Seat) (shown : List Entry) → seat.place ≢ places.Access Naming → NoReplies shown → StaysFound seat now → LooksGo now shown
+  looks_go_quiet now shown unnamed none stays = record {
     others = λ r apart. none r;
-    unnoted = elsewhere_unnoted now.place stays.elsewhere;
+    unnoted = elsewhere_is_no_note now.place stays.elsewhere;
     stands = λ stands. subst (LooksStand heap (before ++ shown) number now.place) (sym stays.looks)
-        (looks_on heap number before shown (none number) now.place seat.looks (looks_elsewhere heap before number seat.place now.place seat.looks unnamed stays.elsewhere stands));
+        (looks_stand_without_reply heap number before shown (none number) now.place seat.looks (looks_stand_elsewhere heap before number seat.place now.place seat.looks unnamed stays.elsewhere stands));
   }
 
   -- a reply is told
-  pub ends : (now : Seat) (shown : List Entry) → now.looks ≡ forgotten seat.looks → now.place ≡ places.Idle → NoneToOthers number shown → LooksGo now shown
-  ends now shown looks idle others = record {
+  pub looks_go_at_end : (now : Seat) (shown : List Entry) → now.looks ≡ forgotten seat.looks → now.place ≡ places.Idle → NoneToOthers number shown → LooksGo now shown
+  looks_go_at_end now shown looks idle others = record {
     others = others;
     unnoted = λ note. subst IsNote idle note;
-    stands = λ stands. rw (looks, idle) (looks_forgotten heap before shown number seat.place seat.looks stands);
+    stands = λ stands. rw (looks, idle) (looks_stand_after_reply heap before shown number seat.place seat.looks stands);
   }
 
   -- a reply is told, and a name is awaited
@@ -64,24 +64,24 @@ module _ (heap : Heap) (number : ℕ) (before : List Entry) (seat : Seat) where
   awaits now shown looks naming others = record {
     others = others;
     unnoted = λ note. subst IsNote naming note;
-    stands = λ stands. rw (looks, naming) (looks_awaiting heap before shown number seat.place seat.looks stands);
+    stands = λ stands. rw (looks, naming) (looks_stand_while_awaiting heap before shown number seat.place seat.looks stands);
   }
 
 -- a poll tells its reply, and the answer of a collect ends without one
 polling_ends : (heap : Heap) (number : ℕ) (before : List Entry) (seat : Seat) (command : Command) (answered p : ℕ) (adds : List Entry) → seat.place ≢ places.Access Naming
     → LooksGo heap number before seat (record (polling_over command (record seat { answered = answered })) { mine = adds }) (phase_told number command p)
-polling_ends heap number before seat commands.Collect answered p adds unnamed = quiet heap number before seat _ _ unnamed no_entries record { looks = refl; elsewhere = tt }
-polling_ends heap number before seat _ answered p adds unnamed = ends heap number before seat _ _ refl refl (one_own number)
+polling_ends heap number before seat commands.Collect answered p adds unnamed = looks_go_quiet heap number before seat _ _ unnamed empty_has_no_replies record { looks = refl; elsewhere = tt }
+polling_ends heap number before seat _ answered p adds unnamed = looks_go_at_end heap number before seat _ _ refl refl (other_is_not_own number)
 
 -- a phase that was answered is told, and a new one is about to be answered
-pub polling_goes : (heap : Heap) (number : ℕ) (before : List Entry) (seat : Seat) (b : Bool) (p : ℕ) (adds : List Entry) → seat.place ≢ places.Access Naming
+pub looks_go_at_polling : (heap : Heap) (number : ℕ) (before : List Entry) (seat : Seat) (b : Bool) (p : ℕ) (adds : List Entry) → seat.place ≢ places.Access Naming
     → LooksGo heap number before seat (record (if b then polling_over seat.command seat else answer_next (record seat { asked = p })) { mine = adds }) (if b then phase_told number seat.command p else [])
-polling_goes heap number before seat true p adds unnamed = polling_ends heap number before seat seat.command seat.answered p adds unnamed
-polling_goes heap number before seat false p adds unnamed = quiet heap number before seat _ _ unnamed no_entries record { looks = refl; elsewhere = tt }
+looks_go_at_polling heap number before seat true p adds unnamed = polling_ends heap number before seat seat.command seat.answered p adds unnamed
+looks_go_at_polling heap number before seat false p adds unnamed = looks_go_quiet heap number before seat _ _ unnamed empty_has_no_replies record { looks = refl; elsewhere = tt }
 
 -- what a claim tells is no reply
-pub none_claimed : (number count : ℕ) → NoReplies (takes_some number count)
-none_claimed number count r = by (count == 0)
+pub claim_has_no_replies : (number count : ℕ) → NoReplies (takes_some number count)
+claim_has_no_replies number count r = by (count == 0)
   where
     by : (b : Bool) → NoneOf (is_reply_to r) (if b then [] else entries.Takes number count ∷ [])
     by true = refl
@@ -96,52 +96,52 @@ module _ (heap : Heap) (state : State) (book : Book) (rule : Rule heap state boo
 
   -- a way goes on without an entry
   pub way_goes : (now : Seat) → seat.place ≢ places.Access Naming → StaysFound seat now → Goes now []
-  way_goes now unnamed stays = quiet heap number book.history seat now [] unnamed no_entries stays
+  way_goes now unnamed stays = looks_go_quiet heap number book.history seat now [] unnamed empty_has_no_replies stays
 
-  pub reply_goes : (now : Seat) (reply : Reply) → now.looks ≡ forgotten seat.looks → now.place ≡ places.Idle → Goes now (entries.Said number seat.command reply ∷ [])
-  reply_goes now reply looks idle = ends heap number book.history seat now (entries.Said number seat.command reply ∷ []) looks idle (one_own number)
+  pub looks_go_at_reply : (now : Seat) (reply : Reply) → now.looks ≡ forgotten seat.looks → now.place ≡ places.Idle → Goes now (entries.Said number seat.command reply ∷ [])
+  looks_go_at_reply now reply looks idle = looks_go_at_end heap number book.history seat now (entries.Said number seat.command reply ∷ []) looks idle (other_is_not_own number)
 
   -- the seat after the move, and what it shows
   abbrev pub GoesBy : Option Move → Type 0
   GoesBy None = Unit {0}
   GoesBy (Some move) = Goes (seat_after move (found_by heap state move.step)) (move.shows state.words (found_by heap state move.step))
 
-  pub birth_goes : (last : Bool) → seat.place ≡ places.Making Bearing → GoesBy (Some (if last then last_birth_move number seat else birth_move seat))
-  birth_goes true placed = reply_goes _ _ refl refl
-  birth_goes false placed = way_goes _ (λ named. cc (placed, named)) record { looks = refl; elsewhere = subst IsElsewhere (sym placed) tt }
+  pub looks_go_at_birth : (last : Bool) → seat.place ≡ places.Making Bearing → GoesBy (Some (if last then last_birth_move number seat else birth_move seat))
+  looks_go_at_birth true placed = looks_go_at_reply _ _ refl refl
+  looks_go_at_birth false placed = way_goes _ (λ named. cc (placed, named)) record { looks = refl; elsewhere = subst IsElsewhere (sym placed) tt }
 
-  pub meta_goes : (found : ℕ) (reply : Option Reply) → seat.place ≡ places.Access LoadingMeta → (adds : List Entry) → Goes (record (after_meta seat found reply) { mine = adds }) (reply_entries_if number seat reply)
-  meta_goes found None placed adds =
-      let stays = stays_length seat found (array_length_of found) in
+  pub looks_go_at_meta : (found : ℕ) (reply : Option Reply) → seat.place ≡ places.Access LoadingMeta → (adds : List Entry) → Goes (record (after_meta seat found reply) { mine = adds }) (reply_entries_if number seat reply)
+  looks_go_at_meta found None placed adds =
+      let stays = stays_found_after_length seat found (array_length_of found) in
       way_goes _ (λ named. cc (placed, named)) record { looks = stays.looks; elsewhere = stays.elsewhere }
-  meta_goes found (Some reply) placed adds = reply_goes _ reply refl refl
+  looks_go_at_meta found (Some reply) placed adds = looks_go_at_reply _ reply refl refl
 
-  pub get_goes : (found : ℕ) (head : Option ℕ) (adds : List Entry) → Goes (record (after_get seat found head) { mine = adds }) (got_shows heap number seat state.words found head)
-  get_goes found None adds = reply_goes _ _ refl refl
-  get_goes found (Some head) adds = awaits heap number book.history seat _ _ refl refl (one_own number)
+  pub looks_go_at_get : (found : ℕ) (head : Option ℕ) (adds : List Entry) → Goes (record (after_get seat found head) { mine = adds }) (got_shows heap number seat state.words found head)
+  looks_go_at_get found None adds = looks_go_at_reply _ _ refl refl
+  looks_go_at_get found (Some head) adds = awaits heap number book.history seat _ _ refl refl (other_is_not_own number)
 
-  pub old_goes : (found : ℕ) (head : Option ℕ) (adds : List Entry) → seat.place ≢ places.Access Naming → Goes (record (after_old_load (record seat { loaded = found }) head) { mine = adds }) []
-  old_goes found None adds unnamed = way_goes _ unnamed record { looks = refl; elsewhere = tt }
-  old_goes found (Some head) adds unnamed = way_goes _ unnamed record { looks = refl; elsewhere = tt }
+  pub looks_go_at_old_load : (found : ℕ) (head : Option ℕ) (adds : List Entry) → seat.place ≢ places.Access Naming → Goes (record (after_old_load (record seat { loaded = found }) head) { mine = adds }) []
+  looks_go_at_old_load found None adds unnamed = way_goes _ unnamed record { looks = refl; elsewhere = tt }
+  looks_go_at_old_load found (Some head) adds unnamed = way_goes _ unnamed record { looks = refl; elsewhere = tt }
 
-  pub answer_goes : (command : Command) (answered p : ℕ) (adds : List Entry) → seat.place ≢ places.Access Naming
+  pub looks_go_at_answer : (command : Command) (answered p : ℕ) (adds : List Entry) → seat.place ≢ places.Access Naming
       → Goes (record (polling_over command (record seat { answered = answered })) { mine = adds }) (entries.Answers number p ∷ phase_told number command p)
-  answer_goes commands.Collect answered p adds unnamed = quiet heap number book.history seat _ _ unnamed (λ r. refl) record { looks = refl; elsewhere = tt }
-  answer_goes _ answered p adds unnamed = ends heap number book.history seat _ _ refl refl (one_own number)
+  looks_go_at_answer commands.Collect answered p adds unnamed = looks_go_quiet heap number book.history seat _ _ unnamed (λ r. refl) record { looks = refl; elsewhere = tt }
+  looks_go_at_answer _ answered p adds unnamed = looks_go_at_end heap number book.history seat _ _ refl refl (other_is_not_own number)
 
   -- the phase is loaded, and the seat goes on from there
   abbrev pub found : ℕ
   found = at heap state.words Phase
 
-  pub seen_first : (now : Seat) (shown : List Entry) → ((other p : ℕ) → seat.place ≢ places.Collecting (Comparing other p)) → LooksGo heap number book.history (with_seen found seat) now shown → Goes now shown
-  seen_first now shown uncompared goes =
-      record { others = goes.others; unnoted = goes.unnoted; stands = λ was. goes.stands (looks_seen heap state book rule number seat.place seat.looks uncompared was) }
+  pub looks_go_at_first_seen : (now : Seat) (shown : List Entry) → ((other p : ℕ) → seat.place ≢ places.Collecting (Comparing other p)) → LooksGo heap number book.history (with_seen found seat) now shown → Goes now shown
+  looks_go_at_first_seen now shown uncompared goes =
+      record { others = goes.others; unnoted = goes.unnoted; stands = λ was. goes.stands (looks_stand_after_seen heap state book rule number seat.place seat.looks uncompared was) }
 
   -- a refusal is told, where the phase is loaded or an array's spine words are taken back
-  pub refusal_goes : (command : Command) (words : ℕ) (reply : Reply) (adds : List Entry) → seat.place ≡ places.Making Refusing
+  pub looks_go_at_refusal : (command : Command) (words : ℕ) (reply : Reply) (adds : List Entry) → seat.place ≡ places.Making Refusing
       → Goes (record (after_call (record seat { looks = refusal_looks command (found_by heap state (refusal_step command words)) seat.looks })) { mine = adds }) (entries.Said number seat.command reply ∷ [])
-  refusal_goes (commands.Array d cells) words reply adds placed = reply_goes _ _ refl refl
-  refusal_goes _ words reply adds placed = seen_first _ _ (λ other p comparing. cc (placed, comparing)) (ends heap number book.history (with_seen found seat) _ _ refl refl (one_own number))
+  looks_go_at_refusal (commands.Array d cells) words reply adds placed = looks_go_at_reply _ _ refl refl
+  looks_go_at_refusal _ words reply adds placed = looks_go_at_first_seen _ _ (λ other p comparing. cc (placed, comparing)) (looks_go_at_end heap number book.history (with_seen found seat) _ _ refl refl (other_is_not_own number))
 
-  pub find_goes : (now : Seat) → ¬ IsNote now.place → (LooksStand heap book.history number seat.place seat.looks → LooksStand heap book.history number now.place now.looks) → Goes now []
-  find_goes now unnoted stands = record { others = λ r apart. refl; unnoted = unnoted; stands = λ was. subst (λ es. LooksStand heap es number now.place now.looks) (sym (append-nil book.history)) (stands was) }
+  pub looks_go_at_find : (now : Seat) → ¬ IsNote now.place → (LooksStand heap book.history number seat.place seat.looks → LooksStand heap book.history number now.place now.looks) → Goes now []
+  looks_go_at_find now unnoted stands = record { others = λ r apart. refl; unnoted = unnoted; stands = λ was. subst (λ es. LooksStand heap es number now.place now.looks) (sym (append-nil book.history)) (stands was) }

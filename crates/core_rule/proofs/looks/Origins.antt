@@ -27,85 +27,85 @@ ComesFrom place (places.Access ShadingOld) = place ≡ places.Access LoadingOld
 ComesFrom place (places.Making Withdrawing) = place ≡ places.Making Granting
 ComesFrom place _ = Unit {0}
 
-pub from_usual : (place next : Place) → IsUsual next → ComesFrom place next
-from_usual place (places.Access ShadingOld) usual = absurd usual
-from_usual place (places.Making Withdrawing) usual = absurd usual
-from_usual place _ usual = tt
+pub comes_from_usual : (place next : Place) → IsUsual next → ComesFrom place next
+comes_from_usual place (places.Access ShadingOld) usual = absurd usual
+comes_from_usual place (places.Making Withdrawing) usual = absurd usual
+comes_from_usual place _ usual = tt
 
 gather_usual : (heap : Heap) (seat : Seat) → IsUsual (gather_next heap seat).place
 gather_usual heap seat = goes_on_cases (λ s. IsUsual s.place) heap seat (λ enough. settled_cases (λ place. IsUsual (places.Making place)) seat.command (λ array. tt) (λ other. tt)) (λ few more. tt)
     (λ few all. returning_cases (λ place. IsUsual (places.Making place)) seat.hand (λ none. tt) (λ some. tt))
 
-pub claim_usual : (heap : Heap) (seat : Seat) (found : ℕ) → IsUsual (after_claim heap seat found).place
-claim_usual heap seat found = gather_usual heap (record seat { hand = seat.hand ++ clear_in (next_group_of heap seat) found; tried = seat.tried + 1 })
+pub claim_is_usual : (heap : Heap) (seat : Seat) (found : ℕ) → IsUsual (after_claim heap seat found).place
+claim_is_usual heap seat found = gather_usual heap (record seat { hand = seat.hand ++ clear_in (next_group_of heap seat) found; tried = seat.tried + 1 })
 
-pub field_usual : (seat : Seat) (command : Command) → IsUsual (places.Access (field_place_of seat command))
-field_usual seat (commands.Set r i v) = by (has_barrier_of seat)
+pub field_place_is_usual : (seat : Seat) (command : Command) → IsUsual (places.Access (field_place_of seat command))
+field_place_is_usual seat (commands.Set r i v) = by (has_barrier_of seat)
   where
     by : (b : Bool) → IsUsual (places.Access (if b then LoadingOld else Swapping))
     by true = tt
     by false = tt
-field_usual seat _ = tt
+field_place_is_usual seat _ = tt
 
 way_usual : (seat : Seat) → IsUsual (places.Access (way_place_of seat))
 way_usual seat = by (seat.links == 0)
   where
     by : (b : Bool) → IsUsual (places.Access (if b then field_place_of seat seat.command else Walking))
-    by true = field_usual seat seat.command
+    by true = field_place_is_usual seat seat.command
     by false = tt
 
-pub walk_usual : (seat : Seat) (found : ℕ) → IsUsual (after_walk seat found).place
-walk_usual seat found = by (seat.links == 0)
+pub walk_is_usual : (seat : Seat) (found : ℕ) → IsUsual (after_walk seat found).place
+walk_is_usual seat found = by (seat.links == 0)
   where
     by : (b : Bool) → IsUsual (if b then at_access seat (way_place_of seat) else at_access (after_link seat found) (way_place_of (after_link seat found))).place
     by true = way_usual seat
     by false = way_usual (after_link seat found)
 
 length_usual : (seat : Seat) (found : ℕ) (length : Option ℕ) → IsUsual (after_length seat found length).place
-length_usual seat found None = walk_usual (with_field_place seat) found
+length_usual seat found None = walk_is_usual (with_field_place seat) found
 length_usual seat found (Some cells) = tt
 
-pub meta_usual : (seat : Seat) (found : ℕ) (reply : Option Reply) → IsUsual (after_meta seat found reply).place
-meta_usual seat found None = length_usual seat found (array_length_of found)
-meta_usual seat found (Some reply) = tt
+pub meta_is_usual : (seat : Seat) (found : ℕ) (reply : Option Reply) → IsUsual (after_meta seat found reply).place
+meta_is_usual seat found None = length_usual seat found (array_length_of found)
+meta_is_usual seat found (Some reply) = tt
 
-pub get_usual : (seat : Seat) (found : ℕ) (head : Option ℕ) → IsUsual (after_get seat found head).place
-get_usual seat found None = tt
-get_usual seat found (Some head) = tt
+pub get_is_usual : (seat : Seat) (found : ℕ) (head : Option ℕ) → IsUsual (after_get seat found head).place
+get_is_usual seat found None = tt
+get_is_usual seat found (Some head) = tt
 
-pub new_usual : (head : Option ℕ) → IsUsual (places.Access (new_place_of head))
-new_usual None = tt
-new_usual (Some head) = tt
+pub new_place_is_usual : (head : Option ℕ) → IsUsual (places.Access (new_place_of head))
+new_place_is_usual None = tt
+new_place_is_usual (Some head) = tt
 
-pub over_usual : (command : Command) (seat : Seat) → IsUsual (polling_over command seat).place
-over_usual command seat = over_cases (λ (s : Seat). IsUsual s.place) command seat tt tt
+pub polling_over_is_usual : (command : Command) (seat : Seat) → IsUsual (polling_over command seat).place
+polling_over_is_usual command seat = over_cases (λ (s : Seat). IsUsual s.place) command seat tt tt
 
-pub phase_usual : (seat : Seat) (found : ℕ) → IsUsual (after_phase_load seat found).place
-phase_usual seat found = by (found == seat.answered)
+pub phase_load_is_usual : (seat : Seat) (found : ℕ) → IsUsual (after_phase_load seat found).place
+phase_load_is_usual seat found = by (found == seat.answered)
   where
     by : (b : Bool) → IsUsual (if b then polling_over seat.command seat else answer_next (record seat { asked = found })).place
-    by true = over_usual seat.command seat
+    by true = polling_over_is_usual seat.command seat
     by false = tt
 
-pub store_usual : (stored : ℕ) (body : List ℕ) → IsUsual (places.Making (store_place stored body))
-store_usual stored body = by (stored == 4 * length body)
+pub store_place_is_usual : (stored : ℕ) (body : List ℕ) → IsUsual (places.Making (store_place stored body))
+store_place_is_usual stored body = by (stored == 4 * length body)
   where
     by : (b : Bool) → IsUsual (places.Making (if b then Bearing else Storing))
     by true = tt
     by false = tt
 
 -- to these two places lead the grant and the load
-pub from_grant : (heap : Heap) (seat : Seat) (found : ℕ) → ComesFrom (places.Making Granting) (after_budget heap seat found).place
-from_grant heap seat found =
-    budget_cases (λ s. ComesFrom (places.Making Granting) s.place) heap seat found (λ many. refl) (λ few. from_usual (places.Making Granting) (gather_next heap seat).place (gather_usual heap seat))
+pub comes_from_grant : (heap : Heap) (seat : Seat) (found : ℕ) → ComesFrom (places.Making Granting) (after_budget heap seat found).place
+comes_from_grant heap seat found =
+    budget_cases (λ s. ComesFrom (places.Making Granting) s.place) heap seat found (λ many. refl) (λ few. comes_from_usual (places.Making Granting) (gather_next heap seat).place (gather_usual heap seat))
 
-pub from_load : (seat : Seat) (head : Option ℕ) → ComesFrom (places.Access LoadingOld) (after_old_load seat head).place
-from_load seat None = from_usual (places.Access LoadingOld) (after_old seat).place (new_usual (register_head (register_in seat.registers (source_of seat.command))))
-from_load seat (Some head) = refl
+pub comes_from_old_load : (seat : Seat) (head : Option ℕ) → ComesFrom (places.Access LoadingOld) (after_old_load seat head).place
+comes_from_old_load seat None = comes_from_usual (places.Access LoadingOld) (after_old seat).place (new_place_is_usual (register_head (register_in seat.registers (source_of seat.command))))
+comes_from_old_load seat (Some head) = refl
 
 -- the taking back comes with what was found at the grant
-pub grant_finds : (heap : Heap) (seat : Seat) (found : ℕ) → (after_budget heap seat found).place ≡ places.Making Withdrawing → (after_budget heap seat found).used ≡ found
-grant_finds heap seat found = budget_cases (λ s. s.place ≡ places.Making Withdrawing → s.used ≡ found) heap seat found (λ many is. refl) (λ few is. absurd (subst IsUsual is (gather_usual heap seat)))
+pub used_is_found_at_grant : (heap : Heap) (seat : Seat) (found : ℕ) → (after_budget heap seat found).place ≡ places.Making Withdrawing → (after_budget heap seat found).used ≡ found
+used_is_found_at_grant heap seat found = budget_cases (λ s. s.place ≡ places.Making Withdrawing → s.used ≡ found) heap seat found (λ many is. refl) (λ few is. absurd (subst IsUsual is (gather_usual heap seat)))
 
 -- it is the place of the shade
 abbrev pub IsOld : Place → Type 0
@@ -122,19 +122,19 @@ start_usual seat registers.Nil = tt
 start_usual seat (registers.Number n) = tt
 
 -- no call begins at either place
-pub begin_usual : (heap : Heap) (seat : Seat) (command : Command) → seat.place ≡ places.Idle → IsUsual (after_begin heap seat command).place
-begin_usual heap seat (commands.New d fields) idle = gather_usual heap (record seat { command = commands.New d fields })
-begin_usual heap seat (commands.Get d r i) idle = start_usual (record seat { command = commands.Get d r i }) (register_in seat.registers r)
-begin_usual heap seat (commands.Set r i v) idle = start_usual (record seat { command = commands.Set r i v }) (register_in seat.registers r)
-begin_usual heap seat (commands.Len r) idle = start_usual (record seat { command = commands.Len r }) (register_in seat.registers r)
-begin_usual heap seat commands.Collect idle = subst IsUsual (sym idle) tt
-begin_usual heap seat _ idle = tt
+pub begin_is_usual : (heap : Heap) (seat : Seat) (command : Command) → seat.place ≡ places.Idle → IsUsual (after_begin heap seat command).place
+begin_is_usual heap seat (commands.New d fields) idle = gather_usual heap (record seat { command = commands.New d fields })
+begin_is_usual heap seat (commands.Get d r i) idle = start_usual (record seat { command = commands.Get d r i }) (register_in seat.registers r)
+begin_is_usual heap seat (commands.Set r i v) idle = start_usual (record seat { command = commands.Set r i v }) (register_in seat.registers r)
+begin_is_usual heap seat (commands.Len r) idle = start_usual (record seat { command = commands.Len r }) (register_in seat.registers r)
+begin_is_usual heap seat commands.Collect idle = subst IsUsual (sym idle) tt
+begin_is_usual heap seat _ idle = tt
 
-pub begin_old : (heap : Heap) (seat : Seat) (command : Command) → seat.place ≡ places.Idle → ¬ IsOld (after_begin heap seat command).place
-begin_old heap seat command idle = usual_old (after_begin heap seat command).place (begin_usual heap seat command idle)
+pub begin_is_not_old : (heap : Heap) (seat : Seat) (command : Command) → seat.place ≡ places.Idle → ¬ IsOld (after_begin heap seat command).place
+begin_is_not_old heap seat command idle = usual_old (after_begin heap seat command).place (begin_is_usual heap seat command idle)
 
-pub inner_old : (inner : Inner) → ¬ IsOld (inner_place inner)
-inner_old inners.Look old = old
-inner_old inners.Answer old = old
-inner_old (inners.Behind other) old = old
-inner_old (inners.Note reply) old = old
+pub inner_is_not_old : (inner : Inner) → ¬ IsOld (inner_place inner)
+inner_is_not_old inners.Look old = old
+inner_is_not_old inners.Answer old = old
+inner_is_not_old (inners.Behind other) old = old
+inner_is_not_old (inners.Note reply) old = old

@@ -14,12 +14,12 @@ use Rattle.core_machine.specs.seat.Collecting.{inner_place}
 use Rattle.core_machine.specs.declared.seat.looks.Looks.{Looks}
 use Rattle.core_machine.specs.seat.Looks.{MayMake}
 use Rattle.core_rule.specs.looks.Looks.{LooksStand, AllLooksStand, CollectingStands, WhileCollecting}
-use Rattle.core_rule.proofs.looks.Growth.{NoneOf, looks_on, looks_elsewhere}
+use Rattle.core_rule.proofs.looks.Growth.{NoneOf, looks_stand_without_reply, looks_stand_elsewhere}
 use Rattle.core_rule.proofs.looks.Moves.{GoesBy, NoneToOthers}
-use Rattle.core_rule.proofs.entries.TurnShapes.{shape_collects}
-use Rattle.core_rule.proofs.steps.collector.{turn_kind}
-use Rattle.core_rule.proofs.steps.Seats.{step_kind}
-use Rattle.core_rule.proofs.looks.Ways.{begin_stays}
+use Rattle.core_rule.proofs.entries.TurnShapes.{shape_adds_collector_entries}
+use Rattle.core_rule.proofs.steps.collector.{turn_kind_of_each_stage}
+use Rattle.core_rule.proofs.steps.Seats.{step_kind_of_each_place}
+use Rattle.core_rule.proofs.looks.Ways.{stays_found_after_begin}
 
 -- what the collector adds tells no seat a reply
 none_turned : (r : ℕ) (added : List Entry) → AllByRecursion (λ entry. is_collectors entry ≡ true) added → NoneOf (is_reply_to r) added
@@ -30,11 +30,11 @@ none_turned r (entry ∷ added) its = rw (by entry its.0) (none_turned r added i
     by (Said number command reply) its = absurd (cc its)
     by _ its = refl
 
-pub turn_looks : (heap : Heap) (state : State) (before now : List Entry) (stage : Stage) → AllLooksStand heap state before → now ≡ before ++ (turn_at heap state.collector stage).adds
+pub all_looks_stand_after_turn : (heap : Heap) (state : State) (before now : List Entry) (stage : Stage) → AllLooksStand heap state before → now ≡ before ++ (turn_at heap state.collector stage).adds
     → AllLooksStand heap (state_after_turn heap state (turn_at heap state.collector stage)) now
-turn_looks heap state before now stage looks grown r below =
+all_looks_stand_after_turn heap state before now stage looks grown r below =
     subst (λ es. LooksStand heap es r (seat_at state r).place (seat_at state r).looks) (sym grown)
-    (looks_on heap r before (turn_at heap state.collector stage).adds (none_turned r (turn_at heap state.collector stage).adds (shape_collects heap state.collector 0 stage ((turn_kind stage).shape heap state.collector 0))) (seat_at state r).place (seat_at state r).looks (looks r below))
+    (looks_stand_without_reply heap r before (turn_at heap state.collector stage).adds (none_turned r (turn_at heap state.collector stage).adds (shape_adds_collector_entries heap state.collector 0 stage ((turn_kind_of_each_stage stage).shape heap state.collector 0))) (seat_at state r).place (seat_at state r).looks (looks r below))
 
 module _ (heap : Heap) (state : State) (number : ℕ) (here : number < length state.seats) where
   abbrev IsRight : List Entry → Seat → ℕ → Type 0
@@ -47,35 +47,35 @@ module _ (heap : Heap) (state : State) (number : ℕ) (here : number < length st
     | inl same ↦ subst (λ n. IsRight (before ++ added) (slice_index_or (slice_set state.seats number now) n absent_seat) n) (sym same.1)
         (subst (λ (s : Seat). IsRight (before ++ added) s number) (sym (get_or-set_same state.seats number now absent_seat here)) own)
     | inr apart ↦ subst (λ (s : Seat). IsRight (before ++ added) s r) (sym (get_or-set_other state.seats number r now absent_seat apart.1))
-        (looks_on heap r before added (others r apart.1) (seat_at state r).place (seat_at state r).looks (looks r below))
+        (looks_stand_without_reply heap r before added (others r apart.1) (seat_at state r).place (seat_at state r).looks (looks r below))
   ]
 
 -- by a step
-pub step_looks : (heap : Heap) (state : State) (book : Book) (now : List Entry) (number : ℕ) → Rule heap state book → number < heap.seats → AllLooksStand heap state book.history
+pub all_looks_stand_after_step : (heap : Heap) (state : State) (book : Book) (now : List Entry) (number : ℕ) → Rule heap state book → number < heap.seats → AllLooksStand heap state book.history
     → now ≡ book.history ++ entries heap state (Steps number) → AllLooksStand heap (state_after heap state (Steps number)) now
-step_looks heap state book now number rule here looks grown =
+all_looks_stand_after_step heap state book now number rule here looks grown =
     subst (AllLooksStand heap (state_after heap state (Steps number))) (sym grown) (by (seat_at state number).place refl)
   where
     by : (place : Place) → (seat_at state number).place ≡ place
         → AllLooksStand heap (state_after_due heap state number (move_at heap number (seat_at state number) place)) (book.history ++ entries_shown heap state (move_at heap number (seat_at state number) place))
-    by place placed = moves (move_at heap number (seat_at state number) place) ((step_kind place).looks.goes heap state book rule number placed)
+    by place placed = moves (move_at heap number (seat_at state number) place) ((step_kind_of_each_place place).looks.goes heap state book rule number placed)
       where
         moves : (move : Option Move) → GoesBy heap state book rule number move → AllLooksStand heap (state_after_due heap state number move) (book.history ++ entries_shown heap state move)
         moves None goes = subst (AllLooksStand heap state) (sym (append-nil book.history)) looks
         moves (Some move) goes = one_seat heap state number (rw rule.machine.seated here) book.history _ _ looks goes.others (goes.stands (looks number here))
 
 -- by a begin
-pub begin_looks : (heap : Heap) (state : State) (before now : List Entry) (number : ℕ) (command : Command) → number < length state.seats → number < heap.seats → MayBegin (seat_at state number) command
+pub all_looks_stand_after_begin : (heap : Heap) (state : State) (before now : List Entry) (number : ℕ) (command : Command) → number < length state.seats → number < heap.seats → MayBegin (seat_at state number) command
     → AllLooksStand heap state before → now ≡ before ++ [] → AllLooksStand heap (state_after heap state (Begins number command)) now
-begin_looks heap state before now number command there here may looks grown =
+all_looks_stand_after_begin heap state before now number command there here may looks grown =
     let seat : Seat = seat_at state number in
     let next : Seat = after_begin heap seat command in
-    let stays = begin_stays heap seat command may.idle in
+    let stays = stays_found_after_begin heap seat command may.idle in
     subst (AllLooksStand heap (state_after heap state (Begins number command))) (sym grown)
     (one_seat heap state number there before [] next looks (λ r apart. refl)
     (subst (λ es. LooksStand heap es number next.place next.looks) (sym (append-nil before))
     (subst (LooksStand heap before number next.place) (sym stays.looks)
-    (looks_elsewhere heap before number seat.place next.place seat.looks (λ named. cc (may.idle, named)) stays.elsewhere (looks number here)))))
+    (looks_stand_elsewhere heap before number seat.place next.place seat.looks (λ named. cc (may.idle, named)) stays.elsewhere (looks number here)))))
 
 -- what an inner call asks for
 inner_asks : (heap : Heap) (before : List Entry) (number : ℕ) (looks : Looks) (inner : Inner) → MayMake heap number looks inner → WhileCollecting (CollectingStands heap before number) (inner_place inner)
@@ -90,9 +90,9 @@ inner_uncompared inners.Answer other p comparing = cc comparing
 inner_uncompared (inners.Behind one) other p comparing = cc comparing
 inner_uncompared (inners.Note reply) other p comparing = cc comparing
 
-pub inner_looks : (heap : Heap) (state : State) (before now : List Entry) (number : ℕ) (inner : Inner) → number < length state.seats → number < heap.seats → MayBeginInner heap number (seat_at state number) inner
+pub all_looks_stand_after_inner : (heap : Heap) (state : State) (before now : List Entry) (number : ℕ) (inner : Inner) → number < length state.seats → number < heap.seats → MayBeginInner heap number (seat_at state number) inner
     → AllLooksStand heap state before → now ≡ before ++ [] → AllLooksStand heap (state_after heap state (BeginsInner number inner)) now
-inner_looks heap state before now number inner there here may looks grown =
+all_looks_stand_after_inner heap state before now number inner there here may looks grown =
     let seat : Seat = seat_at state number in
     let stands = looks number here in
     subst (AllLooksStand heap (state_after heap state (BeginsInner number inner))) (sym grown)

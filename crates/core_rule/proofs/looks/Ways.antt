@@ -20,32 +20,32 @@ abbrev pub IsNote : Place → Type 0
 IsNote (places.Collecting (Noting reply)) = Unit {0}
 IsNote _ = ⊥
 
-pub elsewhere_unnoted : (place : Place) → IsElsewhere place → ¬ IsNote place
-elsewhere_unnoted (places.Collecting place) elsewhere note = elsewhere
-elsewhere_unnoted _ elsewhere note = note
+pub elsewhere_is_no_note : (place : Place) → IsElsewhere place → ¬ IsNote place
+elsewhere_is_no_note (places.Collecting place) elsewhere note = elsewhere
+elsewhere_is_no_note _ elsewhere note = note
 
 -- what stays on the ways of a seat
 pub stays_gather : (heap : Heap) (seat : Seat) → StaysFound seat (gather_next heap seat)
 stays_gather heap seat = goes_on_cases (λ s. StaysFound seat s) heap seat (λ enough. record { looks = refl; elsewhere = tt }) (λ few more. record { looks = refl; elsewhere = tt }) (λ few all. record { looks = refl; elsewhere = tt })
 
-pub stays_claim : (heap : Heap) (seat : Seat) (found : ℕ) → StaysFound seat (after_claim heap seat found)
-stays_claim heap seat found =
+pub stays_found_after_claim : (heap : Heap) (seat : Seat) (found : ℕ) → StaysFound seat (after_claim heap seat found)
+stays_found_after_claim heap seat found =
     let stays = stays_gather heap (record seat { hand = seat.hand ++ clear_in (next_group_of heap seat) found; tried = seat.tried + 1 }) in
     record { looks = stays.looks; elsewhere = stays.elsewhere }
 
-pub stays_budget : (heap : Heap) (seat : Seat) (found : ℕ) → StaysFound seat (after_budget heap seat found)
-stays_budget heap seat found = budget_cases (λ s. StaysFound seat s) heap seat found (λ many. record { looks = refl; elsewhere = tt }) (λ few. stays_gather heap seat)
+pub stays_found_after_budget : (heap : Heap) (seat : Seat) (found : ℕ) → StaysFound seat (after_budget heap seat found)
+stays_found_after_budget heap seat found = budget_cases (λ s. StaysFound seat s) heap seat found (λ many. record { looks = refl; elsewhere = tt }) (λ few. stays_gather heap seat)
 
-pub stays_walk : (seat : Seat) (found : ℕ) → StaysFound seat (after_walk seat found)
-stays_walk seat found = by (seat.links == 0)
+pub stays_found_after_walk : (seat : Seat) (found : ℕ) → StaysFound seat (after_walk seat found)
+stays_found_after_walk seat found = by (seat.links == 0)
   where
     by : (b : Bool) → StaysFound seat (if b then at_access seat (way_place_of seat) else at_access (after_link seat found) (way_place_of (after_link seat found)))
     by true = record { looks = refl; elsewhere = tt }
     by false = record { looks = refl; elsewhere = tt }
 
-pub stays_length : (seat : Seat) (found : ℕ) (length : Option ℕ) → StaysFound seat (after_length seat found length)
-stays_length seat found None = let stays = stays_walk (with_field_place seat) found in record { looks = stays.looks; elsewhere = stays.elsewhere }
-stays_length seat found (Some cells) = record { looks = refl; elsewhere = tt }
+pub stays_found_after_length : (seat : Seat) (found : ℕ) (length : Option ℕ) → StaysFound seat (after_length seat found length)
+stays_found_after_length seat found None = let stays = stays_found_after_walk (with_field_place seat) found in record { looks = stays.looks; elsewhere = stays.elsewhere }
+stays_found_after_length seat found (Some cells) = record { looks = refl; elsewhere = tt }
 
 pub stays_start : (seat : Seat) (held : Register) → StaysFound seat (access_start seat held)
 stays_start seat (registers.Object head id) = record { looks = refl; elsewhere = tt }
@@ -53,15 +53,15 @@ stays_start seat registers.Nil = record { looks = refl; elsewhere = tt }
 stays_start seat (registers.Number n) = record { looks = refl; elsewhere = tt }
 
 -- a call that begins leaves what was found, and stands at no inner call's own place
-pub begin_stays : (heap : Heap) (seat : Seat) (command : Command) → seat.place ≡ places.Idle → StaysFound seat (after_begin heap seat command)
-begin_stays heap seat (commands.New d fields) idle =
+pub stays_found_after_begin : (heap : Heap) (seat : Seat) (command : Command) → seat.place ≡ places.Idle → StaysFound seat (after_begin heap seat command)
+stays_found_after_begin heap seat (commands.New d fields) idle =
     let stays = stays_gather heap (record seat { command = commands.New d fields }) in record { looks = stays.looks; elsewhere = stays.elsewhere }
-begin_stays heap seat (commands.Array d cells) idle = record { looks = refl; elsewhere = tt }
-begin_stays heap seat commands.Collect idle = record { looks = refl; elsewhere = subst IsElsewhere (sym idle) tt }
-begin_stays heap seat (commands.Get d r i) idle =
+stays_found_after_begin heap seat (commands.Array d cells) idle = record { looks = refl; elsewhere = tt }
+stays_found_after_begin heap seat commands.Collect idle = record { looks = refl; elsewhere = subst IsElsewhere (sym idle) tt }
+stays_found_after_begin heap seat (commands.Get d r i) idle =
     let stays = stays_start (record seat { command = commands.Get d r i }) (register_in seat.registers r) in record { looks = stays.looks; elsewhere = stays.elsewhere }
-begin_stays heap seat (commands.Set r i v) idle =
+stays_found_after_begin heap seat (commands.Set r i v) idle =
     let stays = stays_start (record seat { command = commands.Set r i v }) (register_in seat.registers r) in record { looks = stays.looks; elsewhere = stays.elsewhere }
-begin_stays heap seat (commands.Len r) idle =
+stays_found_after_begin heap seat (commands.Len r) idle =
     let stays = stays_start (record seat { command = commands.Len r }) (register_in seat.registers r) in record { looks = stays.looks; elsewhere = stays.elsewhere }
-begin_stays heap seat _ idle = record { looks = refl; elsewhere = tt }
+stays_found_after_begin heap seat _ idle = record { looks = refl; elsewhere = tt }

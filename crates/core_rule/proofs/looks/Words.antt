@@ -5,9 +5,9 @@ use Rattle.core_rule.proofs.Terms.{Heap, phase, last_answer, has_left, State, se
 use Rattle.core_machine.specs.declared.table.address.Address.TheVariants.{Answer}
 
 -- the seat hasn't left, and this is its last answer
-pub word_below : (heap : Heap) (state : State) (book : Book) → Rule heap state book → (other : ℕ) → other < heap.seats → (word : ℕ) → at heap state.words (Answer other) ≡ word
+pub word_is_last_answer : (heap : Heap) (state : State) (book : Book) → Rule heap state book → (other : ℕ) → other < heap.seats → (word : ℕ) → at heap state.words (Answer other) ≡ word
     → word < phase book.history → (has_left other book.history ≡ false) × (last_answer other book.history ≡ word)
-word_below heap state book rule other below word is less =
+word_is_last_answer heap state book rule other below word is less =
     by (seat_at state other).left refl
   where
     by : (left : Bool) → (seat_at state other).left ≡ left → (has_left other book.history ≡ false) × (last_answer other book.history ≡ word)

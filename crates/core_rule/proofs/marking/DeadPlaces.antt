@@ -4,10 +4,10 @@ use Rattle.std.proofs.Common.{◌≡◌, ℕ, ◌+◌, ◌*◌, ◌/◌, ◌%◌
 use Rattle.std.proofs.lemmas.Nat.Bits.{bit_at-lt}
 use Rattle.core_rule.proofs.Terms.{Heap, Control, at, table_length, Colour, White, Grey, Black, Marks, marked_bit, Bits, AfterMarking, AreDead, Owner, born_bit, dead_bit}
 use Rattle.core_machine.specs.collector.Sweeping.{dead_bits_of}
-use Rattle.core_machine.proofs.table_lemmas.DeadBits.{dead_tells}
-use Rattle.core_rule.proofs.colours.MarkWords.{found_marked}
-use Rattle.core_rule.proofs.owners.OwnerLemmas.{dead_once, is_dead, bits_same}
-use Rattle.core_rule.proofs.words.ControlLemmas.{found_born}
+use Rattle.core_machine.proofs.table_lemmas.DeadBits.{dead_is_born_unmarked}
+use Rattle.core_rule.proofs.colours.MarkWords.{word_has_marked_bit}
+use Rattle.core_rule.proofs.owners.OwnerLemmas.{dead_bit_within_one, dead_bit_is_dead, alike_bits_are_equal}
+use Rattle.core_rule.proofs.words.ControlLemmas.{word_has_born_bit}
 
 -- a fragment that isn't marked is white
 white_by_bit : (c : Colour) → marked_bit c ≡ 0 → c ≡ White
@@ -30,17 +30,17 @@ module _ (heap : Heap) (words : List ℕ) (owner : ℕ → Owner) (colour : ℕ 
     born_told : bit_at word (16 + place) ≡ born_bit (owner f)
     born_told =
         let rest : f % 16 ≡ place = omega (arith, within) in
-        rw rest at (found_born heap words owner group whole below bits f here)
+        rw rest at (word_has_born_bit heap words owner group whole below bits f here)
 
     marked_told : bit_at word (32 + place) ≡ marked_bit (colour f)
     marked_told =
         let rest : f % 16 ≡ place = omega (arith, within) in
-        rw rest at (found_marked heap words colour colour group 0 whole below marks f here)
+        rw rest at (word_has_marked_bit heap words colour colour group 0 whole below marks f here)
 
     -- a bit that is set tells a fragment that is to be freed
     bit_is_dead : bit_at (dead_bits_of word) place ≡ 1 → dead_bit (owner f) ≡ 1
     bit_is_dead one =
-        let told = (dead_tells word place within).0 one in
+        let told = (dead_is_born_unmarked word place within).0 one in
         let white : colour f ≡ White = white_by_bit (colour f) (sym marked_told ∙ told.1) in
         let is = after.white_dead f record { unmarked = white; born = sym born_told ∙ told.0 } in
         ap dead_bit is.2
@@ -48,11 +48,11 @@ module _ (heap : Heap) (words : List ℕ) (owner : ℕ → Owner) (colour : ℕ 
     -- and each that is has its bit
     dead_has_bit : dead_bit (owner f) ≡ 1 → bit_at (dead_bits_of word) place ≡ 1
     dead_has_bit one =
-        let is = is_dead (owner f) one in
-        (dead_tells word place within).1 (born_told ∙ ap born_bit is.2, marked_told ∙ ap marked_bit (after.dead_white f is.0 is.1 is.2))
+        let is = dead_bit_is_dead (owner f) one in
+        (dead_is_born_unmarked word place within).1 (born_told ∙ ap born_bit is.2, marked_told ∙ ap marked_bit (after.dead_white f is.0 is.1 is.2))
 
     told : bit_at (dead_bits_of word) place ≡ dead_bit (owner f)
-    told = bits_same (dead_bit (owner f)) (bit_at (dead_bits_of word) place) (dead_once (owner f)) (omega (arith, bit_at-lt (dead_bits_of word) place)) dead_has_bit bit_is_dead
+    told = alike_bits_are_equal (dead_bit (owner f)) (bit_at (dead_bits_of word) place) (dead_bit_within_one (owner f)) (omega (arith, bit_at-lt (dead_bits_of word) place)) dead_has_bit bit_is_dead
 
-  pub are_dead : AreDead owner group (dead_bits_of word)
-  are_dead place within = told place within
+  pub dead_bits_are_dead : AreDead owner group (dead_bits_of word)
+  dead_bits_are_dead place within = told place within

@@ -5,8 +5,8 @@ use Rattle.std.proofs.lemmas.Bool.Decides.{eqb_tells}
 use Rattle.core_rule.proofs.Terms.{is_grey, marked_at, scanned_at, Heap, Control, at, table_length, Colour, White, Grey, Black, Marks, marked_bit, scanned_bit, IsSeen, PassStands}
 use Rattle.heap_words.specs.Control.{lowest_grey_of}
 use Rattle.core_machine.specs.declared.collector.stage.Stage.TheVariants as stages
-use Rattle.core_machine.proofs.table_lemmas.Grey.{grey_within, grey_found, grey_none}
-use Rattle.core_rule.proofs.colours.MarkWords.{found_marked, found_scanned}
+use Rattle.core_machine.proofs.table_lemmas.Grey.{grey_place_within_group, found_place_is_grey, none_found_none_grey}
+use Rattle.core_rule.proofs.colours.MarkWords.{word_has_marked_bit, word_has_scanned_bit}
 
 -- a fragment that is marked and not scanned is grey
 grey_by_bits : (c : Colour) → marked_bit c ≡ 1 → scanned_bit c ≡ 0 → c ≡ Grey
@@ -33,26 +33,26 @@ module _ (heap : Heap) (words : List ℕ) (colour : ℕ → Colour) (group : ℕ
   grey_there : (f : ℕ) → f / 16 ≡ group → is_grey word f ≡ true → colour f ≡ Grey
   grey_there f here is =
       let bits = bits_of_grey (bit_at word (marked_at f)) (bit_at word (scanned_at f)) is in
-      grey_by_bits (colour f) (sym (found_marked heap words colour colour group 0 whole below marks f here) ∙ bits.0) (sym (found_scanned heap words colour colour group 0 whole below marks f here) ∙ bits.1)
+      grey_by_bits (colour f) (sym (word_has_marked_bit heap words colour colour group 0 whole below marks f here) ∙ bits.0) (sym (word_has_scanned_bit heap words colour colour group 0 whole below marks f here) ∙ bits.1)
 
   grey_told : (f : ℕ) → f / 16 ≡ group → colour f ≡ Grey → is_grey word f ≡ true
   grey_told f here grey =
-      let marked : bit_at word (marked_at f) ≡ 1 = found_marked heap words colour colour group 0 whole below marks f here ∙ ap marked_bit grey in
-      let scanned : bit_at word (scanned_at f) ≡ 0 = found_scanned heap words colour colour group 0 whole below marks f here ∙ ap scanned_bit grey in
+      let marked : bit_at word (marked_at f) ≡ 1 = word_has_marked_bit heap words colour colour group 0 whole below marks f here ∙ ap marked_bit grey in
+      let scanned : bit_at word (scanned_at f) ≡ 0 = word_has_scanned_bit heap words colour colour group 0 whole below marks f here ∙ ap scanned_bit grey in
       rw (marked, scanned) refl
 
   -- the lowest one is
   pub lowest_is_grey : (place : ℕ) → lowest_grey_of word ≡ Some place → colour (16 * group + place) ≡ Grey
   lowest_is_grey place is =
-      let within = grey_within word place is in
+      let within = grey_place_within_group word place is in
       let rest : (16 * group + place) % 16 ≡ place % 16 = omega arith in
-      grey_there (16 * group + place) (omega (arith, within)) (rw rest (grey_found word place is))
+      grey_there (16 * group + place) (omega (arith, within)) (rw rest (found_place_is_grey word place is))
 
   -- and where the word has none no fragment of the group is grey
   none_in_group : lowest_grey_of word ≡ None → (f : ℕ) → f / 16 ≡ group → colour f ≢ Grey
   none_in_group none f here grey =
       let rest : f % 16 % 16 ≡ f % 16 = omega arith in
-      let missed : is_grey word (f % 16) ≡ false = grey_none word (f % 16) none (omega arith) in
+      let missed : is_grey word (f % 16) ≡ false = none_found_none_grey word (f % 16) none (omega arith) in
       let not_there : is_grey word f ≡ false = rw rest at missed in
       let there : is_grey word f ≡ true = grey_told f here grey in
       absurd (cc (there, not_there))
@@ -65,21 +65,21 @@ module _ (heap : Heap) (words : List ℕ) (colour : ℕ → Colour) (group : ℕ
       | inr apart ↦ omega (arith, from, apart.1)
     ]
 
-    pub pass_further : (found : Bool) → PassStands colour (stages.Passing group found) → PassStands colour (stages.Passing (group + 1) found)
-    pass_further true stands = tt
-    pass_further false stands = λ f grey. let some = stands f grey in (some.0, some.1, further some.0 some.1 some.2)
+    pub pass_stands_at_next_group : (found : Bool) → PassStands colour (stages.Passing group found) → PassStands colour (stages.Passing (group + 1) found)
+    pass_stands_at_next_group true stands = tt
+    pass_stands_at_next_group false stands = λ f grey. let some = stands f grey in (some.0, some.1, further some.0 some.1 some.2)
 
     -- and behind the last group nothing is grey, where it has found nothing
-    pub nothing_grey : heap.groups ≤ group + 1 → PassStands colour (stages.Passing group false) → (f : ℕ) → colour f ≢ Grey
-    nothing_grey last stands f grey =
+    pub nothing_is_grey : heap.groups ≤ group + 1 → PassStands colour (stages.Passing group false) → (f : ℕ) → colour f ≢ Grey
+    nothing_is_grey last stands f grey =
         let some = stands f grey in
         let white : colour some.0 ≡ White = marks.outside some.0 (omega (arith, last, further some.0 some.1 some.2)) in
         absurd (cc (some.1, white))
 
 -- another pass begins at the first group
-pub pass_anew : (colour : ℕ → Colour) → PassStands colour (stages.Passing 0 false)
-pass_anew colour f grey = (f, grey, omega arith)
+pub pass_stands_anew : (colour : ℕ → Colour) → PassStands colour (stages.Passing 0 false)
+pass_stands_anew colour f grey = (f, grey, omega arith)
 
 -- of a grey fragment no word is seen to yet
-pub scan_anew : (heap : Heap) (words : List ℕ) (colour : ℕ → Colour) (f : ℕ) → colour f ≡ Grey → IsSeen heap words colour f 0
-scan_anew heap words colour f grey = record { grey = grey; seen = λ p g below leads. absurd (omega (arith, below)) }
+pub is_seen_at_start : (heap : Heap) (words : List ℕ) (colour : ℕ → Colour) (f : ℕ) → colour f ≡ Grey → IsSeen heap words colour f 0
+is_seen_at_start heap words colour f grey = record { grey = grey; seen = λ p g below leads. absurd (omega (arith, below)) }

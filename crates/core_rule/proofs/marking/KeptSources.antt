@@ -4,9 +4,9 @@ use Rattle.heap_words.specs.declared.spot.Spot.{Spot}
 use Rattle.core_rule.proofs.Terms.{spot_in, Heap, graph_of, Node, spine_words_of, Word, State, spine_words_in, at, spine_place, Book, fragment_at, IsKept, node_at, Kept, Rule}
 use Rattle.core_rule.proofs.colours.LeadsFrames.{SameSources}
 use Rattle.core_rule.proofs.colours.SourceCases.{TellsNoSpine}
-use Rattle.core_rule.proofs.marking.ObjectEdges.{kept_no_spine}
-use Rattle.core_rule.proofs.objects.SpinePlaces.{spine_placed}
-use Rattle.core_rule.proofs.ways.KeptWords.{kept_within, words_found, spine_found}
+use Rattle.core_rule.proofs.marking.ObjectEdges.{kept_tells_no_spine}
+use Rattle.core_rule.proofs.objects.SpinePlaces.{array_spine_fits_spot}
+use Rattle.core_rule.proofs.ways.KeptWords.{owned_within_heap, meta_tells_spine_words, word_tells_spine_spot}
 
 module _ (heap : Heap) (state : State) (book : Book) (rule : Rule heap state book) (now : List ℕ)
     (parts : (f part : ℕ) → f < 16 * heap.groups → part < 4 → at heap now (Word f part) ≡ at heap state.words (Word f part))
@@ -29,19 +29,19 @@ module _ (heap : Heap) (state : State) (book : Book) (rule : Rule heap state boo
       let head : f ≡ fragment_at (book.fragments i) 0 = there.3 ∙ ap (fragment_at (book.fragments i)) first in
       let stands = rule.heap_stands in
       let many : spine_words_in (at heap state.words (Word f 0)) ≡ spine_words_of object = ap (λ x. spine_words_in (at heap state.words (Word x 0))) head
-      ∙ words_found heap state.words (graph_of heap book.history) book.made book.owner book.fragments rule.machine.limits stands.control_words stands.ids stands.objects i there.0 there.1 kind in
+      ∙ meta_tells_spine_words heap state.words (graph_of heap book.history) book.made book.owner book.fragments rule.machine.limits stands.control_words stands.ids stands.objects i there.0 there.1 kind in
       let place : spot_in (at heap state.words (Word f 2)) ≡ book.spines i = ap (λ x. spot_in (at heap state.words (Word x 2))) head
-      ∙ spine_found heap state.words (graph_of heap book.history) book.made book.owner book.fragments rule.machine.limits stands.control_words stands.ids stands.objects i there.0 there.1 kind
-      (spine_placed rule i there.0 there.1 kind) in
+      ∙ word_tells_spine_spot heap state.words (graph_of heap book.history) book.made book.owner book.fragments rule.machine.limits stands.control_words stands.ids stands.objects i there.0 there.1 kind
+      (array_spine_fits_spot rule i there.0 there.1 kind) in
       subst (λ (s : Spot). at heap now (spine_place s j) ≡ at heap state.words (spine_place s j)) (sym place) (spines i j there.0 there.1 (subst (λ n. j < n) many within))
 
   -- no other has a spine
   none_there : (j : ℕ) → (object.array ≡ true → 1 ≤ k) → j < spine_words_in (at heap state.words (Word f 0)) → WordSame j
-  none_there j behind within = let none : TellsNoSpine heap state.words f = kept_no_spine heap state book rule f i k kept behind in absurd (omega (arith, within, none))
+  none_there j behind within = let none : TellsNoSpine heap state.words f = kept_tells_no_spine heap state book rule f i k kept behind in absurd (omega (arith, within, none))
 
-  pub kept_sources : SameSources heap state.words now f
-  kept_sources = record {
-    parts = λ part below. parts f part (kept_within heap state.words book.owner f i k rule.heap_stands.control_words kept) below;
+  pub same_sources_of_kept : SameSources heap state.words now f
+  same_sources_of_kept = record {
+    parts = λ part below. parts f part (owned_within_heap heap state.words book.owner f i k rule.heap_stands.control_words kept) below;
     spine = λ j within. by object.array refl k refl j within;
   }
     where

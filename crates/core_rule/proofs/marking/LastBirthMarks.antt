@@ -6,23 +6,23 @@ use Rattle.heap_model.specs.PhasePlan.{marking as marking_phase}
 use Rattle.core_machine.specs.declared.place.Place.TheVariants as places
 use Rattle.core_machine.specs.Moves.{bears_black_of, seat_after}
 use Rattle.core_rule.proofs.colours.BirthColours.{painted}
-use Rattle.core_rule.proofs.colours.Births.{AreBorne, birth_colour, births_are}
-use Rattle.core_rule.proofs.colours.LastColours.{kept_bears, body_coloured}
-use Rattle.core_rule.proofs.cycle.BirthCycle.{words_born, group_born, some_born}
-use Rattle.core_rule.proofs.entries.AtRest.{seat_fits, in_flight}
-use Rattle.core_rule.proofs.marking.MakingMarks.{leaves_kept, dark_now, pale_now}
-use Rattle.core_rule.proofs.marking.Marks.{MarksGoOn, Leaves, heap_marks_on, comes_on}
-use Rattle.core_rule.proofs.roots.RegisterRoots.{heads_put}
-use Rattle.core_rule.proofs.entries.MakingCommands.{ranges_made}
-use Rattle.core_rule.proofs.hand.Bodies.{body_own}
-use Rattle.core_rule.proofs.hand.HandMoves.{part_held}
-use Rattle.core_rule.proofs.lists.Members.{tally_at}
-use Rattle.core_rule.proofs.lists.Options.{if_some}
-use Rattle.core_rule.proofs.objects.NamesGrowth.{old_apart}
+use Rattle.core_rule.proofs.colours.Births.{AreBorne, birth_colour, are_borne_as_seat_bears}
+use Rattle.core_rule.proofs.colours.LastColours.{born_bit_after_last_birth, body_has_birth_colour}
+use Rattle.core_rule.proofs.cycle.BirthCycle.{words_born, born_group_within_heap, born_body_is_some}
+use Rattle.core_rule.proofs.entries.AtRest.{seat_fits, in_flight_has_not_left}
+use Rattle.core_rule.proofs.marking.MakingMarks.{leaves_marking_when_kept, bears_black_while_marking, bears_white_when_answered}
+use Rattle.core_rule.proofs.marking.Marks.{MarksGoOn, Leaves, marking_stands_after_step, reached_after_step}
+use Rattle.core_rule.proofs.roots.RegisterRoots.{heads_hold_after_put}
+use Rattle.core_rule.proofs.entries.MakingCommands.{made_command_in_range}
+use Rattle.core_rule.proofs.hand.Bodies.{body_is_own}
+use Rattle.core_rule.proofs.hand.HandMoves.{part_fragment_is_taken}
+use Rattle.core_rule.proofs.lists.Members.{element_is_tallied}
+use Rattle.core_rule.proofs.lists.Options.{if_some_goes_on}
+use Rattle.core_rule.proofs.objects.NamesGrowth.{old_number_is_not_new}
 use Rattle.core_rule.proofs.objects.ObjectsGrowth.{with_spine}
 use Rattle.core_rule.proofs.spines.SpineBirths.{born_words}
 use Rattle.core_rule.proofs.owners.Keeping.{kept_by, with_object}
-use Rattle.core_rule.proofs.owners.OwnerLemmas.{IsOwn, own_keeps_none, own_undead}
+use Rattle.core_rule.proofs.owners.OwnerLemmas.{IsOwn, own_is_not_kept, own_is_not_dead}
 
 -- the book after it: the object keeps its fragments and its spine, and has a number
 abbrev pub book_born : Book → ℕ → Seat → Book
@@ -51,43 +51,43 @@ module _ (heap : Heap) (state : State) (book : Book) (number : ℕ) (rule : Rule
   at_place = rw place at (seat_fits rule number here).at_place
 
   own : (f : ℕ) → 1 ≤ tally f seat.body → IsOwn number (book.owner f)
-  own f there = body_own book.owner number seat.reserve seat.hand seat.body (rule.seats_stand number here).own.holding f there
+  own f there = body_is_own book.owner number seat.reserve seat.hand seat.body (rule.seats_stand number here).own.holding f there
 
   births : AreBorne book.owner book.colour number (bears_black_of seat)
-  births = births_are book.owner book.colour number seat (rule.seats_stand number here).cycle.births
+  births = are_borne_as_seat_bears book.owner book.colour number seat (rule.seats_stand number here).cycle.births
 
   present : seat.left ≡ false
-  present = in_flight rule number here (λ idle. absurd (cc (place, idle)))
+  present = in_flight_has_not_left rule number here (λ idle. absurd (cc (place, idle)))
 
   leaves : Leaves heap state book rule words now
   leaves =
-      leaves_kept heap state book rule (last_group_of seat.hand) _ (group_born heap state book number rule here place) (length book.made) seat.body (part_in (last_group_of seat.hand) seat.hand) (bears_black_of seat)
-      (dark_now heap state book rule number here present) (pale_now heap state book rule number here present)
-      (kept_bears book.owner book.colour number seat.reserve seat.hand seat.body (rule.seats_stand number here).own.holding (some_born heap state book number rule here place)
+      leaves_marking_when_kept heap state book rule (last_group_of seat.hand) _ (born_group_within_heap heap state book number rule here place) (length book.made) seat.body (part_in (last_group_of seat.hand) seat.hand) (bears_black_of seat)
+      (bears_black_while_marking heap state book rule number here present) (bears_white_when_answered heap state book rule number here present)
+      (born_bit_after_last_birth book.owner book.colour number seat.reserve seat.hand seat.body (rule.seats_stand number here).own.holding (born_body_is_some heap state book number rule here place)
       (last_group_of seat.hand) (length book.made) last (bears_black_of seat) births)
-      (λ f there. ap born_bit (part_held book.owner number seat.reserve seat.hand seat.body (rule.seats_stand number here).own.holding (last_group_of seat.hand) f there))
-      (λ f i k there. own_keeps_none number i k (book.owner f) (own f there)) (λ f i k there. own_undead number i k (book.owner f) (own f there))
-      (λ f i k keeps. old_apart book.made i (rule.heap_stands.objects.back f i k keeps).0)
+      (λ f there. ap born_bit (part_fragment_is_taken book.owner number seat.reserve seat.hand seat.body (rule.seats_stand number here).own.holding (last_group_of seat.hand) f there))
+      (λ f i k there. own_is_not_kept number i k (book.owner f) (own f there)) (λ f i k there. own_is_not_dead number i k (book.owner f) (own f there))
+      (λ f i k keeps. old_number_is_not_new book.made i (rule.heap_stands.objects.back f i k keeps).0)
 
   -- its first fragment is black then
   head_marked : state.collector.phase % cycle_phases ≡ marking_phase → IsMarked now.colour (fragment_at seat.body 0)
   head_marked third white =
       let black : now.colour (fragment_at seat.body 0) ≡ birth_colour (bears_black_of seat)
-      = body_coloured book.owner book.colour number seat.reserve seat.hand seat.body (rule.seats_stand number here).own.holding (some_born heap state book number rule here place)
-      (last_group_of seat.hand) (length book.made) last (bears_black_of seat) births (fragment_at seat.body 0) (tally_at seat.body 0 (some_born heap state book number rule here place)) in
-      let dark : now.colour (fragment_at seat.body 0) ≡ Black = black ∙ ap birth_colour (dark_now heap state book rule number here present (record { from = omega (arith, third); upto = omega (arith, third) })) in
+      = body_has_birth_colour book.owner book.colour number seat.reserve seat.hand seat.body (rule.seats_stand number here).own.holding (born_body_is_some heap state book number rule here place)
+      (last_group_of seat.hand) (length book.made) last (bears_black_of seat) births (fragment_at seat.body 0) (element_is_tallied seat.body 0 (born_body_is_some heap state book number rule here place)) in
+      let dark : now.colour (fragment_at seat.body 0) ≡ Black = black ∙ ap birth_colour (bears_black_while_marking heap state book rule number here present (record { from = omega (arith, third); upto = omega (arith, third) })) in
       absurd (cc (white, dark))
 
   -- so marking goes on
-  pub marks_made : MarksGoOn heap state book now words (seat_after (last_birth_move number seat) found)
-  marks_made = record {
-    heap_on = heap_marks_on heap state book rule words now leaves;
-    reached_on = comes_on heap state book rule words now leaves;
+  pub marks_go_on_when_made : MarksGoOn heap state book now words (seat_after (last_birth_move number seat) found)
+  marks_go_on_when_made = record {
+    heap_on = marking_stands_after_step heap state book rule words now leaves;
+    reached_on = reached_after_step heap state book rule words now leaves;
     own_on = λ marks answered. record {
-      registers = heads_put (IsReached heap words now.owner now.colour) seat.registers (target_of seat.command) _
-          (omega (arith, (seat_fits rule number here).own.registers_whole, (ranges_made seat.command at_place.0.makes.an_object at_place.0.makes.in_range).1))
+      registers = heads_hold_after_put (IsReached heap words now.owner now.colour) seat.registers (target_of seat.command) _
+          (omega (arith, (seat_fits rule number here).own.registers_whole, (made_command_in_range seat.command at_place.0.makes.an_object at_place.0.makes.in_range).1))
           (inl (head_marked marks.phase))
-          (λ r. if_some (IsReached heap state.words book.owner book.colour) (IsReached heap words now.owner now.colour) (comes_on heap state book rule words now leaves marks)
+          (λ r. if_some_goes_on (IsReached heap state.words book.owner book.colour) (IsReached heap words now.owner now.colour) (reached_after_step heap state book rule words now leaves marks)
           (register_head (register_in seat.registers r)) ((rule.marks_stand.roots number here marks answered).registers r));
       call = tt;
     };

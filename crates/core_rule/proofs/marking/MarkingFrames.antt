@@ -7,8 +7,8 @@ use Rattle.core_machine.specs.declared.collector.stage.SpineScan.{SpineScan}
 use Rattle.core_machine.specs.declared.collector.stage.Stage.TheVariants as stages
 use Rattle.core_rule.specs.marking.Sources.{TellsNoSpine}
 use Rattle.core_rule.proofs.colours.SpineStays.{SpineStays}
-use Rattle.core_rule.proofs.marking.Paths.{path_stays}
-use Rattle.core_rule.proofs.owners.OwnerLemmas.{born_once, dead_once, is_dead, bits_same}
+use Rattle.core_rule.proofs.marking.Paths.{path_stays_guarded}
+use Rattle.core_rule.proofs.owners.OwnerLemmas.{born_bit_within_one, dead_bit_within_one, dead_bit_is_dead, alike_bits_are_equal}
 
 -- the born fragments have their colours, and stay born; what is kept stays so, and nothing more is to be freed; none that wasn't born is grey; until
 -- marking has ended the sources of born fragments lead where they led but for what is marked, and spines stay; from then to the end of the sweep what is born now is black;
@@ -44,7 +44,7 @@ OnlyClears clears _ = Unit {0}
 
 -- a fragment is born or not
 pub born_or_not : (o : Owner) → (born_bit o ≡ 0) ⊎ (born_bit o ≡ 1)
-born_or_not o = by (born_bit o) (born_once o)
+born_or_not o = by (born_bit o) (born_bit_within_one o)
   where
     by : (n : ℕ) → n ≤ 1 → (n ≡ 0) ⊎ (n ≡ 1)
     by n few = grind (arith, few)
@@ -141,7 +141,7 @@ module _ (heap : Heap) (words now : List ℕ) (owner later : ℕ → Owner) (col
     pub reached_stays : (f : ℕ) → IsReached heap words owner colour f → IsReached heap now later coloured f
     reached_stays f reached = elim reached as (λ _. IsReached heap now later coloured f) [
       | inl marked ↦ inl (marks_on f marked)
-      | inr path ↦ inr (path_stays (Edge heap words) (Edge heap now) (IsWhite owner colour) (IsWhite later coloured) (λ x. colour x ≡ Grey) (λ x. coloured x ≡ Grey)
+      | inr path ↦ inr (path_stays_guarded (Edge heap words) (Edge heap now) (IsWhite owner colour) (IsWhite later coloured) (λ x. colour x ≡ Grey) (λ x. coloured x ≡ Grey)
           white_on (λ x g grey leads white. grey_on x grey) edge_on f path)
     ]
 
@@ -186,9 +186,9 @@ module _ (heap : Heap) (words now : List ℕ) (owner later : ℕ → Owner) (col
   freed_stays group freed f i k below is = freed f i k below (leaves.was_dead f i k is)
 
   dead_same : (f : ℕ) → dead_bit (later f) ≡ dead_bit (owner f)
-  dead_same f = bits_same (dead_bit (owner f)) (dead_bit (later f)) (dead_once (owner f)) (dead_once (later f))
-      (λ one. let was = is_dead (owner f) one in ap dead_bit (leaves.dead f was.0 was.1 was.2))
-      (λ one. let now_dead = is_dead (later f) one in ap dead_bit (leaves.was_dead f now_dead.0 now_dead.1 now_dead.2))
+  dead_same f = alike_bits_are_equal (dead_bit (owner f)) (dead_bit (later f)) (dead_bit_within_one (owner f)) (dead_bit_within_one (later f))
+      (λ one. let was = dead_bit_is_dead (owner f) one in ap dead_bit (leaves.dead f was.0 was.1 was.2))
+      (λ one. let now_dead = dead_bit_is_dead (later f) one in ap dead_bit (leaves.was_dead f now_dead.0 now_dead.1 now_dead.2))
 
   dead_stays : (group bits : ℕ) → AreDead owner group bits → AreDead later group bits
   dead_stays group bits are place below = are place below ∙ sym (dead_same (16 * group + place))
@@ -207,9 +207,9 @@ module _ (heap : Heap) (words now : List ℕ) (owner later : ℕ → Owner) (col
   sweep_stays phase _ is stands = tt
 
   -- all of it stands as before
-  pub marking_stays : (phase : ℕ) (stage : Stage) → OnlyMarks marks stage → OnlyClears clears stage → (IsSettled phase stage → settles)
+  pub marking_stands_as_before : (phase : ℕ) (stage : Stage) → OnlyMarks marks stage → OnlyClears clears stage → (IsSettled phase stage → settles)
       → MarkingStands heap words owner colour fragments phase stage → MarkingStands heap now later coloured bodies phase stage
-  marking_stays phase stage is clear known stands = record {
+  marking_stands_as_before phase stage is clear known stands = record {
     grey = λ f grey. part_on f (stands.grey f (grey_was f grey));
     scan = scan_stays stage is stands.scan;
     few = stands.few;

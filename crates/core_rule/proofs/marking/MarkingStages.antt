@@ -15,17 +15,17 @@ OfMarking (stages.Blackening scan) = Unit {0}
 OfMarking _ = ⊥
 
 -- marking hasn't ended there
-pub marking_goes : (stage : Stage) → OfMarking stage → ¬ HasMarked stage
-marking_goes stages.Flipping marks ended = marks
-marking_goes stages.Advancing marks ended = marks
-marking_goes _ marks ended = ended
+pub marking_has_not_ended : (stage : Stage) → OfMarking stage → ¬ HasMarked stage
+marking_has_not_ended stages.Flipping marks ended = marks
+marking_has_not_ended stages.Advancing marks ended = marks
+marking_has_not_ended _ marks ended = ended
 
 -- and nothing is copied, returned or counted
-pub marking_plain : (stage : Stage) → OfMarking stage → IsPlain stage
-marking_plain stages.Looking marks = marks
-marking_plain stages.Advancing marks = marks
-marking_plain (stages.Copying stage) marks = marks
-marking_plain (stages.Examining group dead place counted) marks = marks
-marking_plain (stages.Freeing group dead counted) marks = marks
-marking_plain (stages.Returning group counted) marks = marks
-marking_plain _ marks = tt
+pub marking_is_plain : (stage : Stage) → OfMarking stage → IsPlain stage
+marking_is_plain stages.Looking marks = marks
+marking_is_plain stages.Advancing marks = marks
+marking_is_plain (stages.Copying stage) marks = marks
+marking_is_plain (stages.Examining group dead place counted) marks = marks
+marking_is_plain (stages.Freeing group dead counted) marks = marks
+marking_is_plain (stages.Returning group counted) marks = marks
+marking_is_plain _ marks = tt

@@ -10,19 +10,19 @@ use Rattle.core_machine.specs.declared.place.Access.{Access}
 use Rattle.core_machine.specs.declared.place.Access.TheVariants.{LoadingSpot, Naming}
 use Rattle.core_machine.specs.declared.place.Place.TheVariants as places
 use Rattle.core_rule.specs.roots.Roots.{IsInMarking, AtCall, OfRoots, RootsAreReached}
-use Rattle.core_rule.proofs.colours.LeadsFrames.{SameSources, leads_same, same_leads}
-use Rattle.core_rule.proofs.colours.SpineStays.{same_spine}
-use Rattle.core_rule.proofs.cycle.CycleFrames.{while_access}
-use Rattle.core_rule.proofs.lists.Options.{if_some}
-use Rattle.core_rule.proofs.marking.Paths.{reached_on}
-use Rattle.core_rule.proofs.marking.MarkingStages.{OfMarking, marking_goes}
-use Rattle.core_rule.proofs.marking.MarkingFrames.{LeavesMarking, OnlyMarks, OnlyClears, marking_stays, reached_stays}
+use Rattle.core_rule.proofs.colours.LeadsFrames.{SameSources, led_before_where_same, leads_now_where_same}
+use Rattle.core_rule.proofs.colours.SpineStays.{spine_stays_where_same}
+use Rattle.core_rule.proofs.cycle.CycleFrames.{while_access_goes_on}
+use Rattle.core_rule.proofs.lists.Options.{if_some_goes_on}
+use Rattle.core_rule.proofs.marking.Paths.{reached_follows_lead}
+use Rattle.core_rule.proofs.marking.MarkingStages.{OfMarking, marking_has_not_ended}
+use Rattle.core_rule.proofs.marking.MarkingFrames.{LeavesMarking, OnlyMarks, OnlyClears, marking_stands_as_before, reached_stays}
 
 -- what is true of each root goes on to be
-pub roots_more : (P Q : ℕ → Type 0) → ((f : ℕ) → P f → Q f) → (seat : Seat) → OfRoots P seat → OfRoots Q seat
-roots_more P Q more seat roots = record {
-  registers = λ r. if_some P Q more (register_head (register_in seat.registers r)) (roots.registers r);
-  call = while_access (AtCall P seat) (AtCall Q seat) each seat.place roots.call;
+pub roots_hold_still : (P Q : ℕ → Type 0) → ((f : ℕ) → P f → Q f) → (seat : Seat) → OfRoots P seat → OfRoots Q seat
+roots_hold_still P Q more seat roots = record {
+  registers = λ r. if_some_goes_on P Q more (register_head (register_in seat.registers r)) (roots.registers r);
+  call = while_access_goes_on (AtCall P seat) (AtCall Q seat) each seat.place roots.call;
 }
   where
     each : (place : Access) → AtCall P seat place → AtCall Q seat place
@@ -31,9 +31,9 @@ roots_more P Q more seat roots = record {
     each LoadingSpot holds = more seat.reached holds
     each Indexing holds = more seat.reached holds
     each Getting holds = more seat.reached holds
-    each Naming holds = if_some P Q more (head_of seat.loaded) holds
+    each Naming holds = if_some_goes_on P Q more (head_of seat.loaded) holds
     each LoadingOld holds = more seat.reached holds
-    each ShadingOld holds = (more seat.reached holds.0, if_some P Q more (head_of seat.loaded) holds.1)
+    each ShadingOld holds = (more seat.reached holds.0, if_some_goes_on P Q more (head_of seat.loaded) holds.1)
     each ShadingNew holds = more seat.reached holds
     each Swapping holds = more seat.reached holds
 
@@ -43,8 +43,8 @@ IsOffWay (places.Access place) = ⊥
 IsOffWay _ = Unit {0}
 
 -- then its registers' objects are all its roots
-pub roots_off_way : (P : ℕ → Type 0) (seat next : Seat) → next.registers ≡ seat.registers → IsOffWay next.place → OfRoots P seat → OfRoots P next
-roots_off_way P seat next same off roots = record {
+pub roots_hold_off_way : (P : ℕ → Type 0) (seat next : Seat) → next.registers ≡ seat.registers → IsOffWay next.place → OfRoots P seat → OfRoots P next
+roots_hold_off_way P seat next same off roots = record {
   registers = λ r. rw same (roots.registers r);
   call = nowhere next.place off;
 }
@@ -65,40 +65,40 @@ pub record IsLastAnswered (heap : Heap) (collector : Collector) : Type 0 where
   pub last : collector.phase % cycle_phases ≡ clearing_phase
 
 -- from the end of marking to the end of the sweep the phase is one of three
-pub settled_phase : (phase : ℕ) (stage : Stage) → IsSettled phase stage → IsBetween 3 5 phase
-settled_phase phase stage (inl third) = record { from = omega (arith, third.0); upto = omega (arith, third.0) }
-settled_phase phase stage (inr (inl copies)) = record { from = omega (arith, copies); upto = omega (arith, copies) }
-settled_phase phase stage (inr (inr sweeps)) = record { from = omega (arith, sweeps); upto = omega (arith, sweeps) }
+pub settled_phase_is_between : (phase : ℕ) (stage : Stage) → IsSettled phase stage → IsBetween 3 5 phase
+settled_phase_is_between phase stage (inl third) = record { from = omega (arith, third.0); upto = omega (arith, third.0) }
+settled_phase_is_between phase stage (inr (inl copies)) = record { from = omega (arith, copies); upto = omega (arith, copies) }
+settled_phase_is_between phase stage (inr (inr sweeps)) = record { from = omega (arith, sweeps); upto = omega (arith, sweeps) }
 
 -- so it is at another stage of the same phase, but for the phase of marking
-pub settled_moves : (phase : ℕ) (from to : Stage) → (phase % cycle_phases ≡ marking_phase → ¬ HasMarked from) → IsSettled phase from → IsSettled phase to
-settled_moves phase from to goes (inl ended) = absurd (goes ended.0 ended.1)
-settled_moves phase from to goes (inr later) = inr later
+pub settled_at_other_stage : (phase : ℕ) (from to : Stage) → (phase % cycle_phases ≡ marking_phase → ¬ HasMarked from) → IsSettled phase from → IsSettled phase to
+settled_at_other_stage phase from to goes (inl ended) = absurd (goes ended.0 ended.1)
+settled_at_other_stage phase from to goes (inr later) = inr later
 
 -- while it marks, marking hasn't ended
-pub unsettled : (phase : ℕ) (stage : Stage) → phase % cycle_phases ≡ marking_phase → ¬ HasMarked stage → ¬ IsSettled phase stage
-unsettled phase stage third goes (inl ended) = goes ended.1
-unsettled phase stage third goes (inr (inl copies)) = omega (arith, third, copies)
-unsettled phase stage third goes (inr (inr sweeps)) = omega (arith, third, sweeps)
+pub marking_is_not_settled : (phase : ℕ) (stage : Stage) → phase % cycle_phases ≡ marking_phase → ¬ HasMarked stage → ¬ IsSettled phase stage
+marking_is_not_settled phase stage third goes (inl ended) = goes ended.1
+marking_is_not_settled phase stage third goes (inr (inl copies)) = omega (arith, third, copies)
+marking_is_not_settled phase stage third goes (inr (inr sweeps)) = omega (arith, third, sweeps)
 
 -- what stands at a stage of marking: nothing is to be freed yet
-pub marks_at : (heap : Heap) (words : List ℕ) (owner : ℕ → Owner) (colour : ℕ → Colour) (fragments : ℕ → List ℕ) (phase : ℕ) (stage : Stage) → phase % cycle_phases ≡ marking_phase → OfMarking stage
+pub marking_stands_at_stage : (heap : Heap) (words : List ℕ) (owner : ℕ → Owner) (colour : ℕ → Colour) (fragments : ℕ → List ℕ) (phase : ℕ) (stage : Stage) → phase % cycle_phases ≡ marking_phase → OfMarking stage
     → ((f : ℕ) → colour f ≡ Grey → IsPart owner f) → ScanStands heap words owner colour fragments stage → IsFewWords stage → PassStands colour stage → SweepStands heap owner colour phase stage
     → ((f i k : ℕ) → owner f ≢ Dead i k) → MarkingStands heap words owner colour fragments phase stage
-marks_at heap words owner colour fragments phase stage third goes grey scan few pass sweep alive = record {
+marking_stands_at_stage heap words owner colour fragments phase stage third goes grey scan few pass sweep alive = record {
   grey = grey;
   scan = scan;
   few = few;
   pass = pass;
   sweep_stands = sweep;
   alive = λ going. alive;
-  after = λ settled. absurd (unsettled phase stage third (marking_goes stage goes) settled);
+  after = λ settled. absurd (marking_is_not_settled phase stage third (marking_has_not_ended stage goes) settled);
 }
 
 module _ (heap : Heap) (state : State) (book : Book) (rule : Rule heap state book) where
   -- in the phase of marking, until that has ended, nothing is to be freed
-  pub none_dead : state.collector.phase % cycle_phases ≡ marking_phase → ¬ HasMarked state.collector.stage → (f i k : ℕ) → book.owner f ≢ Dead i k
-  none_dead third goes = rule.marks_stand.heap_marks.alive (unsettled state.collector.phase state.collector.stage third goes)
+  pub nothing_is_dead : state.collector.phase % cycle_phases ≡ marking_phase → ¬ HasMarked state.collector.stage → (f i k : ℕ) → book.owner f ≢ Dead i k
+  nothing_is_dead third goes = rule.marks_stand.heap_marks.alive (marking_is_not_settled state.collector.phase state.collector.stage third goes)
 
   -- what is true at a stage of marking is true in its phase alone, until marking has ended
   only_marks : (stage : Stage) → state.collector.stage ≡ stage → FitsStage heap state.collector.phase state.collector.looked stage → OnlyMarks (IsInMarking state.collector) stage
@@ -118,8 +118,8 @@ module _ (heap : Heap) (state : State) (book : Book) (rule : Rule heap state boo
   only_clears _ fits = tt
 
   -- where not all have answered the last phase no marks are cleared
-  pub no_clears : ¬ IsLastAnswered heap state.collector → OnlyClears ⊥ state.collector.stage
-  no_clears never = by state.collector.stage (only_clears state.collector.stage rule.machine.collector_fit.at_stage)
+  pub only_clears_never : ¬ IsLastAnswered heap state.collector → OnlyClears ⊥ state.collector.stage
+  only_clears_never never = by state.collector.stage (only_clears state.collector.stage rule.machine.collector_fit.at_stage)
     where
       by : (stage : Stage) → OnlyClears (IsLastAnswered heap state.collector) stage → OnlyClears ⊥ stage
       by (stages.Clearing group kept) last = absurd (never last)
@@ -127,19 +127,19 @@ module _ (heap : Heap) (state : State) (book : Book) (rule : Rule heap state boo
       by _ last = tt
 
   -- marking comes to what a fragment leads to that it comes to
-  pub comes_further : IsInMarking state.collector → (f source g : ℕ) → born_bit (book.owner g) ≡ 1 → IsReached heap state.words book.owner book.colour f
+  pub reached_leads_to_reached : IsInMarking state.collector → (f source g : ℕ) → born_bit (book.owner g) ≡ 1 → IsReached heap state.words book.owner book.colour f
       → WordPointsTo heap state.words f source g → IsReached heap state.words book.owner book.colour g
-  comes_further marks f source g born reached leads =
-      reached_on heap state.words book.owner book.colour
+  reached_leads_to_reached marks f source g born reached leads =
+      reached_follows_lead heap state.words book.owner book.colour
       (λ x p y dark points. rule.heap_stands.cycle.coloured.black (between marks) x p y dark points) f source g born reached leads
     where
       between : IsInMarking state.collector → IsBetween 2 5 (phase book.history)
       between marks = let same = rule.collector_stands.phase_told in let third = marks.phase in record { from = omega (arith, same, third); upto = omega (arith, same, third) }
 
   -- once the collector has looked at all seats each that hasn't left has answered the phase
-  pub all_answered : state.collector.looked ≡ heap.seats → (number : ℕ) → number < heap.seats → (seat_at state number).left ≡ false
+  pub each_seat_answered_phase : state.collector.looked ≡ heap.seats → (number : ℕ) → number < heap.seats → (seat_at state number).left ≡ false
       → (seat_at state number).answered ≡ state.collector.phase
-  all_answered all number here present =
+  each_seat_answered_phase all number here present =
       let told = (rule.seats_stand number here).cycle.answers_told in
       sym told.told ∙ rule.collector_stands.looked number (omega (arith, all, here)) here (told.leaves ∙ present) ∙ sym rule.collector_stands.phase_told
 
@@ -158,42 +158,42 @@ module _ (heap : Heap) (state : State) (book : Book) (rule : Rule heap state boo
     fresh = λ f unborn grey. unborn_grey f unborn grey;
     dark = λ known f unborn born. absurd (omega (arith, unborn, born));
     light = λ clears f white. white;
-    back = λ marks f source g born leads. inl (leads_same heap state.words words f (same marks f born) source g leads);
-    on = λ marks f source g born leads. inl (same_leads heap state.words words f (same marks f born) source g leads);
-    spine = λ marks f born. same_spine heap state.words words f (same marks f born);
+    back = λ marks f source g born leads. inl (led_before_where_same heap state.words words f (same marks f born) source g leads);
+    on = λ marks f source g born leads. inl (leads_now_where_same heap state.words words f (same marks f born) source g leads);
+    spine = λ marks f born. spine_stays_where_same heap state.words words f (same marks f born);
   }
     where
       unborn_grey : (f : ℕ) → born_bit (book.owner f) ≡ 0 → book.colour f ≢ Grey
       unborn_grey f unborn grey = let born = rule.heap_stands.cycle.coloured.born f (λ white. absurd (cc (grey, white))) in omega (arith, unborn, born)
 
   -- so it is where no source changes
-  pub leaves_words : (words : List ℕ) → ((f : ℕ) → SameSources heap state.words words f) → Leaves words book
-  leaves_words words same = leaves_born words (λ marks f born. same f)
+  pub leaves_by_same_sources : (words : List ℕ) → ((f : ℕ) → SameSources heap state.words words f) → Leaves words book
+  leaves_by_same_sources words same = leaves_born words (λ marks f born. same f)
 
   -- and where none of what is kept or borne does: until marking has ended nothing is to be freed
-  pub leaves_alive : (words : List ℕ) → ((f i k : ℕ) → book.owner f ≡ Kept i k → SameSources heap state.words words f) → ((f r : ℕ) → book.owner f ≡ Borne r → SameSources heap state.words words f)
+  pub leaves_by_alive_sources : (words : List ℕ) → ((f i k : ℕ) → book.owner f ≡ Kept i k → SameSources heap state.words words f) → ((f r : ℕ) → book.owner f ≡ Borne r → SameSources heap state.words words f)
       → Leaves words book
-  leaves_alive words kept borne = leaves_born words (λ marks f born. by marks f (book.owner f) refl born)
+  leaves_by_alive_sources words kept borne = leaves_born words (λ marks f born. by marks f (book.owner f) refl born)
     where
       by : IsInMarking state.collector → (f : ℕ) (o : Owner) → book.owner f ≡ o → born_bit o ≡ 1 → SameSources heap state.words words f
       by marks f Free is born = absurd (omega (arith, born))
       by marks f (Taken number) is born = absurd (omega (arith, born))
       by marks f (Borne number) is born = borne f number is
       by marks f (Kept i k) is born = kept f i k is
-      by marks f (Dead i k) is born = absurd (none_dead marks.phase marks.goes_on f i k is)
+      by marks f (Dead i k) is born = absurd (nothing_is_dead marks.phase marks.goes_on f i k is)
 
   module _ (words : List ℕ) (now : Book) (leaves : Leaves words now) where
     -- so the heap's part of marking stands
-    pub heap_marks_on : MarkingStands heap words now.owner now.colour now.fragments state.collector.phase state.collector.stage
-    heap_marks_on =
-        marking_stays heap state.words words book.owner now.owner book.colour now.colour book.fragments now.fragments (IsInMarking state.collector)
+    pub marking_stands_after_step : MarkingStands heap words now.owner now.colour now.fragments state.collector.phase state.collector.stage
+    marking_stands_after_step =
+        marking_stands_as_before heap state.words words book.owner now.owner book.colour now.colour book.fragments now.fragments (IsInMarking state.collector)
         (IsBetween 3 5 state.collector.phase) (IsLastAnswered heap state.collector) leaves rule.heap_stands.cycle.coloured.born state.collector.phase state.collector.stage
         (only_marks state.collector.stage refl rule.machine.collector_fit.at_stage) (only_clears state.collector.stage rule.machine.collector_fit.at_stage)
-        (settled_phase state.collector.phase state.collector.stage) rule.marks_stand.heap_marks
+        (settled_phase_is_between state.collector.phase state.collector.stage) rule.marks_stand.heap_marks
 
     -- and marking comes to what it came to
-    pub comes_on : IsInMarking state.collector → (f : ℕ) → IsReached heap state.words book.owner book.colour f → IsReached heap words now.owner now.colour f
-    comes_on marks =
+    pub reached_after_step : IsInMarking state.collector → (f : ℕ) → IsReached heap state.words book.owner book.colour f → IsReached heap words now.owner now.colour f
+    reached_after_step marks =
         reached_stays heap state.words words book.owner now.owner book.colour now.colour book.fragments now.fragments (IsInMarking state.collector)
         (IsBetween 3 5 state.collector.phase) (IsLastAnswered heap state.collector) leaves rule.heap_stands.cycle.coloured.born marks
 
@@ -206,14 +206,14 @@ module _ (heap : Heap) (state : State) (book : Book) (rule : Rule heap state boo
     -- so its step leaves marking
     pub marks_go_on : (words : List ℕ) (now : Book) (next : Seat) → Leaves words now → next.answered ≡ (seat_at state number).answered → RootsGoOn next → MarksGoOn heap state book now words next
     marks_go_on words now next leaves same roots = record {
-      heap_on = heap_marks_on words now leaves;
-      reached_on = comes_on words now leaves;
-      own_on = λ marks answered. roots_more (IsReached heap state.words book.owner book.colour) (IsReached heap words now.owner now.colour) (comes_on words now leaves marks) next
+      heap_on = marking_stands_after_step words now leaves;
+      reached_on = reached_after_step words now leaves;
+      own_on = λ marks answered. roots_hold_still (IsReached heap state.words book.owner book.colour) (IsReached heap words now.owner now.colour) (reached_after_step words now leaves marks) next
           (roots marks (rule.marks_stand.roots number here marks (sym same ∙ answered)));
     }
 
     -- and where its registers stay, and its call is on no way
-    pub marks_off_way : (words : List ℕ) (now : Book) (next : Seat) → Leaves words now → next.answered ≡ (seat_at state number).answered
+    pub marks_go_on_off_way : (words : List ℕ) (now : Book) (next : Seat) → Leaves words now → next.answered ≡ (seat_at state number).answered
         → next.registers ≡ (seat_at state number).registers → IsOffWay next.place → MarksGoOn heap state book now words next
-    marks_off_way words now next leaves same registers off =
-        marks_go_on words now next leaves same (λ marks. roots_off_way (IsReached heap state.words book.owner book.colour) (seat_at state number) next registers off)
+    marks_go_on_off_way words now next leaves same registers off =
+        marks_go_on words now next leaves same (λ marks. roots_hold_off_way (IsReached heap state.words book.owner book.colour) (seat_at state number) next registers off)

@@ -7,17 +7,17 @@ use Rattle.core_rule.proofs.Terms.{spine_words_in, record_word_of, sentinel_word
 use Rattle.core_rule.proofs.Terms.{KeptObject, IsKept, name_of, value_word, field_word, is_cell, node_at, Owner, Kept, Rule, TellsWords}
 use Rattle.heap_model.specs.declared.graph.cell.Cell.{Cell}
 use Rattle.core_rule.specs.marking.Sources.{spine_pointer}
-use Rattle.core_rule.proofs.colours.NewbornLeads.{IsNext, newborn_leads, zero_leads}
-use Rattle.core_rule.proofs.colours.NoSpines.{newborn_no_spine, value_no_spine}
-use Rattle.core_rule.proofs.colours.SourceCases.{TellsNoSpine, lead_cases, no_spine_leads, spine_cases}
+use Rattle.core_rule.proofs.colours.NewbornLeads.{IsNext, newborn_leads_to_next, zero_leads_nowhere}
+use Rattle.core_rule.proofs.colours.NoSpines.{newborn_tells_no_spine, value_tells_no_spine}
+use Rattle.core_rule.proofs.colours.SourceCases.{TellsNoSpine, lead_cases, no_spine_word_leads, spine_lead_is_payload}
 use Rattle.std.proofs.lemmas.Bool.Decides.{nat_tests}
 use Rattle.core_rule.proofs.objects.ObjectWords.{word_cases}
-use Rattle.core_rule.proofs.objects.SpinePlaces.{spine_placed}
-use Rattle.core_rule.proofs.ways.ArrayWords.{sentinel_nowhere, plain_lead, value_plain}
+use Rattle.core_rule.proofs.objects.SpinePlaces.{array_spine_fits_spot}
+use Rattle.core_rule.proofs.ways.ArrayWords.{sentinel_leads_nowhere, plain_pointer_is_head, value_word_is_not_fixed}
 use Rattle.core_rule.proofs.ways.Told.{head_in-value}
-use Rattle.core_rule.proofs.ways.KeptWords.{kept_within, has_room, sized_few, by_kind, words_found, spine_found, payload_found}
-use Rattle.core_rule.proofs.ways.LoadedObjects.{KeptHead, CellRefers, refers_kept, named_refers}
-use Rattle.core_rule.proofs.dying.DeadWords.{none_behind}
+use Rattle.core_rule.proofs.ways.KeptWords.{owned_within_heap, named_value_has_room, sized_cells_are_few, array_or_record_cases, meta_tells_spine_words, word_tells_spine_spot, spine_word_tells_payload}
+use Rattle.core_rule.proofs.ways.LoadedObjects.{KeptHead, CellRefers, referred_is_kept_head, value_refers_to_head}
+use Rattle.core_rule.proofs.dying.DeadWords.{no_words_behind_first}
 
 -- a cell's word of a record is no first one
 cell_part : (k part : ℕ) → is_cell k part ≡ true → 0 < part
@@ -25,9 +25,9 @@ cell_part zero part is = grind (arith, nat_tests, is)
 cell_part (suc k) part is = grind (arith, nat_tests, is)
 
 -- a name has room for an id's numbers
-pub name_small : (id : Id) → FitsName id → ((name_of id).owner < 2 ^ 30) × ((name_of id).count < 2 ^ 32)
-name_small Board fits = (omega arith, omega arith)
-name_small (Made s count) fits = (omega (arith, fits.0), fits.1)
+pub name_numbers_are_small : (id : Id) → FitsName id → ((name_of id).owner < 2 ^ 30) × ((name_of id).count < 2 ^ 32)
+name_numbers_are_small Board fits = (omega arith, omega arith)
+name_numbers_are_small (Made s count) fits = (omega (arith, fits.0), fits.1)
 
 -- the fragment is one of these
 pub record IsPartOf (fragments : List ℕ) (x : ℕ) : Type 0 where
@@ -47,27 +47,27 @@ module _ (heap : Heap) (words : List ℕ) (g : Graph) (made : List Id) (owner : 
   abbrev the_object : KeptObject heap words owner head i (id_at made i) object (fragments i) (spines i)
   the_object = objects.kept i below kept
 
-  pub small : (k : ℕ) → k < length (fragments i) → get_or (fragments i) k 0 < 2 ^ 30
-  small k within = omega (arith, limits.groups_fit, kept_within heap words owner _ _ _ bits (the_object.owned k within))
+  pub fragment_is_small : (k : ℕ) → k < length (fragments i) → get_or (fragments i) k 0 < 2 ^ 30
+  fragment_is_small k within = omega (arith, limits.groups_fit, owned_within_heap heap words owner _ _ _ bits (the_object.owned k within))
 
   few : length object.cells ≤ 4096
-  few = (sized_few object.array (length object.cells) the_object.sized).1
+  few = (sized_cells_are_few object.array (length object.cells) the_object.sized).1
 
   fits_name : ((name_of (id_at made i)).owner < 2 ^ 30) × ((name_of (id_at made i)).count < 2 ^ 32)
-  fits_name = name_small (id_at made i) (ids.fit i below)
+  fits_name = name_numbers_are_small (id_at made i) (ids.fit i below)
 
   -- a cell leads to the object that it refers to
   cell_leads : (j part : ℕ) (o : Option Cell) → slice_get object.cells j ≡ o → (x : ℕ) → pointer_in part (field_word head o) ≡ Some x → CellRefers g made owner fragments i x
-  cell_leads j part None none x leads = let nowhere : pointer_in part 0 ≡ None = zero_leads part in absurd (cc (nowhere, leads))
+  cell_leads j part None none x leads = let nowhere : pointer_in part 0 ≡ None = zero_leads_nowhere part in absurd (cc (nowhere, leads))
   cell_leads j part (Some cell) there x leads =
       let named = objects.named i j below kept cell there in
-      let room = has_room heap words g made owner fragments limits bits cell.value named.0 in
+      let room = named_value_has_room heap words g made owner fragments limits bits cell.value named.0 in
       record {
         place = j;
         cell = cell;
         there = there;
-        refers = named_refers made owner fragments cell.value named.0 x
-            (sym (head_in-value head cell.value cell.stamp room named.1) ∙ sym (plain_lead part (value_word head cell.value cell.stamp) (value_plain head cell.value cell.stamp room named.1)) ∙ leads);
+        refers = value_refers_to_head made owner fragments cell.value named.0 x
+            (sym (head_in-value head cell.value cell.stamp room named.1) ∙ sym (plain_pointer_is_head part (value_word head cell.value cell.stamp) (value_word_is_not_fixed head cell.value cell.stamp room named.1)) ∙ leads);
       }
 
   -- and is no array's meta, nor a record's
@@ -75,13 +75,13 @@ module _ (heap : Heap) (words : List ℕ) (g : Graph) (made : List Id) (owner : 
   cell_no_spine j None none = refl
   cell_no_spine j (Some cell) there =
       let named = objects.named i j below kept cell there in
-      value_no_spine head cell.value cell.stamp (has_room heap words g made owner fragments limits bits cell.value named.0) named.1
+      value_tells_no_spine head cell.value cell.stamp (named_value_has_room heap words g made owner fragments limits bits cell.value named.0) named.1
 
-  pub cell_no_meta : (j : ℕ) (o : Option Cell) → slice_get object.cells j ≡ o → is_meta (field_word head o) ≡ false
-  cell_no_meta j None none = refl
-  cell_no_meta j (Some cell) there =
+  pub cell_is_no_meta : (j : ℕ) (o : Option Cell) → slice_get object.cells j ≡ o → is_meta (field_word head o) ≡ false
+  cell_is_no_meta j None none = refl
+  cell_is_no_meta j (Some cell) there =
       let named = objects.named i j below kept cell there in
-      value_plain head cell.value cell.stamp (has_room heap words g made owner fragments limits bits cell.value named.0) named.1
+      value_word_is_not_fixed head cell.value cell.stamp (named_value_has_room heap words g made owner fragments limits bits cell.value named.0) named.1
 
   -- what is true of the words of its frame and of its cells is true of each word found
   pub found_cases : (P : ℕ → Type 0) (k part : ℕ) → k < length (fragments i) → part < 4
@@ -97,12 +97,12 @@ module _ (heap : Heap) (words : List ℕ) (g : Graph) (made : List Id) (owner : 
   pub object_no_spine : (k : ℕ) → k < length (fragments i) → (object.array ≡ true → 1 ≤ k) → TellsNoSpine heap words (fragment_at (fragments i) k)
   object_no_spine k within behind = found_cases (λ w. spine_words_in w ≡ 0) k 0 within (omega arith)
       (λ kind is. let later = cell_part k 0 is in absurd (omega (arith, later)))
-      (λ kind is. newborn_no_spine (fragments i) small (name_of (id_at made i)) (length object.cells) k (omega (arith, few)))
+      (λ kind is. newborn_tells_no_spine (fragments i) fragment_is_small (name_of (id_at made i)) (length object.cells) k (omega (arith, few)))
       (λ kind first. absurd (omega (arith, behind kind, first)))
       (λ kind later. cell_no_spine (4 * (k - 1) + 0) (slice_get object.cells (4 * (k - 1) + 0)) refl)
 
   module _ (fits : object.array ≡ true → FitsSpot (spines i)) where
-    next_part : (k x : ℕ) → IsNext (fragments i) small k x → IsPartOf (fragments i) x
+    next_part : (k x : ℕ) → IsNext (fragments i) fragment_is_small k x → IsPartOf (fragments i) x
     next_part k x next = record { place = k + 1; within = next.0; is = next.1 }
 
     -- where a word leads
@@ -111,20 +111,20 @@ module _ (heap : Heap) (words : List ℕ) (g : Graph) (made : List Id) (owner : 
     word_refers k part x within first =
         found_cases (λ w. pointer_in part w ≡ Some x → IsPartOf (fragments i) x ⊎ CellRefers g made owner fragments i x) k part within first
         (λ kind is to. inr (cell_leads (3 * k + part - 2) part (slice_get object.cells (3 * k + part - 2)) refl x to))
-        (λ kind is to. inl (next_part k x (newborn_leads (fragments i) small (name_of (id_at made i)) (length object.cells) k part x fits_name.0 fits_name.1 (omega (arith, few)) to)))
-        (λ kind is to. absurd (let nowhere = sentinel_nowhere (name_of (id_at made i)) (length object.cells) (spines i) part fits_name.0 fits_name.1 (omega (arith, few)) (fits kind) in cc (nowhere, to)))
+        (λ kind is to. inl (next_part k x (newborn_leads_to_next (fragments i) fragment_is_small (name_of (id_at made i)) (length object.cells) k part x fits_name.0 fits_name.1 (omega (arith, few)) to)))
+        (λ kind is to. absurd (let nowhere = sentinel_leads_nowhere (name_of (id_at made i)) (length object.cells) (spines i) part fits_name.0 fits_name.1 (omega (arith, few)) (fits kind) in cc (nowhere, to)))
         (λ kind later to. inr (cell_leads (4 * (k - 1) + part) part (slice_get object.cells (4 * (k - 1) + part)) refl x to))
 
     -- and a word of an array's spine
     spine_refers : object.array ≡ true → (j x : ℕ) → spine_pointer heap words (fragment_at (fragments i) 0) j ≡ Some x → IsPartOf (fragments i) x
     spine_refers kind j x to =
-        let its = spine_cases heap words (fragment_at (fragments i) 0) j x to in
-        let within : j < spine_words_of object = subst (λ n. j < n) (words_found heap words g made owner fragments limits bits ids objects i below kept kind) its.0 in
-        let payload = payload_found heap words g made owner fragments limits bits ids objects i below kept j within in
+        let its = spine_lead_is_payload heap words (fragment_at (fragments i) 0) j x to in
+        let within : j < spine_words_of object = subst (λ n. j < n) (meta_tells_spine_words heap words g made owner fragments limits bits ids objects i below kept kind) its.0 in
+        let payload = spine_word_tells_payload heap words g made owner fragments limits bits ids objects i below kept j within in
         record {
           place = j + 1;
           within = payload.0;
-          is = its.1 ∙ ap (λ s. payload_in (at heap words (spine_place s j))) (spine_found heap words g made owner fragments limits bits ids objects i below kept kind (fits kind)) ∙ payload.1;
+          is = its.1 ∙ ap (λ s. payload_in (at heap words (spine_place s j))) (word_tells_spine_spot heap words g made owner fragments limits bits ids objects i below kept kind (fits kind)) ∙ payload.1;
         }
 
     -- and where each source does: to a fragment of the object, or to what a cell refers to
@@ -132,14 +132,14 @@ module _ (heap : Heap) (words : List ℕ) (g : Graph) (made : List Id) (owner : 
         → IsPartOf (fragments i) x ⊎ CellRefers g made owner fragments i x
     object_refers k source x within = lead_cases heap words (fragment_at (fragments i) k) (IsPartOf (fragments i) x ⊎ CellRefers g made owner fragments i x) source x
         (λ first to. word_refers k source x within first to)
-        (λ behind to. by_kind heap words g made owner fragments limits bits ids objects i below kept (IsPartOf (fragments i) x ⊎ CellRefers g made owner fragments i x)
+        (λ behind to. array_or_record_cases heap words g made owner fragments limits bits ids objects i below kept (IsPartOf (fragments i) x ⊎ CellRefers g made owner fragments i x)
         (λ kind. by_row kind k within to)
-        (λ kind. absurd (no_spine_leads heap words (fragment_at (fragments i) k) (object_no_spine k within (λ array. absurd (cc (kind, array)))) (source - 4) x to)))
+        (λ kind. absurd (no_spine_word_leads heap words (fragment_at (fragments i) k) (object_no_spine k within (λ array. absurd (cc (kind, array)))) (source - 4) x to)))
       where
         by_row : object.array ≡ true → (n : ℕ) → n < length (fragments i) → spine_pointer heap words (fragment_at (fragments i) n) (source - 4) ≡ Some x
             → IsPartOf (fragments i) x ⊎ CellRefers g made owner fragments i x
         by_row kind zero inside to = inl (spine_refers kind (source - 4) x to)
-        by_row kind (suc n) inside to = absurd (no_spine_leads heap words (fragment_at (fragments i) (suc n)) (object_no_spine (suc n) inside (λ array. omega arith)) (source - 4) x to)
+        by_row kind (suc n) inside to = absurd (no_spine_word_leads heap words (fragment_at (fragments i) (suc n)) (object_no_spine (suc n) inside (λ array. omega arith)) (source - 4) x to)
 
 module _ (heap : Heap) (state : State) (book : Book) (rule : Rule heap state book) (f i k : ℕ) (owned : book.owner f ≡ Kept i k) where
   there : (i < length book.made) × IsKept book.owner book.fragments i × (k < length (book.fragments i)) × (f ≡ fragment_at (book.fragments i) k)
@@ -149,36 +149,36 @@ module _ (heap : Heap) (state : State) (book : Book) (rule : Rule heap state boo
   its_object = node_at (graph_of heap book.history) book.made i
 
   -- by the rule, no fragment of a kept object has a spine but an array's first one
-  pub kept_no_spine : ((node_at (graph_of heap book.history) book.made i).array ≡ true → 1 ≤ k) → TellsNoSpine heap state.words f
-  kept_no_spine behind = subst (TellsNoSpine heap state.words) (sym there.3)
+  pub kept_tells_no_spine : ((node_at (graph_of heap book.history) book.made i).array ≡ true → 1 ≤ k) → TellsNoSpine heap state.words f
+  kept_tells_no_spine behind = subst (TellsNoSpine heap state.words) (sym there.3)
       (object_no_spine heap state.words (graph_of heap book.history) book.made book.owner book.fragments rule.machine.limits rule.heap_stands.control_words rule.heap_stands.ids
       rule.heap_stands.objects i there.0 there.1 k there.2 behind)
 
   -- and an array's first one tells how many words it has
-  pub kept_tells : (i < length book.made) × TellsWords its_object k (at heap state.words (Word f 0))
-  kept_tells = (there.0, record { sized = (rule.heap_stands.objects.kept i there.0 there.1).sized; told = by k refl its_object.array refl })
+  pub kept_tells_spine_words : (i < length book.made) × TellsWords its_object k (at heap state.words (Word f 0))
+  kept_tells_spine_words = (there.0, record { sized = (rule.heap_stands.objects.kept i there.0 there.1).sized; told = by k refl its_object.array refl })
     where
       by : (n : ℕ) → k ≡ n → (array : Bool) → its_object.array ≡ array → spine_words_in (at heap state.words (Word f 0)) ≡ (if n == 0 then spine_words_of its_object else 0)
       by zero first true kind =
           ap (λ x. spine_words_in (at heap state.words (Word x 0))) (there.3 ∙ ap (fragment_at (book.fragments i)) first)
-          ∙ words_found heap state.words (graph_of heap book.history) book.made book.owner book.fragments rule.machine.limits rule.heap_stands.control_words rule.heap_stands.ids
+          ∙ meta_tells_spine_words heap state.words (graph_of heap book.history) book.made book.owner book.fragments rule.machine.limits rule.heap_stands.control_words rule.heap_stands.ids
           rule.heap_stands.objects i there.0 there.1 kind
-      by zero first false kind = kept_no_spine (λ array. absurd (cc (kind, array))) ∙ rw kind refl
-      by (suc n) later array kind = kept_no_spine (λ _. omega (arith, later)) ∙ sym (none_behind (suc n) (spine_words_of its_object) (omega arith))
+      by zero first false kind = kept_tells_no_spine (λ array. absurd (cc (kind, array))) ∙ rw kind refl
+      by (suc n) later array kind = kept_tells_no_spine (λ _. omega (arith, later)) ∙ sym (no_words_behind_first (suc n) (spine_words_of its_object) (omega arith))
 
   -- and each of its sources leads to a fragment of its object, or to what a cell of that refers to
-  pub kept_refers : (source x : ℕ) → WordPointsTo heap state.words f source x
+  pub kept_leads_to_part_or_cell : (source x : ℕ) → WordPointsTo heap state.words f source x
       → IsPartOf (book.fragments i) x ⊎ CellRefers (graph_of heap book.history) book.made book.owner book.fragments i x
-  kept_refers source x leads =
+  kept_leads_to_part_or_cell source x leads =
       object_refers heap state.words (graph_of heap book.history) book.made book.owner book.fragments rule.machine.limits rule.heap_stands.control_words rule.heap_stands.ids
-      rule.heap_stands.objects i there.0 there.1 (spine_placed rule i there.0 there.1) k source x there.2 (subst (λ y. WordPointsTo heap state.words y source x) there.3 leads)
+      rule.heap_stands.objects i there.0 there.1 (array_spine_fits_spot rule i there.0 there.1) k source x there.2 (subst (λ y. WordPointsTo heap state.words y source x) there.3 leads)
 
-  pub kept_leads : (source x : ℕ) → WordPointsTo heap state.words f source x → IsPartOf (book.fragments i) x ⊎ KeptHead book.made book.owner book.fragments x
-  kept_leads source x leads = elim (kept_refers source x leads) [
+  pub kept_leads_to_kept : (source x : ℕ) → WordPointsTo heap state.words f source x → IsPartOf (book.fragments i) x ⊎ KeptHead book.made book.owner book.fragments x
+  kept_leads_to_kept source x leads = elim (kept_leads_to_part_or_cell source x leads) [
     | inl part ↦ inl part
-    | inr cell ↦ inr (refers_kept book.made book.owner book.fragments cell.cell.value x cell.refers)
+    | inr cell ↦ inr (referred_is_kept_head book.made book.owner book.fragments cell.cell.value x cell.refers)
   ]
 
   -- whose part that is
-  pub part_owned : (x : ℕ) (part : IsPartOf (book.fragments i) x) → book.owner x ≡ Kept i part.place
-  part_owned x part = ap book.owner part.is ∙ (rule.heap_stands.objects.kept i there.0 there.1).owned part.place part.within
+  pub part_is_kept : (x : ℕ) (part : IsPartOf (book.fragments i) x) → book.owner x ≡ Kept i part.place
+  part_is_kept x part = ap book.owner part.is ∙ (rule.heap_stands.objects.kept i there.0 there.1).owned part.place part.within

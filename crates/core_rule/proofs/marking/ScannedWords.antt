@@ -12,13 +12,13 @@ use Rattle.core_rule.proofs.Terms.{Heap, graph_of, phase, Graph, Node, Word, Sta
 use Rattle.core_rule.proofs.Terms.{Grey, fragment_at, id_at, object_head, IsMarked, WordPointsTo, IsBetween, IsPart, MayMark, IsSeen, ComesAfter, IsKept, KeptObject, name_of}
 use Rattle.core_rule.proofs.Terms.{is_cell, node_at, Kept, Rule}
 use Rattle.core_machine.specs.collector.Marking.{part_after}
-use Rattle.core_rule.proofs.colours.NewbornLeads.{link_word_at}
-use Rattle.core_rule.proofs.colours.SourceCases.{lead_of_word}
-use Rattle.core_rule.proofs.marking.ObjectEdges.{name_small, small, found_cases, cell_no_meta, kept_leads, part_owned}
-use Rattle.core_rule.proofs.objects.ObjectWords.{name_at}
-use Rattle.core_rule.proofs.objects.SpinePlaces.{spine_placed}
-use Rattle.core_rule.proofs.ways.ArrayWords.{fixed_no_head, sentinel_nowhere}
-use Rattle.core_rule.proofs.ways.KeptWords.{sized_few, array_length_found}
+use Rattle.core_rule.proofs.colours.NewbornLeads.{newborn_word_is_link}
+use Rattle.core_rule.proofs.colours.SourceCases.{word_pointer_of_lead}
+use Rattle.core_rule.proofs.marking.ObjectEdges.{name_numbers_are_small, fragment_is_small, found_cases, cell_is_no_meta, kept_leads_to_kept, part_is_kept}
+use Rattle.core_rule.proofs.objects.ObjectWords.{object_word_is_name}
+use Rattle.core_rule.proofs.objects.SpinePlaces.{array_spine_fits_spot}
+use Rattle.core_rule.proofs.ways.ArrayWords.{fixed_word_has_no_head, sentinel_leads_nowhere}
+use Rattle.core_rule.proofs.ways.KeptWords.{sized_cells_are_few, meta_tells_array_length}
 use Rattle.core_machine.proofs.table_lemmas.CellWords.{cell_of-cell_word}
 
 -- a first word is no cell
@@ -56,10 +56,10 @@ module _ (heap : Heap) (state : State) (book : Book) (rule : Rule heap state boo
   the_object = rule.heap_stands.objects.kept i there.0 there.1
 
   -- where a fragment of a kept object is grey, what it leads to may be marked
-  pub may_mark : IsBetween 1 5 (phase book.history) → book.colour f ≡ Grey → (source m : ℕ) → WordPointsTo heap state.words f source m → MayMark book.owner book.colour book.fragments m
-  may_mark cycle grey source m leads = elim (kept_leads heap state book rule f i k part_of.kept source m leads) as (λ _. MayMark book.owner book.colour book.fragments m) [
+  pub grey_target_may_be_marked : IsBetween 1 5 (phase book.history) → book.colour f ≡ Grey → (source m : ℕ) → WordPointsTo heap state.words f source m → MayMark book.owner book.colour book.fragments m
+  grey_target_may_be_marked cycle grey source m leads = elim (kept_leads_to_kept heap state book rule f i k part_of.kept source m leads) as (λ _. MayMark book.owner book.colour book.fragments m) [
     | inl part ↦ record {
-      part = record { index = i; place = part.place; kept = part_owned heap state book rule f i k part_of.kept m part };
+      part = record { index = i; place = part.place; kept = part_is_kept heap state book rule f i k part_of.kept m part };
       first = inr (rule.heap_stands.cycle.coloured.first cycle f i k part_of.kept (λ white. absurd (cc (grey, white))));
     }
     | inr head ↦ record { part = record { index = head.index; place = 0; kept = ap book.owner head.is ∙ head.kept }; first = inl refl }
@@ -71,9 +71,9 @@ module _ (heap : Heap) (state : State) (book : Book) (rule : Rule heap state boo
       let head : f ≡ fragment_at (book.fragments i) 0 = there.3 ∙ ap (fragment_at (book.fragments i)) first in
       let stored = the_object.stored 0 1 (subst (λ x. x < length (book.fragments i)) first there.2) (omega arith) in
       let name : Name = name_of (id_at book.made i) in
-      let fits = name_small (id_at book.made i) (rule.heap_stands.ids.fit i there.0) in
+      let fits = name_numbers_are_small (id_at book.made i) (rule.heap_stands.ids.fit i there.0) in
       let none : pointer_in 1 (at heap state.words (Word f 1)) ≡ None = ap (λ x. pointer_in 1 (at heap state.words (Word x 1))) head
-      ∙ ap (pointer_in 1) (stored ∙ name_at (object_head book.made book.fragments) name (book.spines i) (book.fragments i) object) ∙ fixed_no_head name.owner name.count fits.0 fits.1 in
+      ∙ ap (pointer_in 1) (stored ∙ object_word_is_name (object_head book.made book.fragments) name (book.spines i) (book.fragments i) object) ∙ fixed_word_has_no_head name.owner name.count fits.0 fits.1 in
       absurd (cc (none, leads.to))
 
   -- a meta stands in an object's first fragment alone
@@ -82,25 +82,25 @@ module _ (heap : Heap) (state : State) (book : Book) (rule : Rule heap state boo
   meta_first (suc n) is meta =
       let later : f ≡ fragment_at (book.fragments i) (suc n) = there.3 ∙ ap (fragment_at (book.fragments i)) is in
       let g : Graph = graph_of heap book.history in
-      let smalls = small heap state.words g book.made book.owner book.fragments rule.machine.limits rule.heap_stands.control_words
+      let smalls = fragment_is_small heap state.words g book.made book.owner book.fragments rule.machine.limits rule.heap_stands.control_words
       rule.heap_stands.ids rule.heap_stands.objects i there.0 there.1 in
       let within : suc n < length (book.fragments i) = subst (λ x. x < length (book.fragments i)) is there.2 in
       let no_meta : is_meta (at heap state.words (Word f 0)) ≡ false = ap (λ x. is_meta (at heap state.words (Word x 0))) later
       ∙ found_cases heap state.words g book.made book.owner book.fragments rule.machine.limits rule.heap_stands.control_words rule.heap_stands.ids rule.heap_stands.objects i there.0 there.1
       (λ w. is_meta w ≡ false) (suc n) 0 within (omega arith)
-      (λ kind cell. absurd (no_cell n cell)) (λ kind frame. ap is_meta (link_word_at (book.fragments i) smalls (name_of (id_at book.made i)) (length object.cells) n) ∙ link_no_meta (book.fragments i) (suc n) smalls)
+      (λ kind cell. absurd (no_cell n cell)) (λ kind frame. ap is_meta (newborn_word_is_link (book.fragments i) smalls (name_of (id_at book.made i)) (length object.cells) n) ∙ link_no_meta (book.fragments i) (suc n) smalls)
       (λ kind first. absurd (omega (arith, first)))
-      (λ kind behind. cell_no_meta heap state.words g book.made book.owner book.fragments rule.machine.limits rule.heap_stands.control_words rule.heap_stands.ids rule.heap_stands.objects i there.0 there.1
+      (λ kind behind. cell_is_no_meta heap state.words g book.made book.owner book.fragments rule.machine.limits rule.heap_stands.control_words rule.heap_stands.ids rule.heap_stands.objects i there.0 there.1
       (4 * (suc n - 1) + 0) (slice_get object.cells (4 * (suc n - 1) + 0)) refl) in
       absurd (false≢true (sym no_meta ∙ meta))
 
   -- where it tells an array's length, that is its object's, which is an array
-  pub array_first : (cells : ℕ) → array_length_of (at heap state.words (Word f 0)) ≡ Some cells → (k ≡ 0) × (object.array ≡ true) × (length object.cells ≡ cells)
-  array_first cells told =
+  pub array_length_is_objects : (cells : ℕ) → array_length_of (at heap state.words (Word f 0)) ≡ Some cells → (k ≡ 0) × (object.array ≡ true) × (length object.cells ≡ cells)
+  array_length_is_objects cells told =
       let g : Graph = graph_of heap book.history in
       let first = meta_first k refl (told_meta (cell_of (at heap state.words (Word f 0))).kind (cell_of (at heap state.words (Word f 0))) cells told) in
       let head : f ≡ fragment_at (book.fragments i) 0 = there.3 ∙ ap (fragment_at (book.fragments i)) first in
-      let found = array_length_found heap state.words g book.made book.owner book.fragments rule.machine.limits rule.heap_stands.control_words rule.heap_stands.ids rule.heap_stands.objects i there.0 there.1 in
+      let found = meta_tells_array_length heap state.words g book.made book.owner book.fragments rule.machine.limits rule.heap_stands.control_words rule.heap_stands.ids rule.heap_stands.objects i there.0 there.1 in
       let both : (if object.array then Some (length object.cells) else None) ≡ Some cells = sym found ∙ ap (λ x. array_length_of (at heap state.words (Word x 0))) (sym head) ∙ told in
       let its = by object.array both in
       (first, its.0, its.1)
@@ -110,41 +110,41 @@ module _ (heap : Heap) (state : State) (book : Book) (rule : Rule heap state boo
       by false same = absurd (cc same)
 
   -- which has few cells
-  pub array_few : object.array ≡ true → length object.cells ≤ 4096
-  array_few kind = (sized_few object.array (length object.cells) the_object.sized).1
+  pub array_has_few_cells : object.array ≡ true → length object.cells ≤ 4096
+  array_has_few_cells kind = (sized_cells_are_few object.array (length object.cells) the_object.sized).1
 
   -- none of its four words leads anywhere, so all of them are seen to
-  pub sentinel_seen : book.colour f ≡ Grey → k ≡ 0 → object.array ≡ true → IsSeen heap state.words book.colour f 4
-  sentinel_seen grey first kind = record { grey = grey; seen = λ p g below leads. absurd (nowhere p g below leads) }
+  pub sentinel_words_are_seen : book.colour f ≡ Grey → k ≡ 0 → object.array ≡ true → IsSeen heap state.words book.colour f 4
+  sentinel_words_are_seen grey first kind = record { grey = grey; seen = λ p g below leads. absurd (nowhere p g below leads) }
     where
       nowhere : (p g : ℕ) → p < 4 → ¬ WordPointsTo heap state.words f p g
       nowhere p g below leads =
           let made : Graph = graph_of heap book.history in
           let name : Name = name_of (id_at book.made i) in
-          let fits = name_small (id_at book.made i) (rule.heap_stands.ids.fit i there.0) in
-          let few = sized_few object.array (length object.cells) the_object.sized in
+          let fits = name_numbers_are_small (id_at book.made i) (rule.heap_stands.ids.fit i there.0) in
+          let few = sized_cells_are_few object.array (length object.cells) the_object.sized in
           let none : pointer_in p (at heap state.words (Word f p)) ≡ None = ap (λ x. pointer_in p (at heap state.words (Word x p))) there.3
           ∙ found_cases heap state.words made book.made book.owner book.fragments rule.machine.limits rule.heap_stands.control_words rule.heap_stands.ids rule.heap_stands.objects i there.0 there.1
           (λ w. pointer_in p w ≡ None) k p there.2 below
           (λ record_kind cell. absurd (cc (kind, record_kind)))
           (λ record_kind frame. absurd (cc (kind, record_kind)))
-          (λ array head. sentinel_nowhere name (length object.cells) (book.spines i) p fits.0 fits.1 (omega (arith, few.1)) (spine_placed rule i there.0 there.1 kind))
+          (λ array head. sentinel_leads_nowhere name (length object.cells) (book.spines i) p fits.0 fits.1 (omega (arith, few.1)) (array_spine_fits_spot rule i there.0 there.1 kind))
           (λ array behind. absurd (omega (arith, behind, first))) in
-          absurd (let to = lead_of_word heap state.words f p g below leads in cc (none, to))
+          absurd (let to = word_pointer_of_lead heap state.words f p g below leads in cc (none, to))
 
   -- which word comes next
-  pub comes_after : (part : ℕ) → ComesAfter book.owner f part (part_after part (at heap state.words (Word f part)))
-  comes_after zero = by (is_meta (at heap state.words (Word f 0))) refl
+  pub next_part_comes_after : (part : ℕ) → ComesAfter book.owner f part (part_after part (at heap state.words (Word f part)))
+  next_part_comes_after zero = by (is_meta (at heap state.words (Word f 0))) refl
     where
       by : (meta : Bool) → is_meta (at heap state.words (Word f 0)) ≡ meta → ComesAfter book.owner f 0 (if meta then 2 else 1)
       by true is = inr (refl, refl, (i, part_of.kept ∙ ap (Kept i) (meta_first k refl is)))
       by false is = inl refl
-  comes_after (suc part) = let later : eqb (suc part) 0 ≡ false = grind arith in inl (rw later refl)
+  next_part_comes_after (suc part) = let later : eqb (suc part) 0 ≡ false = grind arith in inl (rw later refl)
 
   -- what was seen up to a word, and at it, is seen up to the next
-  pub seen_next : (words : List ℕ) (colour : ℕ → Colour) (part next : ℕ) → ((p g : ℕ) → WordPointsTo heap words f p g → WordPointsTo heap state.words f p g)
+  pub seen_up_to_next : (words : List ℕ) (colour : ℕ → Colour) (part next : ℕ) → ((p g : ℕ) → WordPointsTo heap words f p g → WordPointsTo heap state.words f p g)
       → IsSeen heap words colour f part → ((g : ℕ) → WordPointsTo heap words f part g → IsMarked colour g) → ComesAfter book.owner f part next → IsSeen heap words colour f next
-  seen_next words colour part next back seen here comes = record { grey = seen.grey; seen = λ p g below leads. each p g below leads comes }
+  seen_up_to_next words colour part next back seen here comes = record { grey = seen.grey; seen = λ p g below leads. each p g below leads comes }
     where
       first : (j : ℕ) → book.owner f ≡ Kept j 0 → k ≡ 0
       first j is = let both : Kept i k ≡ Kept j 0 = sym part_of.kept ∙ is in cc

@@ -6,13 +6,13 @@ use Rattle.core_rule.proofs.Terms.{IsMarked, WordPointsTo, Objects, KeptObject, 
 use Rattle.heap_model.specs.PhasePlan.{marking as marking_phase}
 use Rattle.heap_model.specs.declared.graph.cell.Cell.{Cell}
 use Rattle.heap_model.specs.declared.id.Value.TheVariants as values
-use Rattle.core_rule.proofs.colours.SourceCases.{word_leads}
-use Rattle.core_rule.proofs.lists.Options.{each_some}
-use Rattle.core_rule.proofs.marking.Ended.{leads_marked, first_marked, whole_marked}
-use Rattle.core_rule.proofs.marking.Settled.{settled_owners, settled_was, settled_stays}
-use Rattle.core_rule.proofs.ways.KeptWords.{kept_within, has_room, row_there, field_found}
-use Rattle.core_rule.proofs.ways.ArrayWords.{plain_lead, value_plain}
-use Rattle.core_rule.proofs.ways.Rows.{part_fits}
+use Rattle.core_rule.proofs.colours.SourceCases.{leads_by_word}
+use Rattle.core_rule.proofs.lists.Options.{if_some_of_all}
+use Rattle.core_rule.proofs.marking.Ended.{marked_leads_to_marked, first_fragment_is_marked, whole_object_is_marked}
+use Rattle.core_rule.proofs.marking.Settled.{settled_owners, settled_kept_was_marked, marked_kept_stays_kept}
+use Rattle.core_rule.proofs.ways.KeptWords.{owned_within_heap, named_value_has_room, object_has_row, word_tells_field_cell}
+use Rattle.core_rule.proofs.ways.ArrayWords.{plain_pointer_is_head, value_word_is_not_fixed}
+use Rattle.core_rule.proofs.ways.Rows.{field_part_is_small}
 use Rattle.core_rule.proofs.ways.Told.{named_head, head_in-value}
 
 module _ (made : List Id) (owner : ℕ → Owner) (colour : ℕ → Colour) (fragments : ℕ → List ℕ) where
@@ -20,10 +20,10 @@ module _ (made : List Id) (owner : ℕ → Owner) (colour : ℕ → Colour) (fra
   later = settled_owners owner colour
 
   -- a name of a kept object names a kept one where its first fragment is marked
-  pub names_settled : (value : Value) → NamesKept made owner fragments value → IfSome (named_head (object_head made fragments) value) (IsMarked colour) → NamesKept made later fragments value
-  names_settled values.Nil names marked = tt
-  names_settled (values.Number n) names marked = names
-  names_settled (values.Object id) names marked = (names.0, settled_stays (owner (object_head made fragments id)) (colour (object_head made fragments id)) (object_number made id) 0 names.1 marked)
+  pub names_kept_after_settling : (value : Value) → NamesKept made owner fragments value → IfSome (named_head (object_head made fragments) value) (IsMarked colour) → NamesKept made later fragments value
+  names_kept_after_settling values.Nil names marked = tt
+  names_kept_after_settling (values.Number n) names marked = names
+  names_kept_after_settling (values.Object id) names marked = (names.0, marked_kept_stays_kept (owner (object_head made fragments id)) (colour (object_head made fragments id)) (object_number made id) 0 names.1 marked)
 
 module _ (heap : Heap) (state : State) (book : Book) (rule : Rule heap state book) (third : phase book.history % cycle_phases ≡ marking_phase) (none : (f : ℕ) → book.colour f ≢ Grey) where
   abbrev now : ℕ → Owner
@@ -40,7 +40,7 @@ module _ (heap : Heap) (state : State) (book : Book) (rule : Rule heap state boo
 
   -- an object that is kept was, and is marked
   was_kept : (i : ℕ) → IsKept now book.fragments i → IsKept book.owner book.fragments i × IsMarked book.colour (fragment_at (book.fragments i) 0)
-  was_kept i kept = settled_was (book.owner (fragment_at (book.fragments i) 0)) (book.colour (fragment_at (book.fragments i) 0)) i 0 kept
+  was_kept i kept = settled_kept_was_marked (book.owner (fragment_at (book.fragments i) 0)) (book.colour (fragment_at (book.fragments i) 0)) i 0 kept
 
   module _ (i : ℕ) (below : i < length book.made) (kept : IsKept book.owner book.fragments i) where
     -- a field that refers to an object leads to its first fragment
@@ -50,13 +50,13 @@ module _ (heap : Heap) (state : State) (book : Book) (rule : Rule heap state boo
         let stands = rule.heap_stands in
         let named = stands.objects.named i j below kept cell there in
         let within = slice_get_within (cells i) j cell there in
-        let room = has_room heap state.words (graph_of heap book.history) book.made book.owner book.fragments rule.machine.limits stands.control_words cell.value named.0 in
-        let row = row_there heap state.words (graph_of heap book.history) book.made book.owner book.fragments rule.machine.limits stands.control_words stands.ids stands.objects i below kept j within in
-        word_leads heap state.words (fragment_at (book.fragments i) (row_in (object i) j)) (field_part (object i) j) f
-        (kept_within heap state.words book.owner (fragment_at (book.fragments i) (row_in (object i) j)) i (row_in (object i) j) stands.control_words ((stands.objects.kept i below kept).owned (row_in (object i) j) row))
-        (part_fits (object i) j)
-        (ap (pointer_in (field_part (object i) j)) (field_found heap state.words (graph_of heap book.history) book.made book.owner book.fragments rule.machine.limits stands.control_words stands.ids stands.objects i below kept j cell there)
-        ∙ plain_lead (field_part (object i) j) (value_word head cell.value cell.stamp) (value_plain head cell.value cell.stamp room named.1)
+        let room = named_value_has_room heap state.words (graph_of heap book.history) book.made book.owner book.fragments rule.machine.limits stands.control_words cell.value named.0 in
+        let row = object_has_row heap state.words (graph_of heap book.history) book.made book.owner book.fragments rule.machine.limits stands.control_words stands.ids stands.objects i below kept j within in
+        leads_by_word heap state.words (fragment_at (book.fragments i) (row_in (object i) j)) (field_part (object i) j) f
+        (owned_within_heap heap state.words book.owner (fragment_at (book.fragments i) (row_in (object i) j)) i (row_in (object i) j) stands.control_words ((stands.objects.kept i below kept).owned (row_in (object i) j) row))
+        (field_part_is_small (object i) j)
+        (ap (pointer_in (field_part (object i) j)) (word_tells_field_cell heap state.words (graph_of heap book.history) book.made book.owner book.fragments rule.machine.limits stands.control_words stands.ids stands.objects i below kept j cell there)
+        ∙ plain_pointer_is_head (field_part (object i) j) (value_word head cell.value cell.stamp) (value_word_is_not_fixed head cell.value cell.stamp room named.1)
         ∙ head_in-value head cell.value cell.stamp room named.1
         ∙ names)
 
@@ -65,11 +65,11 @@ module _ (heap : Heap) (state : State) (book : Book) (rule : Rule heap state boo
     named_later marked j cell there =
         let stands = rule.heap_stands in
         let within = slice_get_within (cells i) j cell there in
-        let row = row_there heap state.words (graph_of heap book.history) book.made book.owner book.fragments rule.machine.limits stands.control_words stands.ids stands.objects i below kept j within in
-        names_settled book.made book.owner book.colour book.fragments cell.value (stands.objects.named i j below kept cell there).0
-        (each_some (IsMarked book.colour) (named_head head cell.value)
-        (λ f names. leads_marked heap state book rule third none (fragment_at (book.fragments i) (row_in (object i) j)) (field_part (object i) j) f
-        (whole_marked heap state book rule third none i (row_in (object i) j) below kept marked row) (field_leads j cell f there names)))
+        let row = object_has_row heap state.words (graph_of heap book.history) book.made book.owner book.fragments rule.machine.limits stands.control_words stands.ids stands.objects i below kept j within in
+        names_kept_after_settling book.made book.owner book.colour book.fragments cell.value (stands.objects.named i j below kept cell there).0
+        (if_some_of_all (IsMarked book.colour) (named_head head cell.value)
+        (λ f names. marked_leads_to_marked heap state book rule third none (fragment_at (book.fragments i) (row_in (object i) j)) (field_part (object i) j) f
+        (whole_object_is_marked heap state book rule third none i (row_in (object i) j) below kept marked row) (field_leads j cell f there names)))
 
     -- and a marked object is whole
     object_later : IsMarked book.colour (fragment_at (book.fragments i) 0)
@@ -79,19 +79,19 @@ module _ (heap : Heap) (state : State) (book : Book) (rule : Rule heap state boo
         record {
           sized = one.sized;
           whole = one.whole;
-          owned = λ k within. settled_stays _ _ i k (one.owned k within) (whole_marked heap state book rule third none i k below kept marked within);
+          owned = λ k within. marked_kept_stays_kept _ _ i k (one.owned k within) (whole_object_is_marked heap state book rule third none i k below kept marked within);
           stored = one.stored;
           listed = one.listed;
         }
 
   -- the objects stand
-  pub objects_later : Objects heap state.words (graph_of heap book.history) book.made now book.fragments book.spines
-  objects_later = record {
+  pub objects_after_settling : Objects heap state.words (graph_of heap book.history) book.made now book.fragments book.spines
+  objects_after_settling = record {
     kept = λ i below is. let was = was_kept i is in object_later i below was.0 was.1;
     named = λ i j below is cell there. let was = was_kept i is in (named_later i below was.0 was.1 j cell there, (rule.heap_stands.objects.named i j below was.0 cell there).1);
     back = λ f i k is.
-        let was = settled_was (book.owner f) (book.colour f) i k is in
+        let was = settled_kept_was_marked (book.owner f) (book.colour f) i k is in
         let one = rule.heap_stands.objects.back f i k was.0 in
-        (one.0, settled_stays _ _ i 0 one.1 (first_marked heap state book rule third none f i k was.0 was.1), one.2, one.3);
+        (one.0, marked_kept_stays_kept _ _ i 0 one.1 (first_fragment_is_marked heap state book rule third none f i k was.0 was.1), one.2, one.3);
     board = rule.heap_stands.objects.board;
   }

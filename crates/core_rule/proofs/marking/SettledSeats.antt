@@ -7,9 +7,9 @@ use Rattle.heap_model.specs.declared.id.Value.TheVariants as values
 use Rattle.core_machine.specs.declared.place.Access.TheVariants.{LoadingSpot, Naming}
 use Rattle.core_machine.specs.declared.place.Place.TheVariants as places
 use Rattle.core_machine.specs.declared.seat.register.Register.TheVariants as registers
-use Rattle.core_rule.proofs.lists.Options.{of_some}
-use Rattle.core_rule.proofs.marking.Settled.{settled_owners, settled_stays}
-use Rattle.core_rule.proofs.marking.SettledObjects.{names_settled}
+use Rattle.core_rule.proofs.lists.Options.{holds_of_some}
+use Rattle.core_rule.proofs.marking.Settled.{settled_owners, marked_kept_stays_kept}
+use Rattle.core_rule.proofs.marking.SettledObjects.{names_kept_after_settling}
 
 module _ (made : List Id) (owner : ℕ → Owner) (colour : ℕ → Colour) (fragments : ℕ → List ℕ) where
   abbrev later : ℕ → Owner
@@ -17,20 +17,20 @@ module _ (made : List Id) (owner : ℕ → Owner) (colour : ℕ → Colour) (fra
 
   -- a kept object whose first fragment is marked is kept
   kept_later : (i : ℕ) → IsKept owner fragments i → IsMarked colour (fragment_at (fragments i) 0) → IsKept later fragments i
-  kept_later i kept marked = settled_stays (owner (fragment_at (fragments i) 0)) (colour (fragment_at (fragments i) 0)) i 0 kept marked
+  kept_later i kept marked = marked_kept_stays_kept (owner (fragment_at (fragments i) 0)) (colour (fragment_at (fragments i) 0)) i 0 kept marked
 
   -- a register whose object is marked holds its value
-  pub holds_later : (held : Register) (value : Value) → IfSome (register_head held) (IsMarked colour) → HoldsValue made owner fragments held value → HoldsValue made later fragments held value
-  holds_later registers.Nil value marked holds = holds
-  holds_later (registers.Number n) value marked holds = holds
-  holds_later (registers.Object head id) value marked holds = (holds.0, names_settled made owner colour fragments (values.Object id) holds.1 (subst (IsMarked colour) holds.2 marked), holds.2)
+  pub holds_value_after_settling : (held : Register) (value : Value) → IfSome (register_head held) (IsMarked colour) → HoldsValue made owner fragments held value → HoldsValue made later fragments held value
+  holds_value_after_settling registers.Nil value marked holds = holds
+  holds_value_after_settling (registers.Number n) value marked holds = holds
+  holds_value_after_settling (registers.Object head id) value marked holds = (holds.0, names_kept_after_settling made owner colour fragments (values.Object id) holds.1 (subst (IsMarked colour) holds.2 marked), holds.2)
 
   module _ (seat : Seat) (held : (r : ℕ) → IfSome (register_head (register_in seat.registers r)) (IsMarked colour)) (loaded : IfSome (head_of seat.loaded) (IsMarked colour)) where
     -- the object of a way is that of a register
     way_later : (index row : ℕ) → OnWay made owner fragments seat index row → OnWay made later fragments seat index row
     way_later index row way = record {
       below = way.below;
-      kept = kept_later index way.kept (of_some (IsMarked colour) _ _ (ap register_head way.holds) (held (object_of seat.command)));
+      kept = kept_later index way.kept (holds_of_some (IsMarked colour) _ _ (ap register_head way.holds) (held (object_of seat.command)));
       holds = way.holds;
       here = way.here;
     }
@@ -52,30 +52,30 @@ module _ (made : List Id) (owner : ℕ → Owner) (colour : ℕ → Colour) (fra
     old_later old = record {
       index = old.index;
       below = old.below;
-      kept = kept_later old.index old.kept (of_some (IsMarked colour) _ _ old.loads loaded);
+      kept = kept_later old.index old.kept (holds_of_some (IsMarked colour) _ _ old.loads loaded);
       loads = old.loads;
     }
 
     -- so its way stands at its place
-    pub ways_later : (nodes : ℕ → Node) (place : Place) → WayStands nodes made owner fragments seat place → WayStands nodes made later fragments seat place
-    ways_later nodes (places.Access LoadingMeta) way = record { index = way.index; way = way_later way.index 0 way.way }
-    ways_later nodes (places.Access Walking) way = finds_later nodes way
-    ways_later nodes (places.Access LoadingSpot) way = locates_later nodes way
-    ways_later nodes (places.Access Indexing) way = locates_later nodes way
-    ways_later nodes (places.Access Getting) way = finds_later nodes way
-    ways_later nodes (places.Access LoadingOld) way = finds_later nodes way
-    ways_later nodes (places.Access ShadingOld) way = (finds_later nodes way.0, old_later way.1)
-    ways_later nodes (places.Access ShadingNew) way = (finds_later nodes way.0, λ some. old_later (way.1 some))
-    ways_later nodes (places.Access Swapping) way = (finds_later nodes way.0, λ some. old_later (way.1 some))
-    ways_later nodes _ way = way
+    pub way_stands_after_settling : (nodes : ℕ → Node) (place : Place) → WayStands nodes made owner fragments seat place → WayStands nodes made later fragments seat place
+    way_stands_after_settling nodes (places.Access LoadingMeta) way = record { index = way.index; way = way_later way.index 0 way.way }
+    way_stands_after_settling nodes (places.Access Walking) way = finds_later nodes way
+    way_stands_after_settling nodes (places.Access LoadingSpot) way = locates_later nodes way
+    way_stands_after_settling nodes (places.Access Indexing) way = locates_later nodes way
+    way_stands_after_settling nodes (places.Access Getting) way = finds_later nodes way
+    way_stands_after_settling nodes (places.Access LoadingOld) way = finds_later nodes way
+    way_stands_after_settling nodes (places.Access ShadingOld) way = (finds_later nodes way.0, old_later way.1)
+    way_stands_after_settling nodes (places.Access ShadingNew) way = (finds_later nodes way.0, λ some. old_later (way.1 some))
+    way_stands_after_settling nodes (places.Access Swapping) way = (finds_later nodes way.0, λ some. old_later (way.1 some))
+    way_stands_after_settling nodes _ way = way
 
     -- and the name that its own list awaits
-    pub awaits_later : (g : Graph) (number : ℕ) (place : Place) (awaited : List Entry) → Awaits g made owner fragments number seat place awaited → Awaits g made later fragments number seat place awaited
-    awaits_later g number (places.Access Naming) awaited waits = record {
+    pub awaits_after_settling : (g : Graph) (number : ℕ) (place : Place) (awaited : List Entry) → Awaits g made owner fragments number seat place awaited → Awaits g made later fragments number seat place awaited
+    awaits_after_settling g number (places.Access Naming) awaited waits = record {
       id = waits.id;
-      kept = names_settled made owner colour fragments (values.Object waits.id) waits.kept (of_some (IsMarked colour) _ _ waits.loads loaded);
+      kept = names_kept_after_settling made owner colour fragments (values.Object waits.id) waits.kept (holds_of_some (IsMarked colour) _ _ waits.loads loaded);
       loads = waits.loads;
       held = waits.held;
       told = waits.told;
     }
-    awaits_later g number _ awaited waits = waits
+    awaits_after_settling g number _ awaited waits = waits

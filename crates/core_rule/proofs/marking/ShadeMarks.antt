@@ -6,11 +6,11 @@ use Rattle.core_rule.proofs.Terms.{ScanStands, PassStands, AfterMarking, Marking
 use Rattle.core_machine.specs.declared.collector.stage.SpineScan.{SpineScan}
 use Rattle.core_machine.specs.declared.collector.stage.Stage.TheVariants as stages
 use Rattle.core_rule.specs.marking.Sources.{TellsNoSpine}
-use Rattle.core_rule.proofs.colours.LeadsFrames.{SameSources, leads_same, same_leads, still_no_spine}
-use Rattle.core_rule.proofs.colours.ShadeColours.{with_mark, mark_away, mark_keeps}
-use Rattle.core_rule.proofs.cycle.CycleFrames.{watches_stay}
+use Rattle.core_rule.proofs.colours.LeadsFrames.{SameSources, led_before_where_same, leads_now_where_same, tells_no_spine_still}
+use Rattle.core_rule.proofs.colours.ShadeColours.{with_mark, mark_keeps_other_colour, mark_keeps_marked}
+use Rattle.core_rule.proofs.cycle.CycleFrames.{deletion_barrier_stays}
 use Rattle.core_rule.proofs.marking.MarkingFrames.{OnlyClears}
-use Rattle.core_rule.proofs.marking.Paths.{white_or_marked, grey_on, same_marked}
+use Rattle.core_rule.proofs.marking.Paths.{white_or_marked, grey_stays_grey, marked_colour_stays}
 
 -- a path begins at a grey fragment
 pub path_grey : (edge : ℕ → ℕ → Type 0) (white grey : ℕ → Type 0) (x : ℕ) → Guarded edge white grey x → (f : ℕ) × grey f
@@ -23,25 +23,25 @@ module _ (heap : Heap) (words now : List ℕ) (owner : ℕ → Owner) (colour : 
   shaded = with_mark colour m
 
   back : (f source g : ℕ) → WordPointsTo heap now f source g → WordPointsTo heap words f source g
-  back f source g leads = leads_same heap words now f (same f) source g leads
+  back f source g leads = led_before_where_same heap words now f (same f) source g leads
 
-  pub seen_on : (f part : ℕ) → IsSeen heap words colour f part → IsSeen heap now shaded f part
-  seen_on f part seen = record {
-    grey = grey_on colour m f seen.grey;
-    seen = λ p g below leads. mark_keeps colour m g (seen.seen p g below (back f p g leads));
+  pub is_seen_after_shade : (f part : ℕ) → IsSeen heap words colour f part → IsSeen heap now shaded f part
+  is_seen_after_shade f part seen = record {
+    grey = grey_stays_grey colour m f seen.grey;
+    seen = λ p g below leads. mark_keeps_marked colour m g (seen.seen p g below (back f p g leads));
   }
 
   whole_on : (f : ℕ) → IsSeenWhole heap words colour f → IsSeenWhole heap now shaded f
   whole_on f seen = record {
-    grey = grey_on colour m f seen.grey;
-    seen = λ source g leads. mark_keeps colour m g (seen.seen source g (back f source g leads));
+    grey = grey_stays_grey colour m f seen.grey;
+    seen = λ source g leads. mark_keeps_marked colour m g (seen.seen source g (back f source g leads));
   }
 
   none_on : (f : ℕ) → TellsNoSpine heap words f → TellsNoSpine heap now f
-  none_on f none = still_no_spine heap words now f (same f) none
+  none_on f none = tells_no_spine_still heap words now f (same f) none
 
-  pub spine_on : (s : SpineScan) → IsSpineOf heap words s → IsSpineOf heap now s
-  spine_on s is = record {
+  pub is_spine_after_shade : (s : SpineScan) → IsSpineOf heap words s → IsSpineOf heap now s
+  is_spine_after_shade s is = record {
     as_many = is.as_many ∙ sym (ap spine_words_in ((same s.scan.fragment).parts 0 (omega arith)));
     there = is.there ∙ sym (ap spot_in ((same s.scan.fragment).parts 2 (omega arith)));
   }
@@ -51,43 +51,43 @@ module _ (heap : Heap) (words now : List ℕ) (owner : ℕ → Owner) (colour : 
     part = may.part;
     first = elim may.first as (λ _. (may.part.place ≡ 0) ⊎ IsMarked shaded (fragment_at (fragments may.part.index) 0)) [
       | inl head ↦ inl head
-      | inr marked ↦ inr (mark_keeps colour m _ marked)
+      | inr marked ↦ inr (mark_keeps_marked colour m _ marked)
     ];
   }
 
   -- a fragment that is grey now was so, or is the one that was marked
   grey_was : (f : ℕ) → shaded f ≡ Grey → (colour f ≡ Grey) ⊎ ((f ≡ m) × (colour f ≡ White))
   grey_was f grey = elim (eqb_tells f m) as (λ _. (colour f ≡ Grey) ⊎ ((f ≡ m) × (colour f ≡ White))) [
-    | inr other ↦ inl (sym (mark_away colour m f other.1) ∙ grey)
+    | inr other ↦ inl (sym (mark_keeps_other_colour colour m f other.1) ∙ grey)
     | inl same ↦ elim (white_or_marked colour f) as (λ _. (colour f ≡ Grey) ⊎ ((f ≡ m) × (colour f ≡ White))) [
       | inl white ↦ inr (same.1, white)
-      | inr marked ↦ inl (sym (same_marked colour m f marked) ∙ grey)
+      | inr marked ↦ inl (sym (marked_colour_stays colour m f marked) ∙ grey)
     ]
   ]
 
   -- what is grey is part of a kept object
-  pub grey_part : ((f : ℕ) → colour f ≡ Grey → IsPart owner f) → (f : ℕ) → shaded f ≡ Grey → IsPart owner f
-  grey_part parts f grey = elim (grey_was f grey) as (λ _. IsPart owner f) [
+  pub grey_is_part : ((f : ℕ) → colour f ≡ Grey → IsPart owner f) → (f : ℕ) → shaded f ≡ Grey → IsPart owner f
+  grey_is_part parts f grey = elim (grey_was f grey) as (λ _. IsPart owner f) [
     | inl was ↦ parts f was
     | inr new ↦ subst (IsPart owner) (sym new.0) kept
   ]
 
   scan_shaded : (stage : Stage) → ScanStands heap words owner colour fragments stage → ScanStands heap now owner shaded fragments stage
-  scan_shaded (stages.Scanning scan) stands = (seen_on scan.fragment scan.part stands.0, λ later. none_on scan.fragment (stands.1 later))
+  scan_shaded (stages.Scanning scan) stands = (is_seen_after_shade scan.fragment scan.part stands.0, λ later. none_on scan.fragment (stands.1 later))
   scan_shaded (stages.Shading scan target next) stands = (
-    seen_on scan.fragment scan.part stands.0,
-    watches_stay heap words now colour shaded (mark_keeps colour m) scan.fragment scan.part (λ g leads. inl (back scan.fragment scan.part g leads)) (Some target) stands.1,
+    is_seen_after_shade scan.fragment scan.part stands.0,
+    deletion_barrier_stays heap words now colour shaded (mark_keeps_marked colour m) scan.fragment scan.part (λ g leads. inl (back scan.fragment scan.part g leads)) (Some target) stands.1,
     may_on target stands.2,
     stands.3,
     none_on scan.fragment stands.4,
   )
   scan_shaded (stages.Addressing scan count) stands =
-      (seen_on scan.fragment 4 stands.0, stands.1 ∙ sym (ap spine_words_in ((same scan.fragment).parts 0 (omega arith))))
-  scan_shaded (stages.Indexing s) stands = (seen_on s.scan.fragment (4 + s.index) stands.0, spine_on s stands.1)
+      (is_seen_after_shade scan.fragment 4 stands.0, stands.1 ∙ sym (ap spine_words_in ((same scan.fragment).parts 0 (omega arith))))
+  scan_shaded (stages.Indexing s) stands = (is_seen_after_shade s.scan.fragment (4 + s.index) stands.0, is_spine_after_shade s stands.1)
   scan_shaded (stages.Spreading s target) stands = (
-    seen_on s.scan.fragment (4 + s.index) stands.0,
-    spine_on s stands.1,
-    same_leads heap words now s.scan.fragment (same s.scan.fragment) (4 + s.index) target stands.2,
+    is_seen_after_shade s.scan.fragment (4 + s.index) stands.0,
+    is_spine_after_shade s stands.1,
+    leads_now_where_same heap words now s.scan.fragment (same s.scan.fragment) (4 + s.index) target stands.2,
     may_on target stands.3,
   )
   scan_shaded (stages.Blackening scan) stands = whole_on scan.fragment stands
@@ -104,7 +104,7 @@ module _ (heap : Heap) (words now : List ℕ) (owner : ℕ → Owner) (colour : 
   ]
     where
       found : ((x : ℕ) × (colour x ≡ Grey) × (group ≤ x / 16)) → (x : ℕ) × (shaded x ≡ Grey) × (group ≤ x / 16)
-      found it = (it.0, grey_on colour m it.0 it.1, it.2)
+      found it = (it.0, grey_stays_grey colour m it.0 it.1, it.2)
   pass_shaded _ comes stands = tt
 
   -- after marking it was marked already
@@ -115,7 +115,7 @@ module _ (heap : Heap) (words now : List ℕ) (owner : ℕ → Owner) (colour : 
       | inr new ↦ was_marked (subst (λ x. colour x ≡ White) new.0 new.1)
     ];
     white_dead = λ f white. after.white_dead f record { unmarked = still f white.unmarked; born = white.born };
-    dead_white = λ f i k dead. mark_away colour m f (λ same. let both : Kept kept.index kept.place ≡ Dead i k = sym kept.kept ∙ ap owner (sym same) ∙ dead in absurd (cc)) ∙ after.dead_white f i k dead;
+    dead_white = λ f i k dead. mark_keeps_other_colour colour m f (λ same. let both : Kept kept.index kept.place ≡ Dead i k = sym kept.kept ∙ ap owner (sym same) ∙ dead in absurd (cc)) ∙ after.dead_white f i k dead;
   }
     where
       was_marked : IsMarked colour m
@@ -125,7 +125,7 @@ module _ (heap : Heap) (words now : List ℕ) (owner : ℕ → Owner) (colour : 
       still : (f : ℕ) → shaded f ≡ White → colour f ≡ White
       still f white = elim (white_or_marked colour f) as (λ _. colour f ≡ White) [
         | inl was ↦ was
-        | inr marked ↦ absurd (mark_keeps colour m f marked white)
+        | inr marked ↦ absurd (mark_keeps_marked colour m f marked white)
       ]
 
   -- of a sweep nothing changes
@@ -140,10 +140,10 @@ module _ (heap : Heap) (words now : List ℕ) (owner : ℕ → Owner) (colour : 
   sweep_shaded phase _ unclear stands = tt
 
   -- all of it stands, where no marks are cleared
-  pub marking_shaded : (phase : ℕ) (stage : Stage) → OnlyClears ⊥ stage → ((group : ℕ) → stage ≡ stages.Passing group false → IsReached heap words owner colour m)
+  pub marking_stands_after_shade : (phase : ℕ) (stage : Stage) → OnlyClears ⊥ stage → ((group : ℕ) → stage ≡ stages.Passing group false → IsReached heap words owner colour m)
       → MarkingStands heap words owner colour fragments phase stage → MarkingStands heap now owner shaded fragments phase stage
-  marking_shaded phase stage unclear comes stands = record {
-    grey = grey_part stands.grey;
+  marking_stands_after_shade phase stage unclear comes stands = record {
+    grey = grey_is_part stands.grey;
     scan = scan_shaded stage stands.scan;
     few = stands.few;
     pass = pass_shaded stage comes stands.pass;

@@ -6,11 +6,11 @@ use Rattle.core_rule.proofs.Terms.{FieldStands, WhileAccess, NamesKept, value_wo
 use Rattle.heap_model.specs.PhasePlan.{marking as marking_phase}
 use Rattle.core_machine.specs.declared.place.Place.TheVariants as places
 use Rattle.core_machine.specs.seat.AccessMoves.{new_register_of}
-use Rattle.core_rule.proofs.ways.AtObject.{is_near}
-use Rattle.core_rule.proofs.colours.LeadsFrames.{but_leads, same_beside}
-use Rattle.core_rule.proofs.colours.SpineStays.{SpineStays, same_spine, no_spine_stays, same_sources}
-use Rattle.core_rule.proofs.cycle.SwapCycle.{swap_part, swap_within, swap_no_spine, words_swapped, swapped_no_spine, leads_now}
-use Rattle.core_rule.proofs.marking.Marks.{Leaves, leaves_words}
+use Rattle.core_rule.proofs.ways.AtObject.{answer_is_near_phase}
+use Rattle.core_rule.proofs.colours.LeadsFrames.{leads_now_or_is_written, same_sources_beside}
+use Rattle.core_rule.proofs.colours.SpineStays.{SpineStays, spine_stays_where_same, spine_stays_where_none, same_sources_of_itself}
+use Rattle.core_rule.proofs.cycle.SwapCycle.{swap_part_is_small, swap_within_heap, swap_tells_no_spine, words_swapped, swapped_tells_no_spine, leads_stay_after_swap}
+use Rattle.core_rule.proofs.marking.Marks.{Leaves, leaves_by_same_sources}
 
 module _ (heap : Heap) (state : State) (book : Book) (number : ℕ) (rule : Rule heap state book) (here : number < heap.seats)
     (place : (seat_at state number).place ≡ places.Access Swapping) where
@@ -22,7 +22,7 @@ module _ (heap : Heap) (state : State) (book : Book) (number : ℕ) (rule : Rule
   taken_marked marking g leads =
       let same : state.collector.phase ≡ phase book.history = rule.collector_stands.phase_told in
       let making : IsBetween 2 5 (phase book.history) = record { from = omega (arith, same, marking); upto = omega (arith, same, marking) } in
-      let snapped : IsBetween 2 5 seat.answered = elim (is_near heap state book number rule here Swapping place) as (λ _. IsBetween 2 5 seat.answered) [
+      let snapped : IsBetween 2 5 seat.answered = elim (answer_is_near_phase heap state book number rule here Swapping place) as (λ _. IsBetween 2 5 seat.answered) [
         | inl now ↦ record { from = omega (arith, same, marking, now); upto = omega (arith, same, marking, now) }
         | inr before ↦ record { from = omega (arith, same, marking, before); upto = omega (arith, same, marking, before) }
       ] in
@@ -41,16 +41,16 @@ module _ (heap : Heap) (state : State) (book : Book) (number : ℕ) (rule : Rule
     -- each other source leads where it led
     leads_later : state.collector.phase % cycle_phases ≡ marking_phase → (f source g : ℕ) → WordPointsTo heap state.words f source g → WordPointsTo heap now f source g ⊎ IsMarked book.colour g
     leads_later marking f source g leads =
-        elim (but_leads heap state.words seat.reached seat.part word (swap_within heap state book number rule here) (swap_part heap state book number rule here place)
-        (swap_no_spine heap state book number rule here place) (swapped_no_spine heap state book number rule here place value stamp holds names small word is_word) f source g leads)
+        elim (leads_now_or_is_written heap state.words seat.reached seat.part word (swap_within_heap heap state book number rule here) (swap_part_is_small heap state book number rule here place)
+        (swap_tells_no_spine heap state book number rule here place) (swapped_tells_no_spine heap state book number rule here place value stamp holds names small word is_word) f source g leads)
         as (λ _. WordPointsTo heap now f source g ⊎ IsMarked book.colour g) [
           | inl still ↦ inl still
           | inr there ↦ inr (taken_marked marking g (subst (λ p. WordPointsTo heap state.words seat.reached p g) there.1 (subst (λ x. WordPointsTo heap state.words x source g) there.0 leads)))
         ]
 
-    pub leaves_swap : Leaves heap state book rule now book
-    leaves_swap =
-        let before = leaves_words heap state book rule state.words (same_sources heap state.words) in
+    pub leaves_marking_when_swapped : Leaves heap state book rule now book
+    leaves_marking_when_swapped =
+        let before = leaves_by_same_sources heap state book rule state.words (same_sources_of_itself heap state.words) in
         let same : state.collector.phase ≡ phase book.history = rule.collector_stands.phase_told in
         record {
           born = before.born;
@@ -60,13 +60,13 @@ module _ (heap : Heap) (state : State) (book : Book) (number : ℕ) (rule : Rule
           fresh = before.fresh;
           dark = before.dark;
           light = before.light;
-          back = λ marking f source g born leads. let third = marking.phase in leads_now heap state book number rule here place value stamp holds names small word is_word
+          back = λ marking f source g born leads. let third = marking.phase in leads_stay_after_swap heap state book number rule here place value stamp holds names small word is_word
               record { from = omega (arith, same, third); upto = omega (arith, same, third) } f source g born leads;
           on = λ marking f source g born leads. leads_later marking.phase f source g leads;
           spine = λ marking f born. elim (cases_eq f seat.reached) as (λ _. SpineStays heap state.words now f) [
-            | inl same ↦ subst (SpineStays heap state.words now) (sym same) (no_spine_stays heap state.words now seat.reached (swap_no_spine heap state book number rule here place)
-                (swapped_no_spine heap state book number rule here place value stamp holds names small word is_word))
-            | inr apart ↦ same_spine heap state.words now f (same_beside heap state.words seat.reached seat.part word (swap_within heap state book number rule here)
-                (swap_part heap state book number rule here place) f apart)
+            | inl same ↦ subst (SpineStays heap state.words now) (sym same) (spine_stays_where_none heap state.words now seat.reached (swap_tells_no_spine heap state book number rule here place)
+                (swapped_tells_no_spine heap state book number rule here place value stamp holds names small word is_word))
+            | inr apart ↦ spine_stays_where_same heap state.words now f (same_sources_beside heap state.words seat.reached seat.part word (swap_within_heap heap state book number rule here)
+                (swap_part_is_small heap state book number rule here place) f apart)
           ];
         }

@@ -6,7 +6,7 @@ use Rattle.core_rule.proofs.Terms.{cycle_phases, Heap, Stage, Colour, ScanStands
 use Rattle.heap_model.specs.PhasePlan.{sweep as sweep_phase}
 use Rattle.core_machine.specs.collector.Sweeping.{after_swept, after_examined, after_freed, after_cleared}
 use Rattle.core_machine.specs.declared.collector.stage.Stage.TheVariants as stages
-use Rattle.core_rule.proofs.owners.DeadOwners.{freed_on}
+use Rattle.core_rule.proofs.owners.DeadOwners.{are_freed_where_none_set}
 
 -- the stage is none of the sweep and none of the clearing
 abbrev pub IsUnswept : Stage → Type 0
@@ -19,15 +19,15 @@ IsUnswept (stages.Ending kept) = ⊥
 IsUnswept _ = Unit {0}
 
 -- there nothing is asked of what is freed, in a phase that isn't that of the sweep
-pub unswept_stands : (heap : Heap) (owner : ℕ → Owner) (colour : ℕ → Colour) (phase : ℕ) (stage : Stage) → IsUnswept stage → phase % cycle_phases ≢ sweep_phase → SweepStands heap owner colour phase stage
-unswept_stands heap owner colour phase (stages.Sweeping group) unswept other = absurd unswept
-unswept_stands heap owner colour phase (stages.Examining group dead place counted) unswept other = absurd unswept
-unswept_stands heap owner colour phase (stages.Freeing group dead counted) unswept other = absurd unswept
-unswept_stands heap owner colour phase (stages.Returning group counted) unswept other = absurd unswept
-unswept_stands heap owner colour phase (stages.Clearing group kept) unswept other = absurd unswept
-unswept_stands heap owner colour phase (stages.Ending kept) unswept other = absurd unswept
-unswept_stands heap owner colour phase stages.Advancing unswept other = λ swept. absurd (other swept)
-unswept_stands heap owner colour phase _ unswept other = tt
+pub sweep_stands_unswept : (heap : Heap) (owner : ℕ → Owner) (colour : ℕ → Colour) (phase : ℕ) (stage : Stage) → IsUnswept stage → phase % cycle_phases ≢ sweep_phase → SweepStands heap owner colour phase stage
+sweep_stands_unswept heap owner colour phase (stages.Sweeping group) unswept other = absurd unswept
+sweep_stands_unswept heap owner colour phase (stages.Examining group dead place counted) unswept other = absurd unswept
+sweep_stands_unswept heap owner colour phase (stages.Freeing group dead counted) unswept other = absurd unswept
+sweep_stands_unswept heap owner colour phase (stages.Returning group counted) unswept other = absurd unswept
+sweep_stands_unswept heap owner colour phase (stages.Clearing group kept) unswept other = absurd unswept
+sweep_stands_unswept heap owner colour phase (stages.Ending kept) unswept other = absurd unswept
+sweep_stands_unswept heap owner colour phase stages.Advancing unswept other = λ swept. absurd (other swept)
+sweep_stands_unswept heap owner colour phase _ unswept other = tt
 
 -- what holds of either of the stages that come after a group of the sweep
 pub after_swept_either : (P : Stage → Type 0) (heap : Heap) (group : ℕ) → P (stages.Sweeping (group + 1)) → (heap.groups ≤ group + 1 → P stages.Advancing) → P (after_swept heap group)
@@ -65,23 +65,23 @@ module _ (heap : Heap) (words : List ℕ) (owner : ℕ → Owner) (colour : ℕ 
   }
 
   -- the next group's turn comes where nothing is to be freed up to this one
-  pub swept_further : (group : ℕ) → AreFreed owner (group + 1) → MarkingStands heap words owner colour fragments phase (after_swept heap group)
-  swept_further group freed = after_swept_either (MarkingStands heap words owner colour fragments phase) heap group (swept_at (stages.Sweeping (group + 1)) tt tt tt freed)
+  pub marking_stands_after_swept : (group : ℕ) → AreFreed owner (group + 1) → MarkingStands heap words owner colour fragments phase (after_swept heap group)
+  marking_stands_after_swept group freed = after_swept_either (MarkingStands heap words owner colour fragments phase) heap group (swept_at (stages.Sweeping (group + 1)) tt tt tt freed)
       (λ last. swept_at stages.Advancing tt tt tt (λ is f i k less. freed f i k (omega (arith, less, last))))
 
   -- and where its words are returned first
-  pub freed_further : (group counted : ℕ) → AreFreed owner (group + 1) → MarkingStands heap words owner colour fragments phase (after_freed heap group counted)
-  freed_further group counted freed = after_freed_either (MarkingStands heap words owner colour fragments phase) heap group counted (swept_further group freed)
+  pub marking_stands_after_freed : (group counted : ℕ) → AreFreed owner (group + 1) → MarkingStands heap words owner colour fragments phase (after_freed heap group counted)
+  marking_stands_after_freed group counted freed = after_freed_either (MarkingStands heap words owner colour fragments phase) heap group counted (marking_stands_after_swept group freed)
       (swept_at (stages.Returning group counted) tt tt tt freed)
 
   module _ (group dead : ℕ) (small : dead < 2 ^ 16) (freed : AreFreed owner group) (are : AreDead owner group dead) where
     -- behind the last dead one they are freed, where there are any
     examined_all : (counted : ℕ) → MarkingStands heap words owner colour fragments phase (if dead == 0 then after_swept heap group else stages.Freeing group dead counted)
     examined_all counted = elim (eqb_tells dead 0) as (λ _. MarkingStands heap words owner colour fragments phase (if dead == 0 then after_swept heap group else stages.Freeing group dead counted)) [
-      | inl none ↦ rw none.0 (swept_further group (freed_on owner group dead small are none.1 freed))
+      | inl none ↦ rw none.0 (marking_stands_after_swept group (are_freed_where_none_set owner group dead small are none.1 freed))
       | inr some ↦ rw some.0 (swept_at (stages.Freeing group dead counted) tt tt tt (freed, are))
     ]
 
-    pub examined_further : (counted : ℕ) (place : Option ℕ) → MarkingStands heap words owner colour fragments phase (after_examined heap group dead counted place)
-    examined_further counted (Some place) = swept_at (stages.Examining group dead place counted) tt tt tt (freed, are)
-    examined_further counted None = examined_all counted
+    pub marking_stands_after_examined : (counted : ℕ) (place : Option ℕ) → MarkingStands heap words owner colour fragments phase (after_examined heap group dead counted place)
+    marking_stands_after_examined counted (Some place) = swept_at (stages.Examining group dead place counted) tt tt tt (freed, are)
+    marking_stands_after_examined counted None = examined_all counted

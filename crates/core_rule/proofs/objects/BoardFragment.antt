@@ -2,9 +2,9 @@
 use Rattle.std.proofs.Common.{◌≡◌, ◌≢◌, ℕ, ◌<◌, inl, inr, List, length, refl, sym, ap, ◌∙◌, subst, arith}
 use Rattle.heap_words.specs.declared.spot.Spot.{Spot}
 use Rattle.core_rule.proofs.Terms.{Heap, Id, Graph, tally, fragment_at, Holding, Objects, IsKept, Owner, Kept, IsBoards, OwnersStand}
-use Rattle.core_rule.proofs.hand.Bodies.{body_own}
+use Rattle.core_rule.proofs.hand.Bodies.{body_is_own}
 use Rattle.core_rule.proofs.owners.Handed.{none_or_some}
-use Rattle.core_rule.proofs.owners.OwnerLemmas.{IsOwn, own_not_boards}
+use Rattle.core_rule.proofs.owners.OwnerLemmas.{IsOwn, own_is_not_boards}
 
 module _ (seats : ℕ) (owner : ℕ → Owner) (owners : OwnersStand seats owner) where
   -- a fragment that is part k of object number i is 0 where both are
@@ -13,7 +13,7 @@ module _ (seats : ℕ) (owner : ℕ → Owner) (owners : OwnersStand seats owner
 
   module _ (heap : Heap) (words : List ℕ) (g : Graph) (made : List Id) (fragments : ℕ → List ℕ) {spines : ℕ → Spot} (objects : Objects heap words g made owner fragments spines) where
     -- no fragment of a kept object behind its first is 0
-    pub chain_not_zero : (i k : ℕ) → i < length made → IsKept owner fragments i → k < length (fragments i) → 0 < k → fragment_at (fragments i) k ≢ 0
-    chain_not_zero i k below kept within later first =
+    pub chain_fragment_is_not_zero : (i k : ℕ) → i < length made → IsKept owner fragments i → k < length (fragments i) → 0 < k → fragment_at (fragments i) k ≢ 0
+    chain_fragment_is_not_zero i k below kept within later first =
         let both = board_alone (fragment_at (fragments i) k) i k ((objects.kept i below kept).owned k within) first in
         omega (arith, later, both.1)

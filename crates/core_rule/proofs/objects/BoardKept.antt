@@ -4,7 +4,7 @@ use Rattle.std.proofs.lemmas.Option.{slice_get_within, get_or_from_slice_get}
 use Rattle.core_rule.proofs.Terms.{Heap, Id, Board, graph_of, graph_seat, Register, State, seat_at, target_of, register_in, Book, fragment_at, object_number, NamesKept, Owner}
 use Rattle.core_rule.proofs.Terms.{Kept, HoldsValue, IsAwaited, Rule}
 use Rattle.heap_model.specs.declared.id.Value.TheVariants as values
-use Rattle.heap_model.proofs.call_lemmas.BoardLemmas.{board_held}
+use Rattle.heap_model.proofs.call_lemmas.BoardLemmas.{first_register_holds_board}
 use Rattle.core_machine.specs.declared.seat.register.Register.TheVariants as registers
 
 -- a register that holds the board names a kept one
@@ -15,12 +15,12 @@ holds_kept made owner fragments (registers.Number n) holds = absurd (cc holds.0)
 holds_kept made owner fragments (registers.Object head id) holds = let same : values.Object Board ≡ values.Object id = holds.0 in let it : id ≡ Board = cc in
     subst (λ x. NamesKept made owner fragments (values.Object x)) it holds.1
 
-pub board_kept : (heap : Heap) (state : State) (book : Book) (number : ℕ) (rule : Rule heap state book) (here : number < heap.seats)
+pub board_is_kept : (heap : Heap) (state : State) (book : Book) (number : ℕ) (rule : Rule heap state book) (here : number < heap.seats)
     → (graph_seat (graph_of heap book.history) number).left ≡ false → ¬ IsAwaited (seat_at state number).place (target_of (seat_at state number).command) 0
     → book.owner 0 ≡ Kept 0 0
-board_kept heap state book number rule here present awake =
+board_is_kept heap state book number rule here present awake =
     let stands = rule.heap_stands in
-    let value = board_held heap book.history number stands.legal.objects present in
+    let value = first_register_holds_board heap book.history number stands.legal.objects present in
     let kept : NamesKept book.made book.owner book.fragments (values.Object Board)
     = holds_kept book.made book.owner book.fragments (register_in (seat_at state number).registers 0)
     (subst (HoldsValue book.made book.owner book.fragments (register_in (seat_at state number).registers 0)) value ((rule.seats_stand number here).names.registers 0 awake)) in

@@ -16,7 +16,7 @@ use Rattle.core_rule.proofs.Terms.{value_word, field_word, is_cell, record_objec
 use Rattle.heap_model.specs.declared.id.Value.TheVariants as values
 use Rattle.core_machine.specs.declared.seat.register.Register.TheVariants as registers
 use Rattle.core_rule.proofs.graph.SameNodes.{node_cases}
-use Rattle.core_rule.proofs.objects.ObjectWords.{word_of_cell}
+use Rattle.core_rule.proofs.objects.ObjectWords.{object_word_is_cell}
 use Rattle.core_rule.proofs.graph.CellSet.{slice_get-set_same, slice_get-set_other}
 
 -- where a cell stands
@@ -33,23 +33,23 @@ stamp_of_word kind value stamp small = by (kind_number kind)
     by : (n : ℕ) → (n * 2 ^ 62 + value * 2 ^ 32 + stamp) % 2 ^ 32 ≡ stamp
     by n = omega (arith, small)
 
-pub stamp_of_value : (head : Id → ℕ) (value : Value) (stamp : ℕ) → stamp < 2 ^ 32 → stamp_of (value_word head value stamp) ≡ stamp
-stamp_of_value head values.Nil stamp small = stamp_of_word kinds.Nil 0 stamp small
-stamp_of_value head (values.Number n) stamp small = stamp_of_word kinds.Number n stamp small
-stamp_of_value head (values.Object id) stamp small = stamp_of_word kinds.Reference (head id) stamp small
+pub stamp_of_value_word : (head : Id → ℕ) (value : Value) (stamp : ℕ) → stamp < 2 ^ 32 → stamp_of (value_word head value stamp) ≡ stamp
+stamp_of_value_word head values.Nil stamp small = stamp_of_word kinds.Nil 0 stamp small
+stamp_of_value_word head (values.Number n) stamp small = stamp_of_word kinds.Number n stamp small
+stamp_of_value_word head (values.Object id) stamp small = stamp_of_word kinds.Reference (head id) stamp small
 
 -- the word of a register is that of its value, which names a kept object where it names one
 module _ (made : List Id) (owner : ℕ → Owner) (fragments : ℕ → List ℕ) where
-  pub register_is_value : (held : Register) (value : Value) (stamp : ℕ) → HoldsValue made owner fragments held value → register_word held stamp ≡ value_word (object_head made fragments) value stamp
-  register_is_value registers.Nil value stamp holds = ap (λ v. value_word (object_head made fragments) v stamp) (sym holds)
-  register_is_value (registers.Number n) value stamp holds = ap (λ v. value_word (object_head made fragments) v stamp) (sym holds.0)
-  register_is_value (registers.Object head id) value stamp holds =
+  pub register_word_is_value_word : (held : Register) (value : Value) (stamp : ℕ) → HoldsValue made owner fragments held value → register_word held stamp ≡ value_word (object_head made fragments) value stamp
+  register_word_is_value_word registers.Nil value stamp holds = ap (λ v. value_word (object_head made fragments) v stamp) (sym holds)
+  register_word_is_value_word (registers.Number n) value stamp holds = ap (λ v. value_word (object_head made fragments) v stamp) (sym holds.0)
+  register_word_is_value_word (registers.Object head id) value stamp holds =
       ap (λ h. register_word (registers.Object h id) stamp) holds.2 ∙ ap (λ v. value_word (object_head made fragments) v stamp) (sym holds.0)
 
-  pub register_names : (held : Register) (value : Value) → HoldsValue made owner fragments held value → NamesKept made owner fragments value
-  register_names registers.Nil value holds = subst (λ v. NamesKept made owner fragments v) (sym holds) tt
-  register_names (registers.Number n) value holds = subst (λ v. NamesKept made owner fragments v) (sym holds.0) holds.1
-  register_names (registers.Object head id) value holds = subst (λ v. NamesKept made owner fragments v) (sym holds.0) holds.1
+  pub register_names_kept : (held : Register) (value : Value) → HoldsValue made owner fragments held value → NamesKept made owner fragments value
+  register_names_kept registers.Nil value holds = subst (λ v. NamesKept made owner fragments v) (sym holds) tt
+  register_names_kept (registers.Number n) value holds = subst (λ v. NamesKept made owner fragments v) (sym holds.0) holds.1
+  register_names_kept (registers.Object head id) value holds = subst (λ v. NamesKept made owner fragments v) (sym holds.0) holds.1
 
 module _ (head : Id → ℕ) (name : Name) (spine : Spot) (fragments : List ℕ) (i : ℕ) (cell : Cell) where
   -- the other words of a record
@@ -78,13 +78,13 @@ module _ (head : Id → ℕ) (name : Name) (spine : Spot) (fragments : List ℕ)
         rw e.0 (ap (field_word head) (slice_get-set_other cells i (4 * (k - 1) + part) cell (λ same. apart (omega (arith, some, same, within)) (omega (arith, some, same, within)))))
   ]
 
-  pub word_stays : (object : Node) (k part : ℕ) → part < 4 → (k ≡ row_in object i → part ≡ field_part object i → ⊥)
+  pub other_word_stays_with_cell : (object : Node) (k part : ℕ) → part < 4 → (k ≡ row_in object i → part ≡ field_part object i → ⊥)
       → object_word head name (with_cell object i cell) spine fragments k part ≡ object_word head name object spine fragments k part
-  word_stays object k part within =
+  other_word_stays_with_cell object k part within =
       node_cases (λ (o : Node). (k ≡ row_in o i → part ≡ field_part o i → ⊥) → object_word head name (with_cell o i cell) spine fragments k part ≡ object_word head name o spine fragments k part)
       (λ cells apart. array_stays cells k part within apart) (λ cells apart. record_stays cells k part within apart) object
 
   -- the word of the cell that was set
-  pub word_of_set : (object : Node) → i < length object.cells
+  pub set_cell_word_is_value : (object : Node) → i < length object.cells
       → object_word head name (with_cell object i cell) spine fragments (row_in object i) (field_part object i) ≡ value_word head cell.value cell.stamp
-  word_of_set object within = word_of_cell head name spine fragments (with_cell object i cell) i cell (slice_get-set_same object.cells i cell within)
+  set_cell_word_is_value object within = object_word_is_cell head name spine fragments (with_cell object i cell) i cell (slice_get-set_same object.cells i cell within)

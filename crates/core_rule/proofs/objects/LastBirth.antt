@@ -5,28 +5,28 @@ use Rattle.core_rule.proofs.Terms.{Kept}
 use Rattle.heap_model.specs.declared.id.Value.TheVariants as values
 use Rattle.core_machine.specs.declared.seat.register.Register.TheVariants as registers
 use Rattle.core_rule.specs.graph.Registers as regs
-use Rattle.core_rule.proofs.graph.GraphGrowth.{node_none, node_new, node_other, register_target, register_rest}
+use Rattle.core_rule.proofs.graph.GraphGrowth.{new_id_has_no_node, added_node_is_object, other_nodes_stay_by_add, target_holds_new_object, other_registers_stay_by_add}
 use Rattle.core_rule.proofs.graph.IdsGrowth.{OneMore}
-use Rattle.core_rule.proofs.owners.Keeping.{kept_by, with_object, object_new}
-use Rattle.core_rule.proofs.objects.NamesGrowth.{kept_new, names_grown}
-use Rattle.core_rule.proofs.entries.SeatLists.{holds_stays}
-use Rattle.core_rule.proofs.graph.Numbering.{number_of-new}
-use Rattle.core_rule.proofs.graph.PutRegister.{registers_with}
+use Rattle.core_rule.proofs.owners.Keeping.{kept_by, with_object, new_object_has_body}
+use Rattle.core_rule.proofs.objects.NamesGrowth.{new_object_is_kept, names_stay_after_growth}
+use Rattle.core_rule.proofs.entries.SeatLists.{holds_value_still}
+use Rattle.core_rule.proofs.graph.Numbering.{new_number_is_next}
+use Rattle.core_rule.proofs.graph.PutRegister.{holds_value_after_set}
 
 -- the graph has one object more
-pub one_more : (g : Graph) (number d : ℕ) (object : Node) (count : ℕ) → (graph_seat g number).left ≡ false → count ≡ length (graph_seat g number).objects
+pub one_more_by_add : (g : Graph) (number d : ℕ) (object : Node) (count : ℕ) → (graph_seat g number).left ≡ false → count ≡ length (graph_seat g number).objects
     → OneMore g (add g number d object) (Made number count) object
-one_more g number d object count present numbered = record {
-  none = subst (λ n. node g (Made number n) ≡ None) (sym numbered) (node_none g number d object present);
-  new = ap (λ n. node (add g number d object) (Made number n)) numbered ∙ node_new g number d object present;
-  others = λ id apart. node_other g number d object present id (λ e. apart (e ∙ ap (Made number) (sym numbered)));
+one_more_by_add g number d object count present numbered = record {
+  none = subst (λ n. node g (Made number n) ≡ None) (sym numbered) (new_id_has_no_node g number d object present);
+  new = ap (λ n. node (add g number d object) (Made number n)) numbered ∙ added_node_is_object g number d object present;
+  others = λ id apart. other_nodes_stay_by_add g number d object present id (λ e. apart (e ∙ ap (Made number) (sym numbered)));
 }
 
 -- the words that were stored are those of all parts of all fragments
-pub all_stored : (heap : Heap) (words body : List ℕ) (word : ℕ → ℕ → ℕ) (stored : ℕ) → stored ≡ 4 * length body
+pub all_words_are_stored : (heap : Heap) (words body : List ℕ) (word : ℕ → ℕ → ℕ) (stored : ℕ) → stored ≡ 4 * length body
     → ((u : ℕ) → u < stored → at heap words (Word (fragment_at body (u / 4)) (u % 4)) ≡ word (u / 4) (u % 4))
     → (k part : ℕ) → k < length body → part < 4 → at heap words (Word (fragment_at body k) part) ≡ word k part
-all_stored heap words body word stored whole each k part row fits =
+all_words_are_stored heap words body word stored whole each k part row fits =
     let within : 4 * k + part < stored = omega arith in
     let quotient : (4 * k + part) / 4 ≡ k = omega (arith, fits) in
     let rest : (4 * k + part) % 4 ≡ part = omega (arith, fits) in
@@ -47,17 +47,17 @@ module _ (g : Graph) (number d : ℕ) (object : Node) (present : (graph_seat g n
   module _ (once : (f : ℕ) → tally f body ≤ 1) (some : 1 ≤ length body) (new : object_number made id ≡ length made) where
     holds_new : Now (registers.Object (get_or body 0 0) id) (values.Object id)
     holds_new =
-        let index : object_number (made ++ id ∷ []) id ≡ length made = number_of-new made id new in (
+        let index : object_number (made ++ id ∷ []) id ≡ length made = new_number_is_next made id new in (
           refl,
-          (omega (arith, index, length-append made (id ∷ [])), subst (λ i. IsKept now_owner now_fragments i) (sym index) (kept_new made id owner fragments body free once some)),
-          sym (ap (λ i. fragment_at (now_fragments i) 0) index ∙ ap (λ fs. fragment_at fs 0) (object_new fragments (length made) body)),
+          (omega (arith, index, length-append made (id ∷ [])), subst (λ i. IsKept now_owner now_fragments i) (sym index) (new_object_is_kept made id owner fragments body free once some)),
+          sym (ap (λ i. fragment_at (now_fragments i) 0) index ∙ ap (λ fs. fragment_at fs 0) (new_object_has_body fragments (length made) body)),
         )
 
     -- its own do too, but for the one that holds the new object
-    pub registers_own : (held : List Register) → d < length held → d < length (graph_seat g number).registers → id ≡ Made number (length (graph_seat g number).objects)
+    pub own_registers_hold_new : (held : List Register) → d < length held → d < length (graph_seat g number).registers → id ≡ Made number (length (graph_seat g number).objects)
         → ((i : ℕ) → regs.HoldsValue made owner fragments (get_or held i registers.Nil) (register_value g number i))
         → (i : ℕ) → Now (get_or (set held d (registers.Object (get_or body 0 0) id)) i registers.Nil) (register_value (add g number d object) number i)
-    registers_own held within there next old =
-        registers_with (made ++ id ∷ []) now_owner now_fragments (add g number d object) number d held (registers.Object (get_or body 0 0) id) within
-        (subst (Now (registers.Object (get_or body 0 0) id)) (ap values.Object next ∙ sym (register_target g number d object present there)) holds_new)
-        (λ i apart. subst (Now (get_or held i registers.Nil)) (sym (register_rest g number d object present i apart)) (holds_stays made (made ++ id ∷ []) owner now_owner fragments now_fragments (names_grown made id owner fragments body free) _ _ (old i)))
+    own_registers_hold_new held within there next old =
+        holds_value_after_set (made ++ id ∷ []) now_owner now_fragments (add g number d object) number d held (registers.Object (get_or body 0 0) id) within
+        (subst (Now (registers.Object (get_or body 0 0) id)) (ap values.Object next ∙ sym (target_holds_new_object g number d object present there)) holds_new)
+        (λ i apart. subst (Now (get_or held i registers.Nil)) (sym (other_registers_stay_by_add g number d object present i apart)) (holds_value_still made (made ++ id ∷ []) owner now_owner fragments now_fragments (names_stay_after_growth made id owner fragments body free) _ _ (old i)))

@@ -26,8 +26,8 @@ by_test true cell word same = same refl
 by_test false cell word same = refl
 
 -- so the words are those of the object
-pub newborn_is : (head : Id → ℕ) (name : Name) (array : Bool) (n : ℕ) (spine : Spot) (fragments : List ℕ) (k part : ℕ)
+pub object_word_is_fresh : (head : Id → ℕ) (name : Name) (array : Bool) (n : ℕ) (spine : Spot) (fragments : List ℕ) (k part : ℕ)
     → object_word head name (fresh array n) spine fragments k part ≡ fresh_word array name n spine fragments k part
 unfolding record_object_word array_object_word
-newborn_is head name false n spine fragments k part = rw (length-replicate n unset) (by_test (is_cell k part) (field_word head (slice_get (replicate n unset) (3 * k + part - 2))) (record_word_of name n fragments k part) (λ cell. rw (unset_word head n (3 * k + part - 2), no_cell_word name n fragments k part cell) refl))
-newborn_is head name true n spine fragments k part = rw (length-replicate n unset, unset_word head n (4 * (k - 1) + part)) refl
+object_word_is_fresh head name false n spine fragments k part = rw (length-replicate n unset) (by_test (is_cell k part) (field_word head (slice_get (replicate n unset) (3 * k + part - 2))) (record_word_of name n fragments k part) (λ cell. rw (unset_word head n (3 * k + part - 2), no_cell_word name n fragments k part cell) refl))
+object_word_is_fresh head name true n spine fragments k part = rw (length-replicate n unset, unset_word head n (4 * (k - 1) + part)) refl

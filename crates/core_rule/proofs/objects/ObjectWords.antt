@@ -9,7 +9,7 @@ use Rattle.core_rule.proofs.Terms.{spot_word, Id, Node, record_meta, link_after,
 use Rattle.core_rule.proofs.Terms.{record_object_word, array_object_word, object_word, row_in, field_part}
 use Rattle.heap_model.specs.declared.graph.cell.Cell.{Cell}
 use Rattle.core_rule.proofs.graph.SameNodes.{node_cases}
-use Rattle.core_rule.proofs.ways.Rows.{field_back, cell_there, cell_back}
+use Rattle.core_rule.proofs.ways.Rows.{field_of_row_and_part, row_part_is_cell, cell_of_row_and_part}
 
 module _ (head : Id → ℕ) (name : Name) (spine : Spot) (fragments : List ℕ) where
   -- a word of a record is a cell's, or one of its frame's
@@ -51,48 +51,48 @@ module _ (head : Id → ℕ) (name : Name) (spine : Spot) (fragments : List ℕ)
       (λ cells field frame first cell. record_cases P cells k part (field refl) (frame refl)) object
 
   -- the words that are no cells: of a record its meta, its name and the links
-  pub record_meta_at : (object : Node) → object.array ≡ false → object_word head name object spine fragments 0 0 ≡ record_meta (length object.cells) fragments
+  pub object_word_is_record_meta : (object : Node) → object.array ≡ false → object_word head name object spine fragments 0 0 ≡ record_meta (length object.cells) fragments
   unfolding record_object_word
-  record_meta_at object kind = rw kind refl
+  object_word_is_record_meta object kind = rw kind refl
 
-  pub record_link_at : (object : Node) (k : ℕ) → object.array ≡ false → object_word head name object spine fragments (suc k) 0 ≡ link_after fragments (suc k)
+  pub object_word_is_link : (object : Node) (k : ℕ) → object.array ≡ false → object_word head name object spine fragments (suc k) 0 ≡ link_after fragments (suc k)
   unfolding record_object_word
-  record_link_at object k kind = let later : eqb (suc k) 0 ≡ false = grind arith in rw (kind, later) refl
+  object_word_is_link object k kind = let later : eqb (suc k) 0 ≡ false = grind arith in rw (kind, later) refl
 
   -- of an array its meta, its name, and the place of its spine
-  pub array_meta_at : (object : Node) → object.array ≡ true → object_word head name object spine fragments 0 0 ≡ array_meta (length object.cells)
+  pub object_word_is_array_meta : (object : Node) → object.array ≡ true → object_word head name object spine fragments 0 0 ≡ array_meta (length object.cells)
   unfolding array_object_word
-  array_meta_at object kind = rw kind refl
+  object_word_is_array_meta object kind = rw kind refl
 
-  pub spine_place_at : (object : Node) → object.array ≡ true → object_word head name object spine fragments 0 2 ≡ spot_word spine
+  pub object_word_is_spot : (object : Node) → object.array ≡ true → object_word head name object spine fragments 0 2 ≡ spot_word spine
   unfolding array_object_word
-  spine_place_at object kind = rw kind refl
+  object_word_is_spot object kind = rw kind refl
 
-  pub name_at : (object : Node) → object_word head name object spine fragments 0 1 ≡ name_word name
+  pub object_word_is_name : (object : Node) → object_word head name object spine fragments 0 1 ≡ name_word name
   unfolding record_object_word array_object_word
-  name_at object = node_cases (λ o. object_word head name o spine fragments 0 1 ≡ name_word name) (λ cells. refl) (λ cells. refl) object
+  object_word_is_name object = node_cases (λ o. object_word head name o spine fragments 0 1 ≡ name_word name) (λ cells. refl) (λ cells. refl) object
 
   -- the word of a cell
   record_cell : (cells : List Cell) (i : ℕ) (cell : Cell) → slice_get cells i ≡ Some cell → record_object_word head name cells fragments (row_of i) (part_of i) ≡ value_word head cell.value cell.stamp
   unfolding record_object_word
-  record_cell cells i cell there = rw (cell_there i, field_back i, there) refl
+  record_cell cells i cell there = rw (row_part_is_cell i, field_of_row_and_part i, there) refl
 
   array_cell : (cells : List Cell) (i : ℕ) (cell : Cell) → slice_get cells i ≡ Some cell → array_object_word head name cells spine (i / 4 + 1) (i % 4) ≡ value_word head cell.value cell.stamp
   unfolding array_object_word
-  array_cell cells i cell there = let later : eqb (i / 4 + 1) 0 ≡ false = grind arith in rw (later, cell_back i, there) refl
+  array_cell cells i cell there = let later : eqb (i / 4 + 1) 0 ≡ false = grind arith in rw (later, cell_of_row_and_part i, there) refl
 
-  pub word_of_cell : (object : Node) (i : ℕ) (cell : Cell) → slice_get object.cells i ≡ Some cell
+  pub object_word_is_cell : (object : Node) (i : ℕ) (cell : Cell) → slice_get object.cells i ≡ Some cell
       → object_word head name object spine fragments (row_in object i) (field_part object i) ≡ value_word head cell.value cell.stamp
-  word_of_cell object i cell =
+  object_word_is_cell object i cell =
       node_cases (λ (o : Node). slice_get o.cells i ≡ Some cell → object_word head name o spine fragments (row_in o i) (field_part o i) ≡ value_word head cell.value cell.stamp)
       (λ cells there. array_cell cells i cell there) (λ cells there. record_cell cells i cell there) object
 
 -- where each cell's word is the same by another head, so is each word of the object
-pub words_by_cells : (head other : Id → ℕ) (name : Name) (object : Node) (spine : Spot) (fragments : List ℕ) (k part : ℕ)
+pub object_words_same_by_cells : (head other : Id → ℕ) (name : Name) (object : Node) (spine : Spot) (fragments : List ℕ) (k part : ℕ)
     → ((j : ℕ) → field_word other (slice_get object.cells j) ≡ field_word head (slice_get object.cells j))
     → object_word other name object spine fragments k part ≡ object_word head name object spine fragments k part
 unfolding record_object_word array_object_word
-words_by_cells head other name object spine fragments k part =
+object_words_same_by_cells head other name object spine fragments k part =
     node_cases
     (λ (o : Node). ((j : ℕ) → field_word other (slice_get o.cells j) ≡ field_word head (slice_get o.cells j)) → object_word other name o spine fragments k part ≡ object_word head name o spine fragments k part)
     (λ cells same. ap (λ w. if eqb k 0 then sentinel_word_of name (length cells) spine part else w) (same (4 * (k - 1) + part)))

@@ -46,24 +46,24 @@ steps_alone heap number (suc steps) state alone =
     (alone, steps_alone heap number steps (state_after heap state (Steps number)) (alone_still number state (state_after heap state (Steps number)) (moved_same heap state number (next_move heap number (seat_at state number))) alone))
 
 -- a call of a seat that is alone is a whole call
-pub call_alone : (heap : Heap) (number steps : ℕ) (command : Command) (state : State) → IsAlone state number → OneCallAtATime heap state (call_events number command steps)
-call_alone heap number steps command state alone =
+pub call_events_are_one_call : (heap : Heap) (number steps : ℕ) (command : Command) (state : State) → IsAlone state number → OneCallAtATime heap state (call_events number command steps)
+call_events_are_one_call heap number steps command state alone =
     (alone, steps_alone heap number steps (state_after heap state (Begins number command)) (alone_still number state (state_after heap state (Begins number command)) (begun_same heap state number command) alone))
 
 -- so the other seats are as before
-pub after_call : (heap : Heap) (old new : State) (number : ℕ) (command : Command) (reply : Reply) → PlaysCall heap old new number command reply → SameBut number old new
-after_call heap old new number command reply call = subst (SameBut number old) (sym call.ends) (call_same heap number call.steps command old)
+pub others_same_after_call : (heap : Heap) (old new : State) (number : ℕ) (command : Command) (reply : Reply) → PlaysCall heap old new number command reply → SameBut number old new
+others_same_after_call heap old new number command reply call = subst (SameBut number old) (sym call.ends) (call_same heap number call.steps command old)
 
 -- so it is with an inner call of a collect
 inner_begun : (heap : Heap) (state : State) (number : ℕ) (inner : Inner) → SameBut number state (state_after heap state (BeginsInner number inner))
 inner_begun heap state number inner =
     record { seats = length-set state.seats number _; others = λ other apart. get_or-set_other state.seats number other _ absent_seat apart; collector = refl }
 
-pub inner_alone : (heap : Heap) (number steps : ℕ) (inner : Inner) (state : State) → IsAlone state number → NotesNow heap state inner → OneCallAtATime heap state (inner_events number inner steps)
-inner_alone heap number steps inner state alone now =
+pub inner_events_are_one_call : (heap : Heap) (number steps : ℕ) (inner : Inner) (state : State) → IsAlone state number → NotesNow heap state inner → OneCallAtATime heap state (inner_events number inner steps)
+inner_events_are_one_call heap number steps inner state alone now =
     ((alone, now), steps_alone heap number steps (state_after heap state (BeginsInner number inner)) (alone_still number state (state_after heap state (BeginsInner number inner)) (inner_begun heap state number inner) alone))
 
-pub after_inner : (heap : Heap) (old new : State) (number : ℕ) (inner : Inner) → PlaysInner heap old new number inner → SameBut number old new
-after_inner heap old new number inner plays =
+pub others_same_after_inner : (heap : Heap) (old new : State) (number : ℕ) (inner : Inner) → PlaysInner heap old new number inner → SameBut number old new
+others_same_after_inner heap old new number inner plays =
     subst (SameBut number old) (sym plays.ends)
     (same_then number old (state_after heap old (BeginsInner number inner)) _ (inner_begun heap old number inner) (steps_same heap number plays.steps (state_after heap old (BeginsInner number inner))))

@@ -6,8 +6,8 @@ use Rattle.core_machine.specs.declared.place.Place.TheVariants.{Idle}
 use Rattle.core_machine.specs.machine.Opening.{IsOpening, opening_seat}
 
 -- each of its seats is as at the opening
-pub opening_seats : (heap : Heap) (state : State) → IsOpening heap state → (P : Seat → Type 0) → (number : ℕ) → number < heap.seats → P (opening_seat heap number) → P (seat_at state number)
-opening_seats heap state opens P number below holds =
+pub holds_of_opened_seats : (heap : Heap) (state : State) → IsOpening heap state → (P : Seat → Type 0) → (number : ℕ) → number < heap.seats → P (opening_seat heap number) → P (seat_at state number)
+holds_of_opened_seats heap state opens P number below holds =
     subst (λ (seats : List Seat). P (seat_at (record state { seats = seats }) number)) (sym opens.seats_open)
     (subst P (sym (get_or-map-range_with_len (opening_seat heap) 0 heap.seats number number absent_seat below (omega arith))) holds)
 
@@ -16,6 +16,6 @@ pub seats_opened : (heap : Heap) (state : State) → IsOpening heap state → le
 seats_opened heap state opens = ap (length {A = Seat}) opens.seats_open ∙ length-map-range_with_len (opening_seat heap) 0 heap.seats
 
 -- none has a call in flight
-pub idle_opened : (heap : Heap) (state : State) → IsOpening heap state → AllIdle state
-idle_opened heap state opens number below =
-    opening_seats heap state opens (λ (t : Seat). t.place ≡ Idle) number (omega (arith, below, seats_opened heap state opens)) refl
+pub opened_is_all_idle : (heap : Heap) (state : State) → IsOpening heap state → AllIdle state
+opened_is_all_idle heap state opens number below =
+    holds_of_opened_seats heap state opens (λ (t : Seat). t.place ≡ Idle) number (omega (arith, below, seats_opened heap state opens)) refl

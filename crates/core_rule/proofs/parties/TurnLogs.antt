@@ -7,8 +7,8 @@ use Rattle.heap_model.specs.account.Noting.{is_collectors}
 use Rattle.heap_model.specs.declared.calls.collector_calls.Turn.{Turn}
 use Rattle.heap_model.specs.declared.calls.collector_calls.Turn.TheVariants as turns
 use Rattle.heap_model.specs.calls.CollectorCalls.{CollectorState, ComesTo}
-use Rattle.core_rule.proofs.parties.Collectors.{all_collectors}
-use Rattle.core_rule.proofs.parties.Logs.{log_of_collector}
+use Rattle.core_rule.proofs.parties.Collectors.{all_are_collectors}
+use Rattle.core_rule.proofs.parties.Logs.{last_log_is_collectors}
 
 -- a turn adds one entry at most
 few_added : (old new : CollectorState) (turn : Turn) → ComesTo old new turn → length new.log ≤ length old.log + 1
@@ -36,9 +36,9 @@ turn_facts keeps each one two told party s can after is =
     = ap (λ (t : State). t.collector.log) after ∙ next.stands.rule.collector_stands.log ∙ ap (filter is_collectors) next.grown in
     let comes = each one.heap one.state s.book old new s.stands can (record { log_told = s.stands.rule.collector_stands.log; phase_told = refl }) (record { log_told = log_is; phase_told = refl }) in
     let more : two.state.collector.log ≡ one.state.collector.log ++ added
-    = log_is ∙ filter-append is_collectors s.book.history added ∙ ap (λ es. filter is_collectors s.book.history ++ es) (all_collectors added comes.0) ∙ ap (λ es. es ++ added) (sym s.stands.rule.collector_stands.log) in
-    let one_log = log_of_collector one party is in
-    let two_log = log_of_collector two party (is ∙ ap (λ (t : State). length t.seats) (sym after)) in
+    = log_is ∙ filter-append is_collectors s.book.history added ∙ ap (λ es. filter is_collectors s.book.history ++ es) (all_are_collectors added comes.0) ∙ ap (λ es. es ++ added) (sym s.stands.rule.collector_stands.log) in
+    let one_log = last_log_is_collectors one party is in
+    let two_log = last_log_is_collectors two party (is ∙ ap (λ (t : State). length t.seats) (sym after)) in
     let logs : log_of two party ≡ log_of one party ++ added = two_log ∙ more ∙ ap (λ es. es ++ added) (sym one_log) in
     let many = ap (length {A = Entry}) more ∙ length-append one.state.collector.log added in
     record {
@@ -46,5 +46,5 @@ turn_facts keeps each one two told party s can after is =
       longer = omega (arith, ap (length {A = Entry}) logs, length-append (log_of one party) added);
       told = rw logs (drop-append_seam (log_of one party) added);
       few = omega (arith, few_added old new _ comes.1, many);
-      many = rw (log_of_collector two (length one.state.seats) (ap (λ (t : State). length t.seats) (sym after)), log_of_collector one (length one.state.seats) refl) many;
+      many = rw (last_log_is_collectors two (length one.state.seats) (ap (λ (t : State). length t.seats) (sym after)), last_log_is_collectors one (length one.state.seats) refl) many;
     }

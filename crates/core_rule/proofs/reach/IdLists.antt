@@ -3,7 +3,7 @@ use Rattle.std.proofs.Common.{◌≡◌, ◌↔◌, ℕ, zero, suc, ◌⊎◌, i
 use Rattle.std.proofs.lemmas.List.Elements.{Contains-append_left, Contains-push, Contains-push_cases, Contains-get_or}
 use Rattle.std.proofs.lemmas.List.Quantifiers.{all_pairs_push}
 use Rattle.core_rule.proofs.Terms.{Id, Board, Made, Graph, graph_seat, IsMade, IsBefore}
-use Rattle.core_rule.proofs.reach.IdOrder.{before_next, still_before, before_seat, after_seat, before_end}
+use Rattle.core_rule.proofs.reach.IdOrder.{before_next_or_same, before_stays_at_next, made_is_before_seat_end, before_next_seat, made_is_before_end}
 
 -- a list that has exactly the ids of which P holds, in their order
 pub record AreAll (P : Id → Type 0) (ids : List Id) : Type 0 where
@@ -27,10 +27,10 @@ module _ (g : Graph) (P : Id → Type 0) (decided : (id : Id) → P id ⊎ ¬ P 
     listed_push holds = record {
       ordered = all_pairs_push IsBefore ids (Made s c) list.ordered (λ k d within. (list.listed (get_or ids k d) (Contains-get_or ids k d within)).1);
       listed = λ id there. elim (Contains-push_cases ids (Made s c) id there) [
-        | inl old ↦ ((list.listed id old).0, still_before id s c (list.listed id old).1)
+        | inl old ↦ ((list.listed id old).0, before_stays_at_next id s c (list.listed id old).1)
         | inr new ↦ subst (λ x. P x × IsBefore x (Made s (suc c))) new (holds, inr (refl, omega arith))
       ];
-      whole = λ id its before. elim (before_next id s c before) [
+      whole = λ id its before. elim (before_next_or_same id s c before) [
         | inl old ↦ Contains-append_left ids (Made s c ∷ []) id (list.whole id its old)
         | inr new ↦ subst (Contains (ids ++ Made s c ∷ [])) new (Contains-push ids (Made s c))
       ];
@@ -39,8 +39,8 @@ module _ (g : Graph) (P : Id → Type 0) (decided : (id : Id) → P id ⊎ ¬ P 
     listed_skip : ¬ P (Made s c) → IsListedBelow (Made s (suc c)) ids
     listed_skip fails = record {
       ordered = list.ordered;
-      listed = λ id there. ((list.listed id there).0, still_before id s c (list.listed id there).1);
-      whole = λ id its before. elim (before_next id s c before) [
+      listed = λ id there. ((list.listed id there).0, before_stays_at_next id s c (list.listed id there).1);
+      whole = λ id its before. elim (before_next_or_same id s c before) [
         | inl old ↦ list.whole id its old
         | inr new ↦ absurd (fails (subst P (sym new) its))
       ];
@@ -63,8 +63,8 @@ module _ (g : Graph) (P : Id → Type 0) (decided : (id : Id) → P id ⊎ ¬ P 
         list.0,
         record {
           ordered = list.1.ordered;
-          listed = λ id there. ((list.1.listed id there).0, after_seat id s _ (list.1.listed id there).1);
-          whole = λ id its before. list.1.whole id its (before_seat g id s (made id its) before);
+          listed = λ id there. ((list.1.listed id there).0, before_next_seat id s _ (list.1.listed id there).1);
+          whole = λ id its before. list.1.whole id its (made_is_before_seat_end g id s (made id its) before);
         },
       )
 
@@ -102,12 +102,12 @@ module _ (g : Graph) (P : Id → Type 0) (decided : (id : Id) → P id ⊎ ¬ P 
   seats_listed (suc s) = next_seat s (seats_listed s)
 
   -- and after all seats there is no more
-  pub all_listed : (ids : List Id) × AreAll P ids
-  all_listed =
+  pub all_are_listed : (ids : List Id) × AreAll P ids
+  all_are_listed =
       let list = seats_listed (length g.seats) in (
         list.0,
         record {
           ordered = list.1.ordered;
-          all = λ id. (λ there. (list.1.listed id there).0, λ its. list.1.whole id its (before_end g id (made id its)));
+          all = λ id. (λ there. (list.1.listed id there).0, λ its. list.1.whole id its (made_is_before_end g id (made id its)));
         },
       )

@@ -5,15 +5,15 @@ use Rattle.std.proofs.lemmas.Bool.{false≢true}
 use Rattle.core_rule.proofs.Terms.{Id, Value, Graph, Node, node, IsMade, IsRegistered, PointsTo, Points, IsRoot, Reaches, from_register, from_cell}
 use Rattle.heap_model.specs.declared.id.Value.TheVariants.{Nil, Number, Object}
 use Rattle.heap_model.specs.graph.Graph.{GraphSeat}
-use Rattle.core_rule.proofs.graph.Numbering.{id_tells}
-use Rattle.core_rule.proofs.reach.IdLists.{AreAll, all_listed}
-use Rattle.core_rule.proofs.lists.Decided.{Decided, both_decided, either_decided, any_of, any_decided, count_of, count_within, grows}
+use Rattle.core_rule.proofs.graph.Numbering.{same_id_test_decides}
+use Rattle.core_rule.proofs.reach.IdLists.{AreAll, all_are_listed}
+use Rattle.core_rule.proofs.lists.Decided.{Decided, both_decided, either_decided, any_of_contained, any_decided, count_of, count_within_length, list_grows}
 
 -- values are the same or not
 refers_decided : (v : Value) (id : Id) → Decided (v ≡ Object id)
 refers_decided Nil id = inr (λ e. cc)
 refers_decided (Number n) id = inr (λ e. cc)
-refers_decided (Object other) id = elim (id_tells other id) [ inl same ↦ inl (cc (same.1)) | inr apart ↦ inr (λ e. apart.1 (cc)) ]
+refers_decided (Object other) id = elim (same_id_test_decides other id) [ inl same ↦ inl (cc (same.1)) | inr apart ↦ inr (λ e. apart.1 (cc)) ]
 
 registered_decided : (seat : GraphSeat) (id : Id) → Decided (IsRegistered seat id)
 registered_decided seat id = elim (any_decided (λ v. v ≡ Object id) (λ v. refers_decided v id) seat.registers) [
@@ -41,7 +41,7 @@ made_decided g id = by (node g id)
 module _ (g : Graph) where
   -- all ids that were made
   made_ids : (ids : List Id) × AreAll (IsMade g) ids
-  made_ids = all_listed g (IsMade g) (made_decided g) (λ id made. made)
+  made_ids = all_are_listed g (IsMade g) (made_decided g) (λ id made. made)
 
   abbrev every : List Id
   every = made_ids.0
@@ -63,7 +63,7 @@ module _ (g : Graph) where
     its.0,
     elim its.1 [
       | inl root ↦ inl root
-      | inr any ↦ inr (any_of (λ holder. InRounds (suc n) holder × Points g holder id) every any.1 (any.0, any.2, any.3) (further n any.1 any.4.0, any.4.1))
+      | inr any ↦ inr (any_of_contained (λ holder. InRounds (suc n) holder × Points g holder id) every any.1 (any.0, any.2, any.3) (further n any.1 any.4.0, any.4.1))
     ],
   )
 
@@ -76,7 +76,7 @@ module _ (g : Graph) where
     its.0,
     elim its.1 [
       | inl root ↦ inl root
-      | inr any ↦ inr (any_of (λ holder. InRounds n holder × Points g holder id) every any.1 (any.0, any.2, any.3) (closed any.1 any.4.0, any.4.1))
+      | inr any ↦ inr (any_of_contained (λ holder. InRounds n holder × Points g holder id) every any.1 (any.0, any.2, any.3) (closed any.1 any.4.0, any.4.1))
     ],
   )
 
@@ -85,7 +85,7 @@ module _ (g : Graph) where
   closed_or_many zero = inr (omega arith)
   closed_or_many (suc n) = elim (closed_or_many n) [
     | inl closed ↦ inl (closed_on n closed)
-    | inr many ↦ elim (grows (InRounds n) (InRounds (suc n)) (decided_in n) (decided_in (suc n)) (further n) every) [
+    | inr many ↦ elim (list_grows (InRounds n) (InRounds (suc n)) (decided_in n) (decided_in (suc n)) (further n) every) [
       | inl more ↦ inr (omega (arith, many, more))
       | inr same ↦ inl (closed_on n (λ id its. same.1 id ((made_ids.1.all id).1 its.0) its))
     ]
@@ -97,7 +97,7 @@ module _ (g : Graph) where
   at_last : IsClosed rounds
   at_last = elim (closed_or_many rounds) [
     | inl closed ↦ closed
-    | inr many ↦ absurd (omega (arith, many, count_within (InRounds rounds) (decided_in rounds) every))
+    | inr many ↦ absurd (omega (arith, many, count_within_length (InRounds rounds) (decided_in rounds) every))
   ]
 
   -- what is reached within some rounds is reached, and what is reached is so within these
@@ -115,7 +115,7 @@ module _ (g : Graph) where
   whole : (id : Id) → Reaches g id → InRounds rounds id
   whole _ (from_register id made root) = (made, inl root)
   whole _ (from_cell id made holder reached points) =
-      at_last id (made, inr (any_of (λ h. InRounds rounds h × Points g h id) every holder ((made_ids.1.all holder).1 (made_of holder reached)) (whole holder reached, points)))
+      at_last id (made, inr (any_of_contained (λ h. InRounds rounds h × Points g h id) every holder ((made_ids.1.all holder).1 (made_of holder reached)) (whole holder reached, points)))
 
   pub reach_decided : (id : Id) → Decided (Reaches g id)
   reach_decided id = elim (decided_in rounds id) [

@@ -6,15 +6,15 @@ use Rattle.core_machine.specs.declared.place.Place.TheVariants as places
 use Rattle.core_machine.specs.declared.seat.register.Register.TheVariants as registers
 use Rattle.core_rule.specs.roots.Roots.{OfRoots}
 use Rattle.core_rule.proofs.entries.AtRest.{seat_fits}
-use Rattle.core_rule.proofs.graph.LeftSeats.{left_empty}
+use Rattle.core_rule.proofs.graph.LeftSeats.{left_registers_are_nil}
 
-pub gone_roots : (heap : Heap) (state : State) (book : Book) (number : ℕ) (rule : Rule heap state book) (here : number < heap.seats) → (seat_at state number).left ≡ true
+pub roots_hold_when_gone : (heap : Heap) (state : State) (book : Book) (number : ℕ) (rule : Rule heap state book) (here : number < heap.seats) → (seat_at state number).left ≡ true
     → (P : ℕ → Type 0) → OfRoots P (seat_at state number)
-gone_roots heap state book number rule here left P =
+roots_hold_when_gone heap state book number rule here left P =
     let stands = rule.seats_stand number here in
     let idle : (seat_at state number).place ≡ places.Idle = ((seat_fits rule number here).gone left).idle in
     let empty : (r : ℕ) → register_value (graph_of heap book.history) number r ≡ values.Nil
-    = left_empty heap book.history number rule.heap_stands.legal.objects (stands.told.counts.leaves ∙ left) in
+    = left_registers_are_nil heap book.history number rule.heap_stands.legal.objects (stands.told.counts.leaves ∙ left) in
     record {
       registers = λ r. none (register_in (seat_at state number).registers r)
           (subst (HoldsValue book.made book.owner book.fragments (register_in (seat_at state number).registers r)) (empty r)

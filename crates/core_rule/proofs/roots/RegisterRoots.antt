@@ -9,8 +9,8 @@ use Rattle.core_machine.specs.declared.seat.register.Register.TheVariants as reg
 abbrev pub OfHeads : (ℕ → Type 0) → List Register → Type 0
 OfHeads P held = (r : ℕ) → IfSome (register_head (register_in held r)) P
 
-pub heads_put : (P : ℕ → Type 0) (held : List Register) (d : ℕ) (new : Register) → d < length held → IfSome (register_head new) P → OfHeads P held → OfHeads P (slice_set held d new)
-heads_put P held d new below fresh old r = elim (eqb_tells r d) as (λ _. IfSome (register_head (register_in (slice_set held d new) r)) P) [
+pub heads_hold_after_put : (P : ℕ → Type 0) (held : List Register) (d : ℕ) (new : Register) → d < length held → IfSome (register_head new) P → OfHeads P held → OfHeads P (slice_set held d new)
+heads_hold_after_put P held d new below fresh old r = elim (eqb_tells r d) as (λ _. IfSome (register_head (register_in (slice_set held d new) r)) P) [
   | inl same ↦ subst (λ x. IfSome (register_head (register_in (slice_set held d new) x)) P) (sym same.1)
       (subst (λ x. IfSome (register_head x) P) (sym (get_or-set_same held d new registers.Nil below)) fresh)
   | inr apart ↦ subst (λ x. IfSome (register_head x) P) (sym (get_or-set_other held d r new registers.Nil apart.1)) (old r)

@@ -5,8 +5,8 @@ use Rattle.core_rule.proofs.Terms.{cycle_phases, marking, Register, register_in,
 use Rattle.core_machine.specs.declared.place.Polling.TheVariants.{Shading, Answering}
 use Rattle.core_machine.specs.declared.seat.register.Register.TheVariants as registers
 use Rattle.core_machine.specs.seat.Handshake.{roots, answer_place}
-use Rattle.core_rule.proofs.colours.ShadeColours.{with_mark, mark_marks, mark_keeps}
-use Rattle.core_rule.proofs.lists.Options.{if_some}
+use Rattle.core_rule.proofs.colours.ShadeColours.{with_mark, mark_marks_fragment, mark_keeps_marked}
+use Rattle.core_rule.proofs.lists.Options.{if_some_goes_on}
 
 -- a register's object stands among those of all registers, behind those of the registers before it
 pub head_there : (held : List Register) (r head : ℕ) → register_head (register_in held r) ≡ Some head
@@ -38,23 +38,23 @@ module _ (colour : ℕ → Colour) (held : List Register) (n : ℕ) (front : Fro
       subst (λ o. IfSome o (IsMarked colour)) is (front r (omega (arith, (head_there held r head is).0, all))))
 
   -- and one more is, once it was shaded
-  pub front_more : FrontMarked (with_mark colour (slice_index_or (heads_of held) n 0)) held (n + 1)
-  front_more r less = elim (cases_lt (objects_before held r) n) [
-    | inl before ↦ if_some (IsMarked colour) (IsMarked (with_mark colour (slice_index_or (heads_of held) n 0))) (mark_keeps colour (slice_index_or (heads_of held) n 0)) _ (front r before)
+  pub front_marked_after_shade : FrontMarked (with_mark colour (slice_index_or (heads_of held) n 0)) held (n + 1)
+  front_marked_after_shade r less = elim (cases_lt (objects_before held r) n) [
+    | inl before ↦ if_some_goes_on (IsMarked colour) (IsMarked (with_mark colour (slice_index_or (heads_of held) n 0))) (mark_keeps_marked colour (slice_index_or (heads_of held) n 0)) _ (front r before)
     | inr past ↦
         let same : objects_before held r ≡ n = omega (arith, less, past) in
         at_root (IsMarked (with_mark colour (slice_index_or (heads_of held) n 0))) held r (λ head is.
         subst (IsMarked (with_mark colour (slice_index_or (heads_of held) n 0))) (ap (λ m. get_or (heads_of held) m 0) (sym same) ∙ (head_there held r head is).1)
-        (mark_marks colour (slice_index_or (heads_of held) n 0)))
+        (mark_marks_fragment colour (slice_index_or (heads_of held) n 0)))
   ]
 
 -- where marking begins the roots are all registers' objects
-pub roots_all : (seat : Seat) → seat.asked % cycle_phases ≡ marking → roots seat ≡ heads_of seat.registers
-roots_all seat begins = rw (eq-eqb (seat.asked % cycle_phases) marking begins) refl
+pub roots_are_register_heads : (seat : Seat) → seat.asked % cycle_phases ≡ marking → roots seat ≡ heads_of seat.registers
+roots_are_register_heads seat begins = rw (eq-eqb (seat.asked % cycle_phases) marking begins) refl
 
 -- so whoever answers then has marked each of them
-pub roots_marked : (colour : ℕ → Colour) (seat : Seat) → seat.asked % cycle_phases ≡ marking → FrontMarked colour seat.registers seat.shaded → RootsStand colour seat (answer_place seat)
-roots_marked colour seat begins front =
+pub roots_stand_at_answer : (colour : ℕ → Colour) (seat : Seat) → seat.asked % cycle_phases ≡ marking → FrontMarked colour seat.registers seat.shaded → RootsStand colour seat (answer_place seat)
+roots_stand_at_answer colour seat begins front =
     cond_both (nat_lt seat.shaded (length (roots seat))) Shading Answering (RootsStand colour seat)
     (λ more. front)
-    (λ done. all_marked colour seat.registers seat.shaded front (omega (arith, ltb-false seat.shaded (length (roots seat)) done, ap length (roots_all seat begins))))
+    (λ done. all_marked colour seat.registers seat.shaded front (omega (arith, ltb-false seat.shaded (length (roots seat)) done, ap length (roots_are_register_heads seat begins))))

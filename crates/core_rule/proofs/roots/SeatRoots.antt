@@ -5,10 +5,10 @@ use Rattle.core_rule.proofs.Terms.{Seat, head_of, Book, Grey, IsMarked, ShadedSt
 use Rattle.core_machine.specs.declared.place.Access.TheVariants.{LoadingSpot, Naming}
 use Rattle.core_machine.specs.declared.place.Place.TheVariants as places
 use Rattle.core_rule.specs.roots.Roots.{AtCall, OfRoots}
-use Rattle.core_rule.proofs.entries.AtRest.{seat_fits, in_flight}
-use Rattle.core_rule.proofs.marking.Ended.{reached_marked}
-use Rattle.core_rule.proofs.roots.GoneRoots.{gone_roots}
-use Rattle.core_rule.proofs.marking.Marks.{roots_more}
+use Rattle.core_rule.proofs.entries.AtRest.{seat_fits, in_flight_has_not_left}
+use Rattle.core_rule.proofs.marking.Ended.{reached_is_marked}
+use Rattle.core_rule.proofs.roots.GoneRoots.{roots_hold_when_gone}
+use Rattle.core_rule.proofs.marking.Marks.{roots_hold_still}
 
 module _ (heap : Heap) (state : State) (book : Book) (rule : Rule heap state book) (marks : IsMarking heap.seats state.collector.phase state.collector.looked)
     (goes_on : ¬ HasMarked state.collector.stage) (none : (f : ℕ) → book.colour f ≢ Grey) (number : ℕ) (here : number < heap.seats) where
@@ -19,22 +19,22 @@ module _ (heap : Heap) (state : State) (book : Book) (rule : Rule heap state boo
   Marked = IsMarked book.colour
 
   -- a seat that is there has answered the phase
-  pub answered_marking : seat.left ≡ false → seat.answered ≡ phase book.history
-  answered_marking present =
+  pub seat_answered_the_phase : seat.left ≡ false → seat.answered ≡ phase book.history
+  seat_answered_the_phase present =
       let told = (rule.seats_stand number here).cycle.answers_told in
       sym told.told ∙ rule.collector_stands.looked number (omega (arith, here, marks.all)) here (told.leaves ∙ present)
 
   roots_there : seat.left ≡ false → OfRoots Marked seat
   roots_there present =
-      roots_more (IsReached heap state.words book.owner book.colour) Marked (reached_marked heap state.words book.owner book.colour none) seat
-      (rule.marks_stand.roots number here (record { phase = marks.for_marking; goes_on = goes_on }) (answered_marking present ∙ sym rule.collector_stands.phase_told))
+      roots_hold_still (IsReached heap state.words book.owner book.colour) Marked (reached_is_marked heap state.words book.owner book.colour none) seat
+      (rule.marks_stand.roots number here (record { phase = marks.for_marking; goes_on = goes_on }) (seat_answered_the_phase present ∙ sym rule.collector_stands.phase_told))
 
   -- its roots are marked
-  pub all_roots_marked : OfRoots Marked seat
-  all_roots_marked = by seat.left refl
+  pub all_roots_are_marked : OfRoots Marked seat
+  all_roots_are_marked = by seat.left refl
     where
       by : (left : Bool) → seat.left ≡ left → OfRoots Marked seat
-      by true left = gone_roots heap state book number rule here left Marked
+      by true left = roots_hold_when_gone heap state book number rule here left Marked
       by false present = roots_there present
 
   -- and so is what it has loaded
@@ -52,7 +52,7 @@ module _ (heap : Heap) (state : State) (book : Book) (rule : Rule heap state boo
   loaded_by_place (places.Access ShadingOld) is fits call shaded = call.1
   loaded_by_place (places.Access ShadingNew) is fits call shaded = shaded
   loaded_by_place (places.Access Swapping) is fits call shaded =
-      let answered = answered_marking (in_flight rule number here (λ idle. absurd (cc (idle, is)))) in
+      let answered = seat_answered_the_phase (in_flight_has_not_left rule number here (λ idle. absurd (cc (idle, is)))) in
       let third = marks.for_marking in
       let same = rule.collector_stands.phase_told in
       (shaded (record { from = omega (arith, answered, third, same); upto = omega (arith, answered, third, same) })).0
@@ -63,9 +63,9 @@ module _ (heap : Heap) (state : State) (book : Book) (rule : Rule heap state boo
   loaded_by_place (places.Collecting place) is fits call shaded = nothing_loaded fits.none_loaded
   loaded_by_place (places.Leaving place) is fits call shaded = nothing_loaded fits.none_loaded
 
-  pub loaded_marked : IfSome (head_of seat.loaded) Marked
-  loaded_marked =
+  pub loaded_is_marked : IfSome (head_of seat.loaded) Marked
+  loaded_is_marked =
       let third = marks.for_marking in
       let same = rule.collector_stands.phase_told in
-      loaded_by_place seat.place refl (seat_fits rule number here).way_at_place all_roots_marked.call
+      loaded_by_place seat.place refl (seat_fits rule number here).way_at_place all_roots_are_marked.call
       ((rule.seats_stand number here).cycle.flight.shaded (record { from = omega (arith, third, same); upto = omega (arith, third, same) }))

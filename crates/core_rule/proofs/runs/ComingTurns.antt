@@ -12,16 +12,16 @@ use Rattle.heap_model.specs.calls.CollectorCalls.{CollectorState, AddsNone, Come
 use Rattle.heap_model.proofs.Histories.{total-more}
 use Rattle.core_machine.specs.declared.collector.stage.Stage.TheVariants as stages
 use Rattle.core_machine.specs.collector.Collector.{TurnMove}
-use Rattle.core_rule.proofs.entries.TurnShapes.{StepsInPhase, TurnShape, adds_nothing, adds_one, begins_phase, ends_cycle, shape_collects}
-use Rattle.core_rule.proofs.steps.collector.{turn_kind}
-use Rattle.core_rule.proofs.runs.Plays.{keeps_there}
+use Rattle.core_rule.proofs.entries.TurnShapes.{StepsInPhase, TurnShape, adds_nothing, adds_one, begins_phase, ends_cycle, shape_adds_collector_entries}
+use Rattle.core_rule.proofs.steps.collector.{turn_kind_of_each_stage}
+use Rattle.core_rule.proofs.runs.Plays.{keeps_space_of_each_entry}
 use Rattle.core_rule.proofs.runs.Waits.{each_wait_is_behind}
 
 -- what a turn adds is the collector's
-pub turn_collects : (heap : Heap) (state : State) → AllByRecursion (λ entry. is_collectors entry ≡ true) (entries heap state Turns)
-turn_collects heap state =
+pub turn_adds_collector_entries : (heap : Heap) (state : State) → AllByRecursion (λ entry. is_collectors entry ≡ true) (entries heap state Turns)
+turn_adds_collector_entries heap state =
     let found : ℕ = found_by heap state (next_turn heap state.collector).step in
-    shape_collects heap state.collector found state.collector.stage ((turn_kind state.collector.stage).shape heap state.collector found)
+    shape_adds_collector_entries heap state.collector found state.collector.stage ((turn_kind_of_each_stage state.collector.stage).shape heap state.collector found)
 
 module _ (heap : Heap) (state : State) (book : Book) (old new : CollectorState) (rule : Rule heap state book) where
   abbrev turn : TurnMove
@@ -49,7 +49,7 @@ module _ (heap : Heap) (state : State) (book : Book) (old new : CollectorState) 
     begins_comes : (p : ℕ) → turn.adds ≡ Advance p ∷ [] → IsLegal heap false (book.history ++ turn.adds) → ComesTo old new answers.Stepped
     begins_comes p adds legal =
         let with_it : book.history ++ turn.adds ≡ book.history ++ Advance p ∷ [] = ap (λ es. book.history ++ es) adds in
-        let begins = (keeps_there heap false [] book.history [] (Advance p) (subst (IsLegal heap false) with_it legal).space).begins in
+        let begins = (keeps_space_of_each_entry heap false [] book.history [] (Advance p) (subst (IsLegal heap false) with_it legal).space).begins in
         let next : p ≡ old.phase + 1 = begins.0 ∙ ap (λ n. n + 1) (sym told.phase_told) in
         let phases : phase (book.history ++ Advance p ∷ []) ≡ phase book.history + 1 = total-more (λ e. e.phases) book.history (Advance p) in
         let later : new.phase ≡ p = then_.phase_told ∙ ap phase with_it ∙ phases ∙ sym begins.0 in
@@ -60,7 +60,7 @@ module _ (heap : Heap) (state : State) (book : Book) (old new : CollectorState) 
     one_comes : (entry : Entry) → StepsInPhase heap entry → turn.adds ≡ entry ∷ [] → IsLegal heap false (book.history ++ turn.adds) → ComesTo old new answers.Stepped
     one_comes entry kind adds legal =
         let with_it : book.history ++ turn.adds ≡ book.history ++ entry ∷ [] = ap (λ es. book.history ++ es) adds in
-        let sweeps = (keeps_there heap false [] book.history [] entry (subst (IsLegal heap false) with_it legal).space).sweeps in
+        let sweeps = (keeps_space_of_each_entry heap false [] book.history [] entry (subst (IsLegal heap false) with_it legal).space).sweeps in
         let phases : phase (book.history ++ entry ∷ []) ≡ phase book.history + (effect_of entry).phases = total-more (λ e. e.phases) book.history entry in
         let later : new.phase ≡ old.phase = omega (arith, then_.phase_told ∙ ap phase with_it ∙ phases, told.phase_told, kind.mute.no_phase) in
         let alone : filter is_collectors (entry ∷ []) ≡ entry ∷ [] = rw kind.its refl in
@@ -71,7 +71,7 @@ module _ (heap : Heap) (state : State) (book : Book) (old new : CollectorState) 
     ends_comes : (cycle kept : ℕ) → turn.adds ≡ Ends cycle kept ∷ [] → IsLegal heap false (book.history ++ turn.adds) → ComesTo old new (answers.Ended cycle kept)
     ends_comes cycle kept adds legal =
         let with_it : book.history ++ turn.adds ≡ book.history ++ Ends cycle kept ∷ [] = ap (λ es. book.history ++ es) adds in
-        let ends = (keeps_there heap false [] book.history [] (Ends cycle kept) (subst (IsLegal heap false) with_it legal).space).ends in
+        let ends = (keeps_space_of_each_entry heap false [] book.history [] (Ends cycle kept) (subst (IsLegal heap false) with_it legal).space).ends in
         let phases : phase (book.history ++ Ends cycle kept ∷ []) ≡ phase book.history + 1 = total-more (λ e. e.phases) book.history (Ends cycle kept) in
         let last : old.phase ≡ 7 * cycle + 6 = told.phase_told ∙ ends.0.0 in
         let later : new.phase ≡ 7 * cycle + 7 = omega (arith, then_.phase_told ∙ ap phase with_it ∙ phases, ends.0.0) in
@@ -97,7 +97,7 @@ module _ (heap : Heap) (state : State) (book : Book) (old new : CollectorState) 
 pub each_turn_comes_to : EachEventKeeps → EachTurnComesTo
 each_turn_comes_to each heap state book old new stands can told then_ =
     let after = each heap state book Turns stands can in (
-      turn_collects heap state,
+      turn_adds_collector_entries heap state,
       comes heap state book old new stands.rule told then_ state.collector.stage refl (subst (IsLegal heap false) after.grown after.stands.rule.heap_stands.legal)
-          ((turn_kind state.collector.stage).shape heap state.collector (found_by heap state (next_turn heap state.collector).step)),
+          ((turn_kind_of_each_stage state.collector.stage).shape heap state.collector (found_by heap state (next_turn heap state.collector).step)),
     )

@@ -7,8 +7,8 @@ use Rattle.heap_model.specs.Heap.{IsHeap}
 use Rattle.core_machine.specs.machine.Opening.{IsOpening}
 use Rattle.core_rule.specs.looks.Finds.{CountsFind, is_find, finds_in, WaitsAreFinds}
 use Rattle.core_rule.specs.Stands.{Stands}
-use Rattle.core_rule.proofs.looks.Finds.{event_follows}
-use Rattle.core_rule.proofs.runs.OpeningStands.{opening_seat_at}
+use Rattle.core_rule.proofs.looks.Finds.{looks_follow_event}
+use Rattle.core_rule.proofs.runs.OpeningStands.{seat_at_opening}
 use Rattle.core_rule.proofs.runs.Runs.{OpeningStands}
 
 -- the count after the event, where it is within 64 bits
@@ -28,7 +28,7 @@ finds_from each heap state book (event ∷ events) number stands run below small
     let next : State = state_after heap state event in
     let first = each heap state book event stands run.0 in
     let one = counted (is_find heap state number event) (seat_at state number).looks.waits (seat_at next number).looks.waits (finds_in heap next events number)
-    (event_follows heap state book event number stands run.0 below).counts small in
+    (looks_follow_event heap state book event number stands run.0 below).counts small in
     finds_from each heap next first.book events number first.stands run.1 below one.0 ∙ one.1
 
 -- from the opening on
@@ -36,11 +36,11 @@ pub waits_are_finds : EachEventKeeps → OpeningStands → WaitsAreFinds
 unfolding WaitsAreFinds
 waits_are_finds each opens heap opening events number limits opened run below =
     let first = opens heap opening limits opened in
-    let none : (seat_at opening number).looks.waits ≡ 0 = ap (λ (s : Seat). s.looks.waits) (opening_seat_at heap opening number opened below) in
+    let none : (seat_at opening number).looks.waits ≡ 0 = ap (λ (s : Seat). s.looks.waits) (seat_at_opening heap opening number opened below) in
     finds_from each heap opening first.book events number first.stands run below (omega (arith, none)) ∙ ap (λ n. min n (2 ^ 64 - 1)) (omega (arith, none))
 
 -- what the law says of a run
-pub finds_by_law : WaitsAreFinds → (heap : Heap) (opening : State) (events : List Event) (number : ℕ) → IsHeap heap → IsOpening heap opening → Run heap opening events → number < heap.seats
+pub waits_are_capped_finds : WaitsAreFinds → (heap : Heap) (opening : State) (events : List Event) (number : ℕ) → IsHeap heap → IsOpening heap opening → Run heap opening events → number < heap.seats
     → (seat_at (state_after_all heap opening events) number).looks.waits ≡ min (finds_in heap opening events number) (2 ^ 64 - 1)
 unfolding WaitsAreFinds
-finds_by_law law = law
+waits_are_capped_finds law = law

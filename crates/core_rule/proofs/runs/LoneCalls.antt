@@ -9,24 +9,24 @@ use Rattle.heap_model.specs.account.Noting.{is_collectors}
 use Rattle.heap_model.specs.declared.entry.Entry.TheVariants as entries
 use Rattle.core_machine.specs.declared.place.Place.TheVariants as places
 use Rattle.core_machine.specs.machine.Calls.{within_reach}
-use Rattle.core_machine.proofs.machine_lemmas.Runs.{machine_after}
+use Rattle.core_machine.proofs.machine_lemmas.Runs.{event_leaves_machine}
 use Rattle.core_rule.specs.runs.LoneLaws.{IsOfSeat, ShowsWhatWas, EachLoneRefusalIsRight}
 use Rattle.core_rule.specs.Stands.{Stands}
 use Rattle.core_rule.proofs.counts.FreeSums.{free_is_unused}
 use Rattle.core_rule.proofs.entries.AtRest.{seat_fits}
 use Rattle.core_rule.proofs.entries.Begins.{begins}
-use Rattle.core_rule.proofs.entries.InFlight.{is_busy}
-use Rattle.core_rule.proofs.sweep_exact.EndsRightly.{ends_rightly}
-use Rattle.core_rule.proofs.footprint.SeatCycle.{step_cycle, begin_cycle}
-use Rattle.core_rule.proofs.footprint.TurnCycle.{turn_cycle}
-use Rattle.core_rule.proofs.hand.Bodies.{bare_hand}
-use Rattle.core_rule.proofs.looks.Origins.{IsUsual, begin_usual}
-use Rattle.core_rule.proofs.runs.ComingTurns.{turn_collects}
-use Rattle.core_rule.proofs.runs.LoneEntries.{IsNoOthers, all_append, all_mapped, IsShown, all_shown}
-use Rattle.core_rule.proofs.steps.Seats.{step_kind}
-use Rattle.core_rule.proofs.runs.LoneRefusals.{grown_total, unmade, GoesAlone, WasWithin, shows_rightly}
-use Rattle.core_rule.proofs.runs.PlayNotes.{step_tells}
-use Rattle.core_rule.proofs.runs.PlayRuns.{moved_other}
+use Rattle.core_rule.proofs.entries.InFlight.{making_is_not_answered}
+use Rattle.core_rule.proofs.sweep_exact.EndsRightly.{cycle_ends_rightly}
+use Rattle.core_rule.proofs.footprint.SeatCycle.{stands_after_seat_step, stands_after_begin}
+use Rattle.core_rule.proofs.footprint.TurnCycle.{stands_after_turn}
+use Rattle.core_rule.proofs.hand.Bodies.{bare_seat_holds_reserve}
+use Rattle.core_rule.proofs.looks.Origins.{IsUsual, begin_is_usual}
+use Rattle.core_rule.proofs.runs.ComingTurns.{turn_adds_collector_entries}
+use Rattle.core_rule.proofs.runs.LoneEntries.{IsNoOthers, all_of_append, all_of_implied, IsShown, step_adds_are_shown}
+use Rattle.core_rule.proofs.steps.Seats.{step_kind_of_each_place}
+use Rattle.core_rule.proofs.runs.LoneRefusals.{sum_of_grown_history, unanswered_makes_none, GoesAlone, WasWithin, refusal_shows_what_was}
+use Rattle.core_rule.proofs.runs.PlayNotes.{granted_is_used_and_returned}
+use Rattle.core_rule.proofs.runs.PlayRuns.{other_seat_same_after_move}
 use Rattle.core_rule.proofs.steps.Steps.{each_step_keeps, each_begin_keeps, each_turn_keeps}
 
 module _ (heap : Heap) (number : ℕ) (before : List Entry) (here : number < heap.seats) (reach : ℕ) (was : WasWithin heap number before reach) where
@@ -48,34 +48,34 @@ module _ (heap : Heap) (number : ℕ) (before : List Entry) (here : number < hea
     step_next can =
         let now : State = state_after heap state (Steps number) in
         let es : List Entry = entries heap state (Steps number) in
-        let keeps = each_step_keeps heap state book number rule here (goes.stands.looks number here) (machine_after heap state (Steps number) rule.machine can) in
-        let shown : AllByRecursion (IsShown number seat) es = all_shown heap state number es ((step_kind seat.place).shows heap state number) in
+        let keeps = each_step_keeps heap state book number rule here (goes.stands.looks number here) (event_leaves_machine heap state (Steps number) rule.machine can) in
+        let shown : AllByRecursion (IsShown number seat) es = step_adds_are_shown heap state number es ((step_kind_of_each_place seat.place).shows heap state number) in
         let calls : keeps.now.begun number ≡ length before = ap (λ (begun : ℕ → ℕ). begun number) keeps.calls ∙ goes.calls in
         let added : List Entry = goes.added ++ es in
         let grown : keeps.now.history ≡ before ++ added = keeps.grown ∙ ap (λ xs. xs ++ es) goes.grown ∙ append_assoc before goes.added es in
         let own : AllByRecursion (IsNoOthers number) added
-        = all_append (IsNoOthers number) goes.added es goes.own (all_mapped (IsShown number seat) (IsNoOthers number) es (λ entry its. inl its.own) shown) in
+        = all_of_append (IsNoOthers number) goes.added es goes.own (all_of_implied (IsShown number seat) (IsNoOthers number) es (λ entry its. inl its.own) shown) in
         record {
           next = keeps.now;
           goes_on = record {
-            stands = step_cycle heap state book goes.stands number here keeps;
+            stands = stands_after_seat_step heap state book goes.stands number here keeps;
             alone = λ other below apart.
-                let same = moved_other heap state number other (next_move heap number seat) apart in
+                let same = other_seat_same_after_move heap state number other (next_move heap number seat) apart in
                 ap (λ (s : Seat). s.place) same ∙ goes.alone other (rw rule.machine.seated (rw keeps.rule.machine.seated at below)) apart;
             calls = calls;
             added = added;
             grown = grown;
             own = own;
             found = λ placed.
-                let none = unmade heap number before keeps.now added calls grown own ((keeps.rule.seats_stand number here).told.began.unanswered (is_busy Withdrawing (seat_at now number).place placed)) in
-                let tells = step_tells heap state book number rule goes.alone (rw rule.machine.seated here) can placed in
-                let granted = grown_total (λ e. (effect_of e).words) before added keeps.now.history grown in
-                let returned = grown_total (λ e. (effect_of e).returned) before added keeps.now.history grown in
+                let none = unanswered_makes_none heap number before keeps.now added calls grown own ((keeps.rule.seats_stand number here).told.began.unanswered (making_is_not_answered Withdrawing (seat_at now number).place placed)) in
+                let tells = granted_is_used_and_returned heap state book number rule goes.alone (rw rule.machine.seated here) can placed in
+                let granted = sum_of_grown_history (λ e. (effect_of e).words) before added keeps.now.history grown in
+                let returned = sum_of_grown_history (λ e. (effect_of e).returned) before added keeps.now.history grown in
                 let words_now : words_granted keeps.now.history ≡ (seat_at now number).used + words_returned keeps.now.history
                 = rw keeps.grown tells in
                 omega (arith, none.1, words_now, granted, returned);
           };
-          right = all_mapped (IsShown number seat) (ShowsWhatWas reach before) es (shows_rightly heap number before state book goes here reach was) shown;
+          right = all_of_implied (IsShown number seat) (ShowsWhatWas reach before) es (refusal_shows_what_was heap number before state book goes here reach was) shown;
         }
 
     -- the collector refuses nothing
@@ -87,20 +87,20 @@ module _ (heap : Heap) (number : ℕ) (before : List Entry) (here : number < hea
     turn_next : Can heap state Turns → GoesNext (state_after heap state Turns) (entries heap state Turns)
     turn_next can =
         let es : List Entry = entries heap state Turns in
-        let keeps = each_turn_keeps heap state book rule (ends_rightly heap state book goes.stands) can (machine_after heap state Turns rule.machine can) in
-        let collects = turn_collects heap state in
+        let keeps = each_turn_keeps heap state book rule (cycle_ends_rightly heap state book goes.stands) can (event_leaves_machine heap state Turns rule.machine can) in
+        let collects = turn_adds_collector_entries heap state in
         record {
           next = keeps.now;
           goes_on = record {
-            stands = turn_cycle heap state book goes.stands state.collector.stage refl keeps;
+            stands = stands_after_turn heap state book goes.stands state.collector.stage refl keeps;
             alone = goes.alone;
             calls = ap (λ (begun : ℕ → ℕ). begun number) keeps.calls ∙ goes.calls;
             added = goes.added ++ es;
             grown = keeps.grown ∙ ap (λ xs. xs ++ es) goes.grown ∙ append_assoc before goes.added es;
-            own = all_append (IsNoOthers number) goes.added es goes.own (all_mapped (λ entry. is_collectors entry ≡ true) (IsNoOthers number) es (λ entry its. inr its) collects);
+            own = all_of_append (IsNoOthers number) goes.added es goes.own (all_of_implied (λ entry. is_collectors entry ≡ true) (IsNoOthers number) es (λ entry its. inr its) collects);
             found = goes.found;
           };
-          right = all_mapped (λ entry. is_collectors entry ≡ true) (ShowsWhatWas reach before) es collectors_right collects;
+          right = all_of_implied (λ entry. is_collectors entry ≡ true) (ShowsWhatWas reach before) es collectors_right collects;
         }
 
     event_next : (event : Event) → IsOfSeat number event → Can heap state event → GoesNext (state_after heap state event) (entries heap state event)
@@ -115,7 +115,7 @@ module _ (heap : Heap) (number : ℕ) (before : List Entry) (here : number < hea
   run_right state book [] goes own run = tt
   run_right state book (event ∷ events) goes own run =
       let first = event_next state book goes event own.0 run.0 in
-      all_append (ShowsWhatWas reach before) (entries heap state event) (history heap (state_after heap state event) events) first.right
+      all_of_append (ShowsWhatWas reach before) (entries heap state event) (history heap (state_after heap state event) events) first.right
       (run_right (state_after heap state event) first.next events first.goes_on own.1 run.1)
 
 module _ (heap : Heap) (state : State) (book : Book) (number : ℕ) (command : Command) (stands : Stands heap state book) (can : Can heap state (Begins number command)) (here : number < heap.seats) where
@@ -127,18 +127,18 @@ module _ (heap : Heap) (state : State) (book : Book) (number : ℕ) (command : C
   reach_was =
       let rests : IsAtRest old = subst (FitsPlace heap old) can.1.idle (seat_fits stands.rule number here).at_place in
       let own : length old.reserve + spent_of number book.history ≡ taken_of number book.history
-      = bare_hand old.reserve old.hand old.body (spent_of number book.history) (taken_of number book.history) rests.empty_hand rests.no_body (stands.rule.seats_stand number here).told.counts.unborn in
+      = bare_seat_holds_reserve old.reserve old.hand old.body (spent_of number book.history) (taken_of number book.history) rests.empty_hand rests.no_body (stands.rule.seats_stand number here).told.counts.unborn in
       omega (arith, own, free_is_unused heap state book stands.rule)
 
   -- the call has begun
   begun_alone : IsAlone state number → (next : Book) × GoesAlone heap number book.history (state_after heap state (Begins number command)) next
   begun_alone alone =
-      let keeps = each_begin_keeps heap state book number command stands.rule can (machine_after heap state (Begins number command) stands.rule.machine can) in
+      let keeps = each_begin_keeps heap state book number command stands.rule can (event_leaves_machine heap state (Begins number command) stands.rule.machine can) in
       let first : begins number (length book.history) book.begun number ≡ length book.history = rw (eq-eqb number number refl) refl in
       let begun : Seat = after_begin heap old command in (
         keeps.now,
         record {
-          stands = begin_cycle heap state book stands number here command (begins number (length book.history) book.begun) can keeps;
+          stands = stands_after_begin heap state book stands number here command (begins number (length book.history) book.begun) can keeps;
           alone = λ other below apart. ap (λ (s : Seat). s.place) (get_or-set_other state.seats number other begun absent_seat apart)
               ∙ alone other (rw stands.rule.machine.seated (rw keeps.rule.machine.seated at below)) apart;
           calls = ap (λ (begun_at : ℕ → ℕ). begun_at number) keeps.calls ∙ first;
@@ -147,7 +147,7 @@ module _ (heap : Heap) (state : State) (book : Book) (number : ℕ) (command : C
           own = tt;
           found = λ placed.
               let is : begun.place ≡ places.Making Withdrawing = ap (λ (s : Seat). s.place) (sym (get_or-set_same state.seats number begun absent_seat can.0)) ∙ placed in
-              absurd (subst IsUsual is (begin_usual heap old command can.1.idle));
+              absurd (subst IsUsual is (begin_is_usual heap old command can.1.idle));
         },
       )
 

@@ -19,13 +19,13 @@ abbrev pub IsNoOthers : ℕ → Entry → Type 0
 IsNoOthers number entry = (is_of number entry ≡ true) ⊎ (is_collectors entry ≡ true)
 
 -- what holds of the entries of two lists
-pub all_append : {A : Type 0} (P : A → Type 0) (xs ys : List A) → AllByRecursion P xs → AllByRecursion P ys → AllByRecursion P (xs ++ ys)
-all_append P [] ys first second = second
-all_append P (x ∷ xs) ys first second = (first.0, all_append P xs ys first.1 second)
+pub all_of_append : {A : Type 0} (P : A → Type 0) (xs ys : List A) → AllByRecursion P xs → AllByRecursion P ys → AllByRecursion P (xs ++ ys)
+all_of_append P [] ys first second = second
+all_of_append P (x ∷ xs) ys first second = (first.0, all_of_append P xs ys first.1 second)
 
-pub all_mapped : {A : Type 0} (P Q : A → Type 0) (xs : List A) → ((x : A) → P x → Q x) → AllByRecursion P xs → AllByRecursion Q xs
-all_mapped P Q [] goes all = tt
-all_mapped P Q (x ∷ xs) goes all = (goes x all.0, all_mapped P Q xs goes all.1)
+pub all_of_implied : {A : Type 0} (P Q : A → Type 0) (xs : List A) → ((x : A) → P x → Q x) → AllByRecursion P xs → AllByRecursion Q xs
+all_of_implied P Q [] goes all = tt
+all_of_implied P Q (x ∷ xs) goes all = (goes x all.0, all_of_implied P Q xs goes all.1)
 
 -- a sum of nothings
 sum_none : (f : Entry → ℕ) (P : Entry → Type 0) → ((entry : Entry) → P entry → f entry ≡ 0) → (added : List Entry) → AllByRecursion P added → sum_by f added ≡ 0
@@ -63,20 +63,20 @@ or_none : (b c : Bool) → (b || c) ≡ false → (b ≡ false) × (c ≡ false)
 or_none true c none = absurd (cc none)
 or_none false c none = (refl, none)
 
-pub none_made : (number : ℕ) (added : List Entry) → AllByRecursion (IsNoOthers number) added → list_any (is_reply_to number) added ≡ false
+pub added_makes_none : (number : ℕ) (added : List Entry) → AllByRecursion (IsNoOthers number) added → list_any (is_reply_to number) added ≡ false
     → (sum_by (λ e. (effect_of e).born) added ≡ 0) × (sum_by (λ e. (effect_of e).words) added ≡ 0)
-none_made number [] all none = (refl, refl)
-none_made number (entry ∷ added) all none =
+added_makes_none number [] all none = (refl, refl)
+added_makes_none number (entry ∷ added) all none =
     let unanswered = or_none (is_reply_to number entry) (list_any (is_reply_to number) added) none in
     let first = unmade number entry all.0 unanswered.0 in
-    let rest = none_made number added all.1 unanswered.1 in
+    let rest = added_makes_none number added all.1 unanswered.1 in
     (omega (arith, sum_by-cons (λ e. (effect_of e).born) entry added, first.0, rest.0), omega (arith, sum_by-cons (λ e. (effect_of e).words) entry added, first.1, rest.1))
 
-pub none_taken : (number : ℕ) (added : List Entry) → AllByRecursion (IsNoOthers number) added → sum_by (λ e. if is_of number e then 0 else (effect_of e).taken) added ≡ 0
-none_taken number = others_none number (λ e. e.taken) (λ entry its. (collectors_none entry its).0)
+pub others_take_none : (number : ℕ) (added : List Entry) → AllByRecursion (IsNoOthers number) added → sum_by (λ e. if is_of number e then 0 else (effect_of e).taken) added ≡ 0
+others_take_none number = others_none number (λ e. e.taken) (λ entry its. (collectors_none entry its).0)
 
-pub none_given : (number : ℕ) (added : List Entry) → AllByRecursion (IsNoOthers number) added → sum_by (λ e. if is_of number e then 0 else (effect_of e).given) added ≡ 0
-none_given number = others_none number (λ e. e.given) (λ entry its. (collectors_none entry its).1)
+pub others_give_none : (number : ℕ) (added : List Entry) → AllByRecursion (IsNoOthers number) added → sum_by (λ e. if is_of number e then 0 else (effect_of e).given) added ≡ 0
+others_give_none number = others_none number (λ e. e.given) (λ entry its. (collectors_none entry its).1)
 
 -- where it refuses for want of space, the seat stands there, and has found so many
 abbrev pub RefusesAt : Seat → Entry → Type 0
@@ -113,8 +113,8 @@ module _ (heap : Heap) (state : State) (number : ℕ) where
   own_shown _ (waits other answered p is) = record { own = itself number; refuses = tt }
 
   -- what the seat's step shows
-  pub all_shown : (added : List Entry) → SeatShows number seat seat.place added → AreShown added
-  all_shown _ shows_none = tt
-  all_shown _ (shows_one entry tells) = (own_shown entry tells, tt)
-  all_shown _ (shows_answer is) =
+  pub step_adds_are_shown : (added : List Entry) → SeatShows number seat seat.place added → AreShown added
+  step_adds_are_shown _ shows_none = tt
+  step_adds_are_shown _ (shows_one entry tells) = (own_shown entry tells, tt)
+  step_adds_are_shown _ (shows_answer is) =
       (record { own = itself number; refuses = tt }, told_cases AreShown number seat.command seat.asked tt (record { own = itself number; refuses = plain_refuses seat.command (replies.Phase seat.asked) tt }, tt))

@@ -10,10 +10,10 @@ use Rattle.core_machine.specs.declared.place.Place.TheVariants as places
 use Rattle.core_machine.specs.declared.place.Polling.TheVariants.{Answering}
 use Rattle.core_machine.specs.seat.HandshakeMoves.{phase_told}
 use Rattle.core_rule.proofs.entries.PhasesTold.{told_cases}
-use Rattle.core_rule.proofs.steps.Seats.{step_kind}
+use Rattle.core_rule.proofs.steps.Seats.{step_kind_of_each_place}
 use Rattle.core_rule.proofs.entries.StepTells.{SeatTells, SeatShows, takes, gives, says, refuses, refuses_words, waits, shows_none, shows_one, shows_answer}
-use Rattle.core_rule.proofs.runs.ComingTurns.{turn_collects}
-use Rattle.core_rule.proofs.runs.Runs.{seat_of_step}
+use Rattle.core_rule.proofs.runs.ComingTurns.{turn_adds_collector_entries}
+use Rattle.core_rule.proofs.runs.Runs.{stepping_seat_is_there}
 
 module _ (heap : Heap) (state : State) (colour : ℕ → Colour) where
   abbrev AreMarked : List Entry → Type 0
@@ -56,8 +56,8 @@ pub each_answer_is_marked : EachAnswerIsMarked
 each_answer_is_marked heap state book (Begins number command) rule can = none_marked heap state book.colour
 each_answer_is_marked heap state book (BeginsInner number inner) rule can = none_marked heap state book.colour
 each_answer_is_marked heap state book (Steps number) rule can =
-    let stands = rule.seats_stand number (seat_of_step heap state book number rule can) in
+    let stands = rule.seats_stand number (stepping_seat_is_there heap state book number rule can) in
     shown_marked heap state book.colour number
     (λ placed. subst (λ place. (seat_at state number).asked % cycle_phases ≡ marking → WhilePolling (RootsStand book.colour (seat_at state number)) place) placed stands.cycle.flight.roots)
-    (entries heap state (Steps number)) ((step_kind (seat_at state number).place).shows heap state number)
-each_answer_is_marked heap state book Turns rule can = collectors_marked heap state book.colour (entries heap state Turns) (turn_collects heap state)
+    (entries heap state (Steps number)) ((step_kind_of_each_place (seat_at state number).place).shows heap state number)
+each_answer_is_marked heap state book Turns rule can = collectors_marked heap state book.colour (entries heap state Turns) (turn_adds_collector_entries heap state)

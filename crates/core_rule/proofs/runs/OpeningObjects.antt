@@ -13,10 +13,10 @@ use Rattle.heap_model.specs.declared.graph.cell.Cell.{Cell}
 use Rattle.heap_model.specs.graph.Graph.{GraphSeat}
 use Rattle.core_machine.specs.declared.table.address.Address.{Address}
 use Rattle.core_machine.specs.machine.Opening.{board, board_name, opening_word}
-use Rattle.core_rule.proofs.graph.GraphRegisters.{opening_at}
-use Rattle.core_rule.proofs.objects.Newborn.{newborn_is}
-use Rattle.core_rule.proofs.objects.ObjectsGrowth.{unset_cell}
-use Rattle.core_rule.proofs.runs.OpeningOwners.{opening_owner, opening_cases, nobodys, board_at, board_taken, board_born, board_plain}
+use Rattle.core_rule.proofs.graph.GraphRegisters.{opening_graph_has_opening_seats}
+use Rattle.core_rule.proofs.objects.Newborn.{object_word_is_fresh}
+use Rattle.core_rule.proofs.objects.ObjectsGrowth.{fresh_cell_is_unset}
+use Rattle.core_rule.proofs.runs.OpeningOwners.{opening_owner, opening_owner_cases, beyond_board_is_free, board_fragment_is_number, board_bit_is_taken_bit, board_bit_is_born_bit, board_bit_is_unmarked}
 
 -- the board is all that was made
 abbrev pub opening_made : List Id
@@ -32,7 +32,7 @@ opening_spines i = no_spot
 -- no seat has made an object
 nothing_made : (heap : Heap) (s : ℕ) → (graph_seat (opening heap) s).objects ≡ []
 nothing_made heap s = elim (cases_lt s heap.seats) [
-  | inl below ↦ ap (λ (p : GraphSeat). p.objects) (opening_at heap s below)
+  | inl below ↦ ap (λ (p : GraphSeat). p.objects) (opening_graph_has_opening_seats heap s below)
   | inr past ↦ ap (λ (p : GraphSeat). p.objects) (get_or_past (replicate heap.seats opening_graph_seat) s absent_graph_seat (omega (arith, past, length-replicate heap.seats opening_graph_seat)))
 ]
 
@@ -41,8 +41,8 @@ only_board heap Board is = refl
 only_board heap (Made s n) is = absurd (false≢true (subst (λ objects. IsSome (slice_get objects n)) (nothing_made heap s) is))
 
 -- its id is the graph's one
-pub opening_ids : (heap : Heap) → AreMade (opening heap) opening_made
-opening_ids heap = record {
+pub opening_are_made : (heap : Heap) → AreMade (opening heap) opening_made
+opening_are_made heap = record {
   board = refl;
   in_graph = λ i below. let none : 0 ≡ i = omega arith in subst (λ x. IsMade (opening heap) (id_at opening_made x)) none refl;
   numbered = λ id is. subst (λ x. (object_number opening_made x < length opening_made) × (id_at opening_made (object_number opening_made x) ≡ x)) (only_board heap id is) (omega arith, refl);
@@ -53,14 +53,14 @@ opening_ids heap = record {
 module _ (heap : Heap) (words : List ℕ) (some : 1 ≤ heap.groups) (open_words : (address : Address) → InTable heap address → at heap words address ≡ opening_word heap address) where
   group_taken : (f : ℕ) → f < 16 * heap.groups → bit_at (opening_word heap (Control (f / 16))) (taken_at f) ≡ taken_bit (opening_owner f)
   group_taken f within = elim (eqb_tells (f / 16) 0) as (λ _. bit_at (opening_word heap (Control (f / 16))) (taken_at f) ≡ taken_bit (opening_owner f)) [
-    | inl first ↦ let place : f % 16 ≡ f = omega (arith, first.1) in rw (first.0, place) (board_taken heap f (omega (arith, first.1)))
-    | inr later ↦ rw (later.0, nobodys f (omega (arith, later.1))) (bit_at-zero (f % 16))
+    | inl first ↦ let place : f % 16 ≡ f = omega (arith, first.1) in rw (first.0, place) (board_bit_is_taken_bit heap f (omega (arith, first.1)))
+    | inr later ↦ rw (later.0, beyond_board_is_free f (omega (arith, later.1))) (bit_at-zero (f % 16))
   ]
 
   group_born : (f : ℕ) → f < 16 * heap.groups → bit_at (opening_word heap (Control (f / 16))) (born_at f) ≡ born_bit (opening_owner f)
   group_born f within = elim (eqb_tells (f / 16) 0) as (λ _. bit_at (opening_word heap (Control (f / 16))) (born_at f) ≡ born_bit (opening_owner f)) [
-    | inl first ↦ let place : f % 16 ≡ f = omega (arith, first.1) in rw (first.0, place) (board_born heap f (omega (arith, first.1)))
-    | inr later ↦ rw (later.0, nobodys f (omega (arith, later.1))) (bit_at-zero (born_at f))
+    | inl first ↦ let place : f % 16 ≡ f = omega (arith, first.1) in rw (first.0, place) (board_bit_is_born_bit heap f (omega (arith, first.1)))
+    | inr later ↦ rw (later.0, beyond_board_is_free f (omega (arith, later.1))) (bit_at-zero (born_at f))
   ]
 
   -- the control words have the bits of the owners
@@ -68,13 +68,13 @@ module _ (heap : Heap) (words : List ℕ) (some : 1 ≤ heap.groups) (open_words
   opening_bits = record {
     taken = λ f within. rw (open_words (Control (f / 16)) (omega arith)) (group_taken f within);
     born = λ f within. rw (open_words (Control (f / 16)) (omega arith)) (group_born f within);
-    outside = λ f past. nobodys f (omega (arith, past, some));
+    outside = λ f past. beyond_board_is_free f (omega (arith, past, some));
   }
 
   -- nothing is marked or scanned
   plain : (g i : ℕ) → 32 ≤ i → bit_at (opening_word heap (Control g)) i ≡ 0
   plain g i past = elim (eqb_tells g 0) as (λ _. bit_at (opening_word heap (Control g)) i ≡ 0) [
-    | inl first ↦ rw first.0 (board_plain heap i past)
+    | inl first ↦ rw first.0 (board_bit_is_unmarked heap i past)
     | inr later ↦ rw later.0 (bit_at-zero i)
   ]
 
@@ -89,11 +89,11 @@ module _ (heap : Heap) (words : List ℕ) (some : 1 ≤ heap.groups) (open_words
   board_kept = record {
     sized = (omega arith, omega arith);
     whole = refl;
-    owned = λ k below. let here : k < 11 = omega arith in rw (board_at heap k here) (opening_cases (λ o. o ≡ Kept 0 k) k (λ less. refl) (λ past. absurd (omega (arith, here, past))));
+    owned = λ k below. let here : k < 11 = omega arith in rw (board_fragment_is_number heap k here) (opening_owner_cases (λ o. o ≡ Kept 0 k) k (λ less. refl) (λ past. absurd (omega (arith, here, past))));
     stored = λ k part below fits.
         let here : k < 11 = omega arith in
-        rw (board_at heap k here, open_words (Word k part) (omega (arith, here, some), fits))
-        (let newborn = newborn_is (object_head opening_made (opening_fragments heap)) board_name false 32 no_spot (board heap) k part in
+        rw (board_fragment_is_number heap k here, open_words (Word k part) (omega (arith, here, some), fits))
+        (let newborn = object_word_is_fresh (object_head opening_made (opening_fragments heap)) board_name false 32 no_spot (board heap) k part in
         let first : nat_lt k 11 ≡ true = grind (arith, nat_tests, here) in rw first (sym newborn));
     listed = λ j none. absurd (omega (arith, none));
   }
@@ -104,12 +104,12 @@ module _ (heap : Heap) (words : List ℕ) (some : 1 ≤ heap.groups) (open_words
     kept = λ i below is. let none : 0 ≡ i = omega arith in
         subst (λ x. KeptObject heap words opening_owner (object_head opening_made (opening_fragments heap)) x (id_at opening_made x) (node_at (opening heap) opening_made x) (opening_fragments heap x) (opening_spines x)) none board_kept;
     named = λ i j below is cell there. let none : i ≡ 0 = omega arith in
-        let blank : cell ≡ unset = unset_cell 32 j cell (subst (λ x. slice_get (cells_at (opening heap) opening_made x) j ≡ Some cell) none there) in
+        let blank : cell ≡ unset = fresh_cell_is_unset 32 j cell (subst (λ x. slice_get (cells_at (opening heap) opening_made x) j ≡ Some cell) none there) in
         subst (λ (c : Cell). NamesKept opening_made opening_owner (opening_fragments heap) c.value × (c.stamp < 2 ^ 32)) (sym blank) (tt, omega arith);
-    back = λ f i k. opening_cases (λ o. o ≡ Kept i k → (i < length opening_made) × IsKept opening_owner (opening_fragments heap) i × (k < length (opening_fragments heap i)) × (f ≡ fragment_at (opening_fragments heap i) k)) f
+    back = λ f i k. opening_owner_cases (λ o. o ≡ Kept i k → (i < length opening_made) × IsKept opening_owner (opening_fragments heap) i × (k < length (opening_fragments heap i)) × (f ≡ fragment_at (opening_fragments heap i) k)) f
         (λ below is. let object : 0 ≡ i = cc in let part : f ≡ k = cc in
         subst (λ x. (x < length opening_made) × IsKept opening_owner (opening_fragments heap) x × (k < length (opening_fragments heap x)) × (f ≡ fragment_at (opening_fragments heap x) k)) object
-        (omega arith, refl, omega (arith, part, below), part ∙ sym (board_at heap k (omega (arith, part, below)))))
+        (omega arith, refl, omega (arith, part, below), part ∙ sym (board_fragment_is_number heap k (omega (arith, part, below)))))
         (λ past is. absurd (cc));
     board = refl;
   }

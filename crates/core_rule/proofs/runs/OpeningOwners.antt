@@ -6,7 +6,7 @@ use Rattle.std.proofs.lemmas.Bool.Decides.{nat_tests}
 use Rattle.std.proofs.lemmas.Nat.Bits.{bit_at_above}
 use Rattle.core_rule.proofs.Terms.{Heap, sum_upto, fragment_at, AreUsed, Owner, Free, Kept, IsSeated, OwnersStand, taken_bit, born_bit}
 use Rattle.core_machine.specs.machine.Opening.{board, board_group}
-use Rattle.core_machine.proofs.table_lemmas.Free.{sum_zero}
+use Rattle.core_machine.proofs.table_lemmas.Free.{sum_of_nothing_is_zero}
 use Rattle.core_rule.proofs.lists.SumLemmas.{sum_parts, sum_ones}
 
 -- the first eleven fragments are the board's
@@ -16,18 +16,18 @@ opening_owner f = if nat_lt f 11 then Kept 0 f else Free
 boards : (f : ℕ) → f < 11 → opening_owner f ≡ Kept 0 f
 boards f below = grind (arith, nat_tests, below)
 
-pub nobodys : (f : ℕ) → 11 ≤ f → opening_owner f ≡ Free
-nobodys f past = grind (arith, nat_tests, past)
+pub beyond_board_is_free : (f : ℕ) → 11 ≤ f → opening_owner f ≡ Free
+beyond_board_is_free f past = grind (arith, nat_tests, past)
 
-pub opening_cases : (P : Owner → Type 0) (f : ℕ) → (f < 11 → P (Kept 0 f)) → (11 ≤ f → P Free) → P (opening_owner f)
-opening_cases P f kept free = elim (cases_lt f 11) [
+pub opening_owner_cases : (P : Owner → Type 0) (f : ℕ) → (f < 11 → P (Kept 0 f)) → (11 ≤ f → P Free) → P (opening_owner f)
+opening_owner_cases P f kept free = elim (cases_lt f 11) [
   | inl below ↦ subst P (sym (boards f below)) (kept below)
-  | inr past ↦ subst P (sym (nobodys f past)) (free past)
+  | inr past ↦ subst P (sym (beyond_board_is_free f past)) (free past)
 ]
 
 -- no seat has a fragment, and the first is the board's first
-pub opening_seated : (seats : ℕ) → OwnersStand seats opening_owner
-opening_seated seats = record { seated = λ f. opening_cases (IsSeated seats) f (λ below. tt) (λ past. tt); board = (refl, refl) }
+pub opening_owners_stand : (seats : ℕ) → OwnersStand seats opening_owner
+opening_owners_stand seats = record { seated = λ f. opening_owner_cases (IsSeated seats) f (λ below. tt) (λ past. tt); board = (refl, refl) }
 
 -- one more below the bound
 below_more : (P : ℕ → Type 0) (n : ℕ) → ((f : ℕ) → f < n → P f) → P n → (f : ℕ) → f < suc n → P f
@@ -50,20 +50,20 @@ first_sixteen : (P : ℕ → Type 0) → ((f : ℕ) → f < 11 → P f) → P 11
 first_sixteen P rest a b c d e =
     below_more P 15 (below_more P 14 (below_more P 13 (below_more P 12 (below_more P 11 rest a) b) c) d) e
 
-pub board_at : (heap : Heap) (k : ℕ) → k < 11 → fragment_at (board heap) k ≡ k
-board_at heap = first_eleven (λ k. fragment_at (board heap) k ≡ k) refl refl refl refl refl refl refl refl refl refl refl
+pub board_fragment_is_number : (heap : Heap) (k : ℕ) → k < 11 → fragment_at (board heap) k ≡ k
+board_fragment_is_number heap = first_eleven (λ k. fragment_at (board heap) k ≡ k) refl refl refl refl refl refl refl refl refl refl refl
 
-pub board_taken : (heap : Heap) (f : ℕ) → f < 16 → bit_at (board_group heap) f ≡ taken_bit (opening_owner f)
-board_taken heap = first_sixteen (λ f. bit_at (board_group heap) f ≡ taken_bit (opening_owner f))
+pub board_bit_is_taken_bit : (heap : Heap) (f : ℕ) → f < 16 → bit_at (board_group heap) f ≡ taken_bit (opening_owner f)
+board_bit_is_taken_bit heap = first_sixteen (λ f. bit_at (board_group heap) f ≡ taken_bit (opening_owner f))
     (first_eleven (λ f. bit_at (board_group heap) f ≡ taken_bit (opening_owner f)) refl refl refl refl refl refl refl refl refl refl refl) refl refl refl refl refl
 
-pub board_born : (heap : Heap) (f : ℕ) → f < 16 → bit_at (board_group heap) (16 + f) ≡ born_bit (opening_owner f)
-board_born heap = first_sixteen (λ f. bit_at (board_group heap) (16 + f) ≡ born_bit (opening_owner f))
+pub board_bit_is_born_bit : (heap : Heap) (f : ℕ) → f < 16 → bit_at (board_group heap) (16 + f) ≡ born_bit (opening_owner f)
+board_bit_is_born_bit heap = first_sixteen (λ f. bit_at (board_group heap) (16 + f) ≡ born_bit (opening_owner f))
     (first_eleven (λ f. bit_at (board_group heap) (16 + f) ≡ born_bit (opening_owner f)) refl refl refl refl refl refl refl refl refl refl refl) refl refl refl refl refl
 
 -- none of the group is marked or scanned
-pub board_plain : (heap : Heap) (i : ℕ) → 32 ≤ i → bit_at (board_group heap) i ≡ 0
-board_plain heap i past = bit_at_above (board_group heap) 32 i (omega arith) past
+pub board_bit_is_unmarked : (heap : Heap) (i : ℕ) → 32 ≤ i → bit_at (board_group heap) i ≡ 0
+board_bit_is_unmarked heap i past = bit_at_above (board_group heap) 32 i (omega arith) past
 
 -- eleven are in use
 pub opening_used : (heap : Heap) → 1 ≤ heap.groups → AreUsed heap opening_owner []
@@ -71,6 +71,6 @@ opening_used heap some =
     let parts : 16 * heap.groups ≡ 11 + (16 * heap.groups - 11) = omega arith in
     let all = sum_parts 11 (16 * heap.groups - 11) (λ f. taken_bit (opening_owner f)) in
     let kept = sum_ones 11 (λ f. taken_bit (opening_owner f)) (λ f below. ap taken_bit (boards f below)) in
-    let free = sum_zero (16 * heap.groups - 11) (λ f. taken_bit (opening_owner (11 + f))) (λ f below. ap taken_bit (nobodys (11 + f) (omega arith))) in
+    let free = sum_of_nothing_is_zero (16 * heap.groups - 11) (λ f. taken_bit (opening_owner (11 + f))) (λ f below. ap taken_bit (beyond_board_is_free (11 + f) (omega arith))) in
     let sums : sum_upto (16 * heap.groups) (λ f. taken_bit (opening_owner f)) ≡ 11 = ap (λ n. sum_upto n (λ f. taken_bit (opening_owner f))) parts ∙ omega (arith, all, kept, free) in
     omega (arith, sums)

@@ -10,10 +10,10 @@ use Rattle.heap_words.specs.declared.spot.Spot.{Spot as SpinePlace}
 use Rattle.core_machine.specs.declared.place.Place.TheVariants as places
 use Rattle.core_machine.specs.declared.table.address.Address.TheVariants.{Spot}
 use Rattle.core_machine.specs.machine.Opening.{opening_seat, opening_word}
-use Rattle.core_machine.proofs.table_lemmas.Free.{sum_zero}
-use Rattle.core_rule.proofs.hand.GoesOn.{none_either}
+use Rattle.core_machine.proofs.table_lemmas.Free.{sum_of_nothing_is_zero}
+use Rattle.core_rule.proofs.hand.GoesOn.{zero_either_way}
 use Rattle.core_rule.proofs.runs.OpeningObjects.{opening_made, opening_fragments, opening_spines}
-use Rattle.core_rule.proofs.runs.OpeningOwners.{opening_owner, opening_cases}
+use Rattle.core_rule.proofs.runs.OpeningOwners.{opening_owner, opening_owner_cases}
 use Rattle.core_rule.proofs.ways.ArrayWords.{spot_in-word}
 
 -- nobody has a spine word
@@ -21,8 +21,8 @@ abbrev pub opening_spine_owner : ℕ → ℕ → SpineOwner
 opening_spine_owner half offset = Open
 
 -- so no seat has a spine
-pub opening_in_hand : (heap : Heap) (words : List ℕ) (number : ℕ) → SpineInHand heap words opening_spine_owner number (opening_seat heap number)
-opening_in_hand heap words number = record { placed = λ has. absurd has; own = λ half offset j is. absurd (cc); stored = λ has. absurd has }
+pub opening_spine_in_hand : (heap : Heap) (words : List ℕ) (number : ℕ) → SpineInHand heap words opening_spine_owner number (opening_seat heap number)
+opening_spine_in_hand heap words number = record { placed = λ has. absurd has; own = λ half offset j is. absurd (cc); stored = λ has. absurd has }
 
 module _ (heap : Heap) (words : List ℕ) (spot : at heap words Spot ≡ opening_word heap Spot) where
   -- the first spine stands at the beginning
@@ -35,7 +35,7 @@ module _ (heap : Heap) (words : List ℕ) (spot : at heap words Spot ≡ opening
     parties = λ half offset party k is. absurd (cc);
     kept = λ i j below is within. absurd (no_word i j below within);
     back = λ half offset i j is. absurd (cc);
-    tells = λ f i k is. absurd (opening_cases (λ o. o ≢ Dead i k) f (λ less e. cc) (λ past e. cc) is);
+    tells = λ f i k is. absurd (opening_owner_cases (λ o. o ≢ Dead i k) f (λ less e. cc) (λ past e. cc) is);
   }
     where
       no_word : (i j : ℕ) → i < 1 → j < spine_words_of (node_at (opening heap) opening_made i) → ⊥
@@ -59,29 +59,29 @@ opening_book heap = record {
 module _ (heap : Heap) (state : State) (seats : (number : ℕ) → number < heap.seats → seat_at state number ≡ opening_seat heap number) where
   -- no seat has asked for spine words
   none_of_seats : (weight : Seat → Place → ℕ) → ((number : ℕ) → weight (opening_seat heap number) places.Idle ≡ 0) → of_seats heap state weight ≡ 0
-  none_of_seats weight none = sum_zero heap.seats (λ r. weight (seat_at state r) (seat_at state r).place)
+  none_of_seats weight none = sum_of_nothing_is_zero heap.seats (λ r. weight (seat_at state r) (seat_at state r).place)
       (λ r below. subst (λ (s : Seat). weight s s.place ≡ 0) (sym (seats r below)) (none r))
 
   -- the board has none, and nothing is to be freed
   none_kept : (weight : ℕ → ℕ) → weight 0 ≡ 0 → kept_sum heap weight opening_owner ≡ 0
-  none_kept weight none = sum_zero (16 * heap.groups) (λ f. kept_weight weight (opening_owner f))
-      (λ f below. opening_cases (λ o. kept_weight weight o ≡ 0) f (λ less. ap (λ n. if f == 0 then n else 0) none ∙ none_either (f == 0)) (λ past. refl))
+  none_kept weight none = sum_of_nothing_is_zero (16 * heap.groups) (λ f. kept_weight weight (opening_owner f))
+      (λ f below. opening_owner_cases (λ o. kept_weight weight o ≡ 0) f (λ less. ap (λ n. if f == 0 then n else 0) none ∙ zero_either_way (f == 0)) (λ past. refl))
 
   none_dead : (weight : ℕ → ℕ) → dead_sum heap weight opening_owner ≡ 0
-  none_dead weight = sum_zero (16 * heap.groups) (λ f. dead_weight weight (opening_owner f)) (λ f below. opening_cases (λ o. dead_weight weight o ≡ 0) f (λ less. refl) (λ past. refl))
+  none_dead weight = sum_of_nothing_is_zero (16 * heap.groups) (λ f. dead_weight weight (opening_owner f)) (λ f below. opening_owner_cases (λ o. dead_weight weight o ≡ 0) f (λ less. refl) (λ past. refl))
 
   module _ (spot : at heap state.words Spot ≡ opening_word heap Spot) (done : state.collector ≡ opening_collector) where
     next : next_spine heap state.words ≡ no_spot
     next = opening_next heap state.words spot
 
     -- so none is granted
-    pub opening_budgets : at heap state.words Budget ≡ 0 → BudgetsStand heap state (opening_book heap)
-    opening_budgets budget =
+    pub opening_budgets_stand : at heap state.words Budget ≡ 0 → BudgetsStand heap state (opening_book heap)
+    opening_budgets_stand budget =
         let given = none_of_seats granted_at (λ number. refl) in
         let refused = none_of_seats refused_at (λ number. refl) in
         let placed = none_of_seats (placed_at (next_spine heap state.words).half) (λ number. refl) in
         let kept = none_kept (words_of_object (nodes_in heap (opening_book heap))) refl in
-        let in_half = none_kept (words_in_half (next_spine heap state.words).half (nodes_in heap (opening_book heap)) opening_spines) (none_either ((opening_spines 0).half == (next_spine heap state.words).half)) in
+        let in_half = none_kept (words_in_half (next_spine heap state.words).half (nodes_in heap (opening_book heap)) opening_spines) (zero_either_way ((opening_spines 0).half == (next_spine heap state.words).half)) in
         let dead = none_dead (words_of_object (nodes_in heap (opening_book heap))) in
         let copied : copying_words state.collector.stage ≡ 0 = ap (λ (c : Collector). copying_words c.stage) done in
         let returns : returning state.collector.stage ≡ 0 = ap (λ (c : Collector). returning c.stage) done in
@@ -98,8 +98,8 @@ module _ (heap : Heap) (state : State) (seats : (number : ℕ) → number < heap
         }
 
     -- and no spine stands anywhere
-    pub opening_halves : HalvesStand heap state (opening_book heap)
-    opening_halves = record {
+    pub opening_halves_stand : HalvesStand heap state (opening_book heap)
+    opening_halves_stand = record {
       half = ap (λ (s : SpinePlace). s.half) next ∙ subst (λ (c : Collector). 0 ≡ half_at c.phase c.stage) (sym done) refl;
       before = λ half offset some. absurd (some refl);
       arrays = λ i below is an_array. absurd (no_array i below an_array);

@@ -14,16 +14,16 @@ use Rattle.core_machine.specs.declared.place.Place.TheVariants as places
 use Rattle.core_machine.specs.declared.seat.register.Register.TheVariants as registers
 use Rattle.core_machine.specs.declared.collector.stage.Stage.TheVariants as stages
 use Rattle.core_machine.specs.machine.Opening.{IsOpening, opening_seat, opening_word}
-use Rattle.core_machine.proofs.machine_lemmas.OpeningMachine.{opening_machine}
+use Rattle.core_machine.proofs.machine_lemmas.OpeningMachine.{opening_is_machine}
 use Rattle.core_rule.specs.graph.Registers as regs
 use Rattle.core_rule.specs.looks.Looks.{LooksStand}
-use Rattle.core_rule.proofs.hand.EmptyHand.{nothing_together}
-use Rattle.core_rule.proofs.gather.GatherMoves.{nothing_tried}
-use Rattle.core_rule.proofs.graph.GraphRegisters.{opening_at}
-use Rattle.core_rule.proofs.runs.OpeningObjects.{opening_made, opening_fragments, opening_ids, opening_bits, opening_marks, opening_objects}
+use Rattle.core_rule.proofs.hand.EmptyHand.{together_where_empty}
+use Rattle.core_rule.proofs.gather.GatherMoves.{gathers_right_untried}
+use Rattle.core_rule.proofs.graph.GraphRegisters.{opening_graph_has_opening_seats}
+use Rattle.core_rule.proofs.runs.OpeningObjects.{opening_made, opening_fragments, opening_are_made, opening_bits, opening_marks, opening_objects}
 pub use Rattle.core_rule.proofs.runs.OpeningSpines.{opening_book}
-use Rattle.core_rule.proofs.runs.OpeningSpines.{opening_in_hand, opening_spines_stand, opening_budgets, opening_halves}
-use Rattle.core_rule.proofs.runs.OpeningOwners.{opening_owner, opening_cases, opening_seated, opening_used}
+use Rattle.core_rule.proofs.runs.OpeningSpines.{opening_spine_in_hand, opening_spines_stand, opening_budgets_stand, opening_halves_stand}
+use Rattle.core_rule.proofs.runs.OpeningOwners.{opening_owner, opening_owner_cases, opening_owners_stand, opening_used}
 
 abbrev Now : Heap → Register → Value → Type 0
 Now heap held value = regs.HoldsValue opening_made opening_owner (opening_fragments heap) held value
@@ -38,7 +38,7 @@ opening_held heap zero = (refl, (omega arith, refl), refl)
 opening_held heap (suc r) = nil_registers heap 15 r
 
 opening_registers : (heap : Heap) (number : ℕ) → number < heap.seats → Registers (opening heap) opening_made opening_owner (opening_fragments heap) number (opening_seat heap number).registers places.Idle 0
-opening_registers heap number below r fresh = subst (λ (p : GraphSeat). Now heap (get_or (opening_seat heap number).registers r registers.Nil) (get_or p.registers r values.Nil)) (sym (opening_at heap number below)) (opening_held heap r)
+opening_registers heap number below r fresh = subst (λ (p : GraphSeat). Now heap (get_or (opening_seat heap number).registers r registers.Nil) (get_or p.registers r values.Nil)) (sym (opening_graph_has_opening_seats heap number below)) (opening_held heap r)
 
 -- no seat has answered
 opening_answer : (heap : Heap) (number : ℕ) → number < heap.seats → opening_word heap (Answer number) ≡ 0
@@ -50,24 +50,24 @@ opening_seat_stands : (heap : Heap) (words : List ℕ) (number : ℕ) → number
 opening_seat_stands heap words number below none_answered = record {
   own = record {
     holding = record {
-      held = λ f. opening_cases (λ o. 0 ≡ holds_bit number o) f (λ less. refl) (λ past. refl);
-      borne = λ f. opening_cases (λ o. 0 ≡ 0 + bears_bit number o) f (λ less. refl) (λ past. refl);
+      held = λ f. opening_owner_cases (λ o. 0 ≡ holds_bit number o) f (λ less. refl) (λ past. refl);
+      borne = λ f. opening_owner_cases (λ o. 0 ≡ 0 + bears_bit number o) f (λ less. refl) (λ past. refl);
     };
     stored = λ u none. absurd (omega (arith, none));
-    together = nothing_together heap (opening_seat heap number).cursor 0 [] [] refl refl;
-    spine = opening_in_hand heap words number;
+    together = together_where_empty heap (opening_seat heap number).cursor 0 [] [] refl refl;
+    spine = opening_spine_in_hand heap words number;
   };
   names = record { registers = opening_registers heap number below; way = tt; address = tt };
   told = record {
     list = record { awaited = []; own = refl; awaits = refl };
     counts = record {
-      numbered = ap (λ (p : GraphSeat). length p.objects) (sym (opening_at heap number below));
-      stamped = ap (λ (p : GraphSeat). p.sets) (sym (opening_at heap number below));
-      leaves = ap (λ (p : GraphSeat). p.left) (opening_at heap number below);
+      numbered = ap (λ (p : GraphSeat). length p.objects) (sym (opening_graph_has_opening_seats heap number below));
+      stamped = ap (λ (p : GraphSeat). p.sets) (sym (opening_graph_has_opening_seats heap number below));
+      leaves = ap (λ (p : GraphSeat). p.left) (opening_graph_has_opening_seats heap number below);
       unborn = refl;
     };
     began = record { earlier = omega arith; unanswered = λ busy. refl };
-    gathers = nothing_tried heap opening_owner number [] (opening_seat heap number).cursor;
+    gathers = gathers_right_untried heap opening_owner number [] (opening_seat heap number).cursor;
     used = tt;
   };
   cycle = record {
@@ -78,8 +78,8 @@ opening_seat_stands heap words number below none_answered = record {
   };
 }
 
-pub opening_seat_at : (heap : Heap) (state : State) (number : ℕ) → IsOpening heap state → number < heap.seats → seat_at state number ≡ opening_seat heap number
-opening_seat_at heap state number opens below = ap (λ seats. get_or seats number absent_seat) opens.seats_open ∙ get_or-map-range_with_len (opening_seat heap) 0 heap.seats number number absent_seat below (omega arith)
+pub seat_at_opening : (heap : Heap) (state : State) (number : ℕ) → IsOpening heap state → number < heap.seats → seat_at state number ≡ opening_seat heap number
+seat_at_opening heap state number opens below = ap (λ seats. get_or seats number absent_seat) opens.seats_open ∙ get_or-map-range_with_len (opening_seat heap) 0 heap.seats number number absent_seat below (omega arith)
 
 -- the opening book stands for an opening state
 opening_rule : (heap : Heap) (state : State) → IsHeap heap → IsMachine heap state → IsOpening heap state → Rule heap state (opening_book heap)
@@ -87,8 +87,8 @@ opening_rule heap state fits machine opens = record {
   machine = machine;
   heap_stands = record {
     control_words = opening_bits heap state.words fits.some_group opens.words_open;
-    owners = opening_seated heap.seats;
-    ids = opening_ids heap;
+    owners = opening_owners_stand heap.seats;
+    ids = opening_are_made heap;
     objects = opening_objects heap state.words fits.some_group opens.words_open;
     spines = opening_spines_stand heap state.words (opens.words_open Spot tt) heap.seats;
     used = opening_used heap fits.some_group;
@@ -105,7 +105,7 @@ opening_rule heap state fits machine opens = record {
       };
     };
   };
-  seats_stand = λ number below. subst (λ (s : Seat). SeatStands heap state.words (opening_book heap) number s) (sym (opening_seat_at heap state number opens below))
+  seats_stand = λ number below. subst (λ (s : Seat). SeatStands heap state.words (opening_book heap) number s) (sym (seat_at_opening heap state number opens below))
       (opening_seat_stands heap state.words number below
       (opens.words_open (Answer number) (omega (arith, below, fits.seats_fit)) ∙ opening_answer heap number below));
   collector_stands = subst (λ (c : Collector). CollectorAgrees heap c []) (sym opens.nothing_done)
@@ -117,14 +117,14 @@ opening_rule heap state fits machine opens = record {
       few = tt;
       pass = tt;
       sweep_stands = tt;
-      alive = λ goes_on f i k. opening_cases (λ o. o ≢ Dead i k) f (λ less is. cc) (λ past is. cc);
+      alive = λ goes_on f i k. opening_owner_cases (λ o. o ≢ Dead i k) f (λ less is. cc) (λ past is. cc);
       after = λ settled. absurd (never settled);
     };
     roots = λ number below marks. absurd (subst (λ (c : Collector). c.phase % cycle_phases ≢ marking_phase) (sym opens.nothing_done) (λ e. omega (arith, e)) marks.phase);
   };
   space = record {
-    budgets = opening_budgets heap state (λ number below. opening_seat_at heap state number opens below) (opens.words_open Spot tt) opens.nothing_done (opens.words_open Budget tt);
-    halves = opening_halves heap state (λ number below. opening_seat_at heap state number opens below) (opens.words_open Spot tt) opens.nothing_done;
+    budgets = opening_budgets_stand heap state (λ number below. seat_at_opening heap state number opens below) (opens.words_open Spot tt) opens.nothing_done (opens.words_open Budget tt);
+    halves = opening_halves_stand heap state (λ number below. seat_at_opening heap state number opens below) (opens.words_open Spot tt) opens.nothing_done;
   };
 }
   where
@@ -138,8 +138,8 @@ opening_stands heap state fits opens = record {
   book = opening_book heap;
   grown = refl;
   stands = record {
-    rule = opening_rule heap state fits (opening_machine heap state fits opens) opens;
+    rule = opening_rule heap state fits (opening_is_machine heap state fits opens) opens;
     cycle = λ running. absurd (running refl);
-    looks = λ number below. subst (λ (s : Seat). LooksStand heap [] number s.place s.looks) (sym (opening_seat_at heap state number opens below)) record { seen = omega arith; found = λ unnamed. record { first = tt; behind = tt }; asks = tt; compares = λ other p comparing. absurd (cc comparing) };
+    looks = λ number below. subst (λ (s : Seat). LooksStand heap [] number s.place s.looks) (sym (seat_at_opening heap state number opens below)) record { seen = omega arith; found = λ unnamed. record { first = tt; behind = tt }; asks = tt; compares = λ other p comparing. absurd (cc comparing) };
   };
 }

@@ -14,12 +14,12 @@ use Rattle.heap_model.specs.declared.calls.collect.CollectReply.TheVariants as n
 use Rattle.core_machine.specs.declared.place.Collecting.TheVariants.{Noting}
 use Rattle.core_machine.specs.seat.HandshakeMoves.{phase_told}
 use Rattle.core_machine.specs.declared.place.Place.TheVariants as places
-use Rattle.core_rule.proofs.entries.AtRest.{refusing_reserve, seat_fits}
+use Rattle.core_rule.proofs.entries.AtRest.{refusing_reserve_is_taken, seat_fits}
 use Rattle.core_rule.proofs.entries.PhasesTold.{told_cases}
-use Rattle.core_rule.proofs.looks.Words.{word_below}
+use Rattle.core_rule.proofs.looks.Words.{word_is_last_answer}
 use Rattle.core_rule.proofs.entries.StepTells.{SeatTells, SeatShows, takes, gives, says, refuses, refuses_words, waits, shows_none, shows_one, shows_answer}
-use Rattle.core_rule.proofs.runs.Plays.{behind_keeps, spine_keeps, MayPlay, taking, giving, answering, saying, plain_keeps, finds_in_play}
-use Rattle.core_rule.proofs.entries.MakingCommands.{full_keeps}
+use Rattle.core_rule.proofs.runs.Plays.{keeps_space_of_waits, keeps_space_of_spine_refusal, MayPlay, taking, giving, answering, saying, keeps_space_of_plain, finds_space_in_play}
+use Rattle.core_rule.proofs.entries.MakingCommands.{keeps_space_of_full}
 
 -- what a seat has found is so now: one that it is about to note stands behind by its word, and as many spine words are in use as its refusal tells
 abbrev pub FoundNow : Heap → List ℕ → List Entry → Seat → Place → Type 0
@@ -38,12 +38,12 @@ module _ (heap : Heap) (before : List Entry) (number : ℕ) where
 
   answered : (command : Command) (p : ℕ) → AddsPlay heap before number (entries.Answers number p ∷ phase_told number command p)
   answered command p = told_cases (λ told. AddsPlay heap before number (entries.Answers number p ∷ told)) number command p
-      (one (entries.Answers number p) (eq-eqb number number refl) (plain_keeps heap before (entries.Answers number p) (answering number p)))
+      (one (entries.Answers number p) (eq-eqb number number refl) (keeps_space_of_plain heap before (entries.Answers number p) (answering number p)))
       record {
         own = rw (eq-eqb number number refl) refl;
         may = (
-          plain_keeps heap before (entries.Answers number p) (answering number p),
-          (plain_keeps heap (before ++ entries.Answers number p ∷ []) (entries.Said number command (replies.Phase p)) (saying number command (replies.Phase p) tt), tt),
+          keeps_space_of_plain heap before (entries.Answers number p) (answering number p),
+          (keeps_space_of_plain heap (before ++ entries.Answers number p ∷ []) (entries.Said number command (replies.Phase p)) (saying number command (replies.Phase p) tt), tt),
         );
       }
 
@@ -54,14 +54,14 @@ refusal heap state book number rule here placed alone =
     let stands = rule.seats_stand number here in
     let fits = seat_fits rule number here in
     let refuses : SeatIsRefusing heap seat × (seat.hand ≡ []) = rw placed at fits.at_place in
-    let own = refusing_reserve heap state book number rule here refuses in
+    let own = refusing_reserve_is_taken heap state book number rule here refuses in
     let finds : FindsSpace heap true book.history number (length seat.reserve + seat.given)
-    = finds_in_play heap book.owner book.history number (book.begun number) seat.cursor seat.given (length seat.reserve) fits.own.cursor_within
+    = finds_space_in_play heap book.owner book.history number (book.begun number) seat.cursor seat.given (length seat.reserve) fits.own.cursor_within
     rule.heap_stands.used own alone
     (subst (λ n. GathersRight heap book.owner number (drop (book.begun number) book.history) seat.cursor n seat.given) refuses.0.all_tried stands.told.gathers) in
     let less : length seat.reserve + seat.given < need seat = omega (arith, refuses.0.too_few) in
     one heap book.history number (full_entry number seat) (eq-eqb number number refl)
-    (λ run. full_keeps seat.command refuses.0.makes.an_object heap true book.history number (length seat.reserve + seat.given)
+    (λ run. keeps_space_of_full seat.command refuses.0.makes.an_object heap true book.history number (length seat.reserve + seat.given)
     (omega (arith, own)) (omega (arith, own, fits.own.small_reserve)) less finds)
 
 spine_refusal : (heap : Heap) (state : State) (book : Book) (number : ℕ) → Rule heap state book → words_granted book.history ≡ (seat_at state number).used + words_returned book.history
@@ -72,7 +72,7 @@ spine_refusal heap state book number rule found =
     let few : seat.used ≤ heap.spine = omega (arith, found, budgets.told, budgets.low) in
     let shown : seat.used % 2 ^ 32 ≡ seat.used = omega (arith, few, rule.machine.limits.spine_fits) in
     one heap book.history number (spine_full_entry number seat) (eq-eqb number number refl)
-    (spine_keeps heap book.history number seat.command (spine_need seat) (seat.used % 2 ^ 32) (omega (arith, shown, found)))
+    (keeps_space_of_spine_refusal heap book.history number seat.command (spine_need seat) (seat.used % 2 ^ 32) (omega (arith, shown, found)))
 
 -- where a seat that is noted stands behind by its word, it does so by the history
 noted_behind : (heap : Heap) (state : State) (book : Book) (number : ℕ) → Rule heap state book → (other answer p : ℕ) → IsBehindNow heap state.words other answer p → (command : Command)
@@ -82,7 +82,7 @@ noted_behind heap state book number rule other answer p now command shows collec
     = subst (λ c. ShowsPhases heap false book.history number c (replies.Waits other answer p)) collects shows in
     let is_phase : phase book.history ≡ p = sym rule.heap_stands.cycle.word ∙ now.here in
     let told = (rule.seats_stand other shown.0).cycle.answers_told in
-    let found = word_below heap state book rule other shown.0 answer now.word (omega (arith, is_phase, shown.2)) in
+    let found = word_is_last_answer heap state book rule other shown.0 answer now.word (omega (arith, is_phase, shown.2)) in
     record { present = found.0; answered = found.1; here = is_phase }
 
 -- what the step due of a seat adds, where all entries since its call began are its own
@@ -92,16 +92,16 @@ module _ (heap : Heap) (state : State) (book : Book) (number : ℕ) (rule : Rule
   seat = seat_at state number
 
   told_plays : (entry : Entry) → SeatTells number seat seat.place entry → AddsPlay heap book.history number (entry ∷ [])
-  told_plays _ (takes count) = one heap book.history number _ (eq-eqb number number refl) (plain_keeps heap book.history _ (taking number count))
-  told_plays _ (gives count) = one heap book.history number _ (eq-eqb number number refl) (plain_keeps heap book.history _ (giving number count))
-  told_plays _ (says reply plain) = one heap book.history number _ (eq-eqb number number refl) (plain_keeps heap book.history _ (saying number seat.command reply plain))
+  told_plays _ (takes count) = one heap book.history number _ (eq-eqb number number refl) (keeps_space_of_plain heap book.history _ (taking number count))
+  told_plays _ (gives count) = one heap book.history number _ (eq-eqb number number refl) (keeps_space_of_plain heap book.history _ (giving number count))
+  told_plays _ (says reply plain) = one heap book.history number _ (eq-eqb number number refl) (keeps_space_of_plain heap book.history _ (saying number seat.command reply plain))
   told_plays _ (refuses is) = refusal heap state book number rule here is alone
   told_plays _ (refuses_words is) = spine_refusal heap state book number rule (subst (FoundNow heap state.words book.history seat) is now)
   told_plays _ (waits other answered p is) =
       one heap book.history number _ (eq-eqb number number refl)
-      (behind_keeps heap book.history number seat.command other answered p (noted_behind heap state book number rule other answered p (subst (FoundNow heap state.words book.history seat) is now) seat.command))
+      (keeps_space_of_waits heap book.history number seat.command other answered p (noted_behind heap state book number rule other answered p (subst (FoundNow heap state.words book.history seat) is now) seat.command))
 
-  pub adds_play : (added : List Entry) → SeatShows number seat seat.place added → AddsPlay heap book.history number added
-  adds_play _ shows_none = record { own = refl; may = tt }
-  adds_play _ (shows_one entry tells) = told_plays entry tells
-  adds_play _ (shows_answer is) = answered heap book.history number seat.command seat.asked
+  pub adds_entries_of_play : (added : List Entry) → SeatShows number seat seat.place added → AddsPlay heap book.history number added
+  adds_entries_of_play _ shows_none = record { own = refl; may = tt }
+  adds_entries_of_play _ (shows_one entry tells) = told_plays entry tells
+  adds_entries_of_play _ (shows_answer is) = answered heap book.history number seat.command seat.asked

@@ -12,27 +12,27 @@ use Rattle.core_machine.specs.declared.place.Place.TheVariants as places
 use Rattle.heap_model.specs.declared.calls.collect.Inner.{Inner}
 use Rattle.heap_model.specs.declared.calls.collect.Inner.TheVariants as inners
 use Rattle.heap_model.specs.declared.calls.collect.CollectReply.TheVariants as notes
-use Rattle.core_machine.proofs.table_lemmas.Free.{sum_zero}
+use Rattle.core_machine.proofs.table_lemmas.Free.{sum_of_nothing_is_zero}
 use Rattle.core_machine.specs.machine.Opening.{IsOpening}
 use Rattle.core_machine.specs.seat.Collecting.{inner_place}
 use Rattle.core_machine.specs.Moves.{seat_after}
 use Rattle.core_rule.proofs.runs.PlayEntries.{FoundNow}
 use Rattle.core_rule.proofs.looks.Moves.{GoesBy}
-use Rattle.core_rule.proofs.steps.Seats.{step_kind}
-use Rattle.core_rule.proofs.looks.Origins.{IsUsual, ComesFrom, grant_finds, begin_usual}
-use Rattle.core_rule.proofs.looks.Ways.{IsNote, elsewhere_unnoted, begin_stays}
-use Rattle.core_rule.proofs.runs.OpeningStands.{opening_seat_at}
+use Rattle.core_rule.proofs.steps.Seats.{step_kind_of_each_place}
+use Rattle.core_rule.proofs.looks.Origins.{IsUsual, ComesFrom, used_is_found_at_grant, begin_is_usual}
+use Rattle.core_rule.proofs.looks.Ways.{IsNote, elsewhere_is_no_note, stays_found_after_begin}
+use Rattle.core_rule.proofs.runs.OpeningStands.{seat_at_opening}
 
 -- a seat without a call in flight has found nothing
-pub idle_noted : (heap : Heap) (words : List ℕ) (history : List Entry) (seat : Seat) → seat.place ≡ places.Idle → FoundNow heap words history seat seat.place
-idle_noted heap words history seat idle = subst (FoundNow heap words history seat) (sym idle) tt
+pub found_now_when_idle : (heap : Heap) (words : List ℕ) (history : List Entry) (seat : Seat) → seat.place ≡ places.Idle → FoundNow heap words history seat seat.place
+found_now_when_idle heap words history seat idle = subst (FoundNow heap words history seat) (sym idle) tt
 
-pub noted_alone : (heap : Heap) (state new : State) (history : List Entry) (number : ℕ) → IsAlone state number → length state.seats ≡ heap.seats → ((r : ℕ) → r ≢ number → seat_at new r ≡ seat_at state r)
+pub found_now_when_alone : (heap : Heap) (state new : State) (history : List Entry) (number : ℕ) → IsAlone state number → length state.seats ≡ heap.seats → ((r : ℕ) → r ≢ number → seat_at new r ≡ seat_at state r)
     → FoundNow heap new.words history (seat_at new number) (seat_at new number).place → (r : ℕ) → r < heap.seats → FoundNow heap new.words history (seat_at new r) (seat_at new r).place
-noted_alone heap state new history number alone all stay own r below =
+found_now_when_alone heap state new history number alone all stay own r below =
     elim (eqb_tells r number) as (λ _. FoundNow heap new.words history (seat_at new r) (seat_at new r).place) [
       | inl same ↦ subst (λ n. FoundNow heap new.words history (seat_at new n) (seat_at new n).place) (sym same.1) own
-      | inr apart ↦ idle_noted heap new.words history (seat_at new r) (ap (λ s. s.place) (stay r apart.1) ∙ alone r (rw all below) apart.1)
+      | inr apart ↦ found_now_when_idle heap new.words history (seat_at new r) (ap (λ s. s.place) (stay r apart.1) ∙ alone r (rw all below) apart.1)
     ]
 
 -- nor has one that stands at no note, and takes no spine words back
@@ -51,7 +51,7 @@ module _ (heap : Heap) (state : State) (book : Book) (number : ℕ) (rule : Rule
 
   -- a number of each seat is that of this one alone, where it is none without a call in flight
   none_summed : (weight : Seat → Place → ℕ) → ((s : Seat) → weight s places.Idle ≡ 0) → weight seat seat.place ≡ 0 → of_seats heap state weight ≡ 0
-  none_summed weight idle own = sum_zero heap.seats (λ r. weight (seat_at state r) (seat_at state r).place) (λ r below. elim (eqb_tells r number) as (λ _. weight (seat_at state r) (seat_at state r).place ≡ 0) [
+  none_summed weight idle own = sum_of_nothing_is_zero heap.seats (λ r. weight (seat_at state r) (seat_at state r).place) (λ r below. elim (eqb_tells r number) as (λ _. weight (seat_at state r) (seat_at state r).place ≡ 0) [
     | inl same ↦ subst (λ n. weight (seat_at state n) (seat_at state n).place ≡ 0) (sym same.1) own
     | inr apart ↦ ap (weight (seat_at state r)) (alone r (rw rule.machine.seated below) apart.1) ∙ idle (seat_at state r)
   ])
@@ -76,14 +76,14 @@ module _ (heap : Heap) (state : State) (book : Book) (number : ℕ) (rule : Rule
 
   tells_at : (place : Place) → seat.place ≡ place → TellsBy (move_at heap number seat place)
   tells_at (places.Making Granting) placed = λ is.
-      rw (append-nil book.history) (grant_tells placed ∙ ap (λ n. n + words_returned book.history) (sym (grant_finds heap seat (at heap state.words Budget) is)))
-  tells_at place placed = no_grant place (λ e. cc) (move_at heap number seat place) (λ found. (step_kind place).looks.comes heap number seat found placed)
+      rw (append-nil book.history) (grant_tells placed ∙ ap (λ n. n + words_returned book.history) (sym (used_is_found_at_grant heap seat (at heap state.words Budget) is)))
+  tells_at place placed = no_grant place (λ e. cc) (move_at heap number seat place) (λ found. (step_kind_of_each_place place).looks.comes heap number seat found placed)
 
   -- so where a seat has come to take spine words back it has found those that are in use
-  pub step_tells : number < length state.seats → Can heap state (Steps number) → (seat_at (state_after heap state (Steps number)) number).place ≡ places.Making Withdrawing
+  pub granted_is_used_and_returned : number < length state.seats → Can heap state (Steps number) → (seat_at (state_after heap state (Steps number)) number).place ≡ places.Making Withdrawing
       → words_granted (book.history ++ entries heap state (Steps number))
       ≡ (seat_at (state_after heap state (Steps number)) number).used + words_returned (book.history ++ entries heap state (Steps number))
-  step_tells here can = moves (next_move heap number seat) (tells_at seat.place refl) can
+  granted_is_used_and_returned here can = moves (next_move heap number seat) (tells_at seat.place refl) can
     where
       moves : (move : Option Move) → TellsBy move → IsSome move → (seat_at (state_after_due heap state number move) number).place ≡ places.Making Withdrawing
           → words_granted (book.history ++ entries_shown heap state move) ≡ (seat_at (state_after_due heap state number move) number).used + words_returned (book.history ++ entries_shown heap state move)
@@ -94,10 +94,10 @@ module _ (heap : Heap) (state : State) (book : Book) (number : ℕ) (rule : Rule
           (sym (get_or-set_same state.seats number (seat_after move (found_by heap state move.step)) absent_seat here)) tells
 
   -- so what a seat has found is so after its step
-  pub step_noted : number < length state.seats → FoundNow heap state.words book.history seat seat.place
+  pub found_now_after_step : number < length state.seats → FoundNow heap state.words book.history seat seat.place
       → FoundNow heap (state_after heap state (Steps number)).words (book.history ++ entries heap state (Steps number)) (seat_at (state_after heap state (Steps number)) number)
       (seat_at (state_after heap state (Steps number)) number).place
-  step_noted here was = moves (next_move heap number seat) ((step_kind seat.place).looks.goes heap state book rule number refl) (tells_at seat.place refl)
+  found_now_after_step here was = moves (next_move heap number seat) ((step_kind_of_each_place seat.place).looks.goes heap state book rule number refl) (tells_at seat.place refl)
     where
       moves : (move : Option Move) → GoesBy heap state book rule number move → TellsBy move
           → FoundNow heap (state_after_due heap state number move).words (book.history ++ entries_shown heap state move) (seat_at (state_after_due heap state number move) number)
@@ -110,24 +110,24 @@ module _ (heap : Heap) (state : State) (book : Book) (number : ℕ) (rule : Rule
           (elsewhere_noted heap (state_after_due heap state number (Some move)).words now next next.place goes.unnoted tells)
 
 -- no call begins with something found
-pub begin_noted : (heap : Heap) (state : State) (history : List Entry) (number : ℕ) (command : Command) → Can heap state (Begins number command)
+pub found_now_after_begin : (heap : Heap) (state : State) (history : List Entry) (number : ℕ) (command : Command) → Can heap state (Begins number command)
     → FoundNow heap state.words history (seat_at (state_after heap state (Begins number command)) number) (seat_at (state_after heap state (Begins number command)) number).place
-begin_noted heap state history number command can =
+found_now_after_begin heap state history number command can =
     let begun : Seat = after_begin heap (seat_at state number) command in
     subst (λ (s : Seat). FoundNow heap state.words history s s.place) (sym (get_or-set_same state.seats number begun absent_seat can.0))
     (elsewhere_noted heap state.words history begun begun.place
-    (elsewhere_unnoted begun.place (begin_stays heap (seat_at state number) command can.1.idle).elsewhere)
-    (λ is. absurd (subst IsUsual is (begin_usual heap (seat_at state number) command can.1.idle))))
+    (elsewhere_is_no_note begun.place (stays_found_after_begin heap (seat_at state number) command can.1.idle).elsewhere)
+    (λ is. absurd (subst IsUsual is (begin_is_usual heap (seat_at state number) command can.1.idle))))
 
 -- an inner call does where what it notes is so now
-pub inner_noted : (heap : Heap) (state : State) (history : List Entry) (begun : Seat) (inner : Inner) → NotesNow heap state inner → FoundNow heap state.words history begun (inner_place inner)
-inner_noted heap state history begun inners.Look now = tt
-inner_noted heap state history begun inners.Answer now = tt
-inner_noted heap state history begun (inners.Behind other) now = tt
-inner_noted heap state history begun (inners.Note (notes.Cycle j)) now = tt
-inner_noted heap state history begun (inners.Note (notes.Waits other answer p)) now = now
+pub found_now_after_inner : (heap : Heap) (state : State) (history : List Entry) (begun : Seat) (inner : Inner) → NotesNow heap state inner → FoundNow heap state.words history begun (inner_place inner)
+found_now_after_inner heap state history begun inners.Look now = tt
+found_now_after_inner heap state history begun inners.Answer now = tt
+found_now_after_inner heap state history begun (inners.Behind other) now = tt
+found_now_after_inner heap state history begun (inners.Note (notes.Cycle j)) now = tt
+found_now_after_inner heap state history begun (inners.Note (notes.Waits other answer p)) now = now
 
-pub opening_noted : (heap : Heap) (state : State) (history : List Entry) → IsOpening heap state → (number : ℕ) → number < heap.seats
+pub found_now_at_opening : (heap : Heap) (state : State) (history : List Entry) → IsOpening heap state → (number : ℕ) → number < heap.seats
     → FoundNow heap state.words history (seat_at state number) (seat_at state number).place
-opening_noted heap state history opens number below =
-    idle_noted heap state.words history (seat_at state number) (ap (λ (s : Seat). s.place) (opening_seat_at heap state number opens below))
+found_now_at_opening heap state history opens number below =
+    found_now_when_idle heap state.words history (seat_at state number) (ap (λ (s : Seat). s.place) (seat_at_opening heap state number opens below))

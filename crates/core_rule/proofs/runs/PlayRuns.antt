@@ -13,17 +13,17 @@ use Rattle.core_machine.specs.declared.place.Place.TheVariants as places
 use Rattle.heap_model.specs.declared.calls.collect.Inner.{Inner}
 use Rattle.core_rule.specs.Stands.{Stands}
 use Rattle.core_rule.proofs.entries.Begins.{begins}
-use Rattle.core_rule.proofs.sweep_exact.EndsRightly.{ends_rightly}
-use Rattle.core_rule.proofs.footprint.SeatCycle.{step_cycle, begin_cycle, inner_cycle}
-use Rattle.core_rule.proofs.footprint.TurnCycle.{turn_cycle}
+use Rattle.core_rule.proofs.sweep_exact.EndsRightly.{cycle_ends_rightly}
+use Rattle.core_rule.proofs.footprint.SeatCycle.{stands_after_seat_step, stands_after_begin, stands_after_inner_begin}
+use Rattle.core_rule.proofs.footprint.TurnCycle.{stands_after_turn}
 use Rattle.core_rule.proofs.steps.Assemble.{Keeps}
-use Rattle.core_rule.proofs.steps.Seats.{step_kind}
-use Rattle.core_rule.proofs.runs.PlayEntries.{AddsPlay, FoundNow, adds_play}
-use Rattle.core_rule.proofs.runs.PlayNotes.{idle_noted, noted_alone, step_noted, begin_noted, inner_noted, opening_noted}
-use Rattle.core_rule.proofs.entries.TurnShapes.{shape_may}
-use Rattle.core_rule.proofs.steps.collector.{turn_kind}
-use Rattle.core_rule.proofs.runs.Plays.{MayPlay, play_more}
-use Rattle.core_rule.proofs.runs.Runs.{MachineStays, OpeningStands, EachStepKeeps, EachBeginKeeps, EachInnerKeeps, EachTurnKeeps, seat_of_step}
+use Rattle.core_rule.proofs.steps.Seats.{step_kind_of_each_place}
+use Rattle.core_rule.proofs.runs.PlayEntries.{AddsPlay, FoundNow, adds_entries_of_play}
+use Rattle.core_rule.proofs.runs.PlayNotes.{found_now_when_idle, found_now_when_alone, found_now_after_step, found_now_after_begin, found_now_after_inner, found_now_at_opening}
+use Rattle.core_rule.proofs.entries.TurnShapes.{shape_may_play}
+use Rattle.core_rule.proofs.steps.collector.{turn_kind_of_each_stage}
+use Rattle.core_rule.proofs.runs.Plays.{MayPlay, legal_play_grows}
+use Rattle.core_rule.proofs.runs.Runs.{MachineStays, OpeningStands, EachStepKeeps, EachBeginKeeps, EachInnerKeeps, EachTurnKeeps, stepping_seat_is_there}
 
 -- the history is a play's, what a seat has found is so, and since the call of a seat began all entries are its own
 pub record PlaysOn (heap : Heap) (state : State) (book : Book) : Type 0 where
@@ -36,9 +36,9 @@ own_more : (number begun : ℕ) (before added : List Entry) → begun ≤ length
     → list_all (is_of number) (drop begun (before ++ added)) ≡ true
 own_more number begun before added earlier own more = rw (drop-append-le begun before added earlier, list_all-append (is_of number) (drop begun before) added, own, more) refl
 
-pub moved_other : (heap : Heap) (state : State) (number r : ℕ) (move : Option Move) → r ≢ number → seat_at (state_after_due heap state number move) r ≡ seat_at state r
-moved_other heap state number r None apart = refl
-moved_other heap state number r (Some move) apart = get_or-set_other state.seats number r _ absent_seat apart
+pub other_seat_same_after_move : (heap : Heap) (state : State) (number r : ℕ) (move : Option Move) → r ≢ number → seat_at (state_after_due heap state number move) r ≡ seat_at state r
+other_seat_same_after_move heap state number r None apart = refl
+other_seat_same_after_move heap state number r (Some move) apart = get_or-set_other state.seats number r _ absent_seat apart
 
 busy : (heap : Heap) (number : ℕ) (seat : Seat) → IsSome (next_move heap number seat) → seat.place ≢ places.Idle
 busy heap number seat due idle = false≢true (subst (λ place. IsSome (move_at heap number seat place)) idle due)
@@ -68,24 +68,24 @@ plays_next {heap} {before} {new} {book} {begun} {added} keeps stands may legal n
     record {
       now = keeps.now;
       grown = keeps.grown;
-      plays = record { stands = stands; legal = subst (IsLegal heap true) (sym keeps.grown) (play_more heap book.history added may legal run); noted = λ r below. subst (λ es. FoundNow heap new.words es (seat_at new r) (seat_at new r).place) (sym keeps.grown) (noted r below); own = own };
+      plays = record { stands = stands; legal = subst (IsLegal heap true) (sym keeps.grown) (legal_play_grows heap book.history added may legal run); noted = λ r below. subst (λ es. FoundNow heap new.words es (seat_at new r) (seat_at new r).place) (sym keeps.grown) (noted r below); own = own };
     }
 
 step_plays : MachineStays → EachStepKeeps → (heap : Heap) (state : State) (book : Book) (number : ℕ) → PlaysOn heap state book → IsAlone state number → Can heap state (Steps number)
     → PlaysNext heap (state_after heap state (Steps number)) book.history (entries heap state (Steps number))
 step_plays stays steps heap state book number plays alone can =
-    let here : number < heap.seats = seat_of_step heap state book number plays.stands.rule can in
+    let here : number < heap.seats = stepping_seat_is_there heap state book number plays.stands.rule can in
     let here_seated : number < length state.seats = rw plays.stands.rule.machine.seated here in
     let active : (seat_at state number).place ≢ places.Idle = busy heap number (seat_at state number) can in
     let keeps = steps heap state book number plays.stands.rule here (plays.stands.looks number here) (stays heap state (Steps number) plays.stands.rule.machine can) in
     let adds : AddsPlay heap book.history number (entries heap state (Steps number))
-    = adds_play heap state book number plays.stands.rule here (plays.own number here active) (plays.noted number here) _ ((step_kind (seat_at state number).place).shows heap state number) in
+    = adds_entries_of_play heap state book number plays.stands.rule here (plays.own number here active) (plays.noted number here) _ ((step_kind_of_each_place (seat_at state number).place).shows heap state number) in
     let earlier : book.begun number ≤ length book.history = (plays.stands.rule.seats_stand number here).told.began.earlier in
     let own_now : list_all (is_of number) (drop (keeps.now.begun number) keeps.now.history) ≡ true
     = rw (keeps.calls, keeps.grown) (own_more number (book.begun number) book.history (entries heap state (Steps number)) earlier (plays.own number here active) adds.own) in
-    plays_next keeps (step_cycle heap state book plays.stands number here keeps) adds.may plays.legal (noted_alone heap state (state_after heap state (Steps number)) (book.history ++ entries heap state (Steps number)) number alone plays.stands.rule.machine.seated
-    (λ r apart. moved_other heap state number r (next_move heap number (seat_at state number)) apart) (step_noted heap state book number plays.stands.rule alone here_seated (plays.noted number here))) (own_alone heap state (state_after heap state (Steps number)) keeps.now number alone plays.stands.rule.machine.seated
-    (λ r apart. moved_other heap state number r (next_move heap number (seat_at state number)) apart) own_now)
+    plays_next keeps (stands_after_seat_step heap state book plays.stands number here keeps) adds.may plays.legal (found_now_when_alone heap state (state_after heap state (Steps number)) (book.history ++ entries heap state (Steps number)) number alone plays.stands.rule.machine.seated
+    (λ r apart. other_seat_same_after_move heap state number r (next_move heap number (seat_at state number)) apart) (found_now_after_step heap state book number plays.stands.rule alone here_seated (plays.noted number here))) (own_alone heap state (state_after heap state (Steps number)) keeps.now number alone plays.stands.rule.machine.seated
+    (λ r apart. other_seat_same_after_move heap state number r (next_move heap number (seat_at state number)) apart) own_now)
 
 nothing_since : (number : ℕ) (history : List Entry) → list_all (is_of number) (drop (length history) history) ≡ true
 nothing_since number [] = refl
@@ -99,8 +99,8 @@ begin_plays stays begin heap state book number command plays alone can =
     let first : begins number (length book.history) book.begun number ≡ length book.history = rw (eq-eqb number number refl) refl in
     let own_now : list_all (is_of number) (drop (keeps.now.begun number) keeps.now.history) ≡ true
     = rw (keeps.calls, same, first) (nothing_since number book.history) in
-    plays_next keeps (begin_cycle heap state book plays.stands number (rw (← plays.stands.rule.machine.seated) can.0) command (begins number (length book.history) book.begun) can keeps) tt plays.legal (noted_alone heap state (state_after heap state (Begins number command)) (book.history ++ []) number alone plays.stands.rule.machine.seated
-    (λ r apart. get_or-set_other state.seats number r _ absent_seat apart) (begin_noted heap state (book.history ++ []) number command can)) (own_alone heap state (state_after heap state (Begins number command)) keeps.now number alone plays.stands.rule.machine.seated
+    plays_next keeps (stands_after_begin heap state book plays.stands number (rw (← plays.stands.rule.machine.seated) can.0) command (begins number (length book.history) book.begun) can keeps) tt plays.legal (found_now_when_alone heap state (state_after heap state (Begins number command)) (book.history ++ []) number alone plays.stands.rule.machine.seated
+    (λ r apart. get_or-set_other state.seats number r _ absent_seat apart) (found_now_after_begin heap state (book.history ++ []) number command can)) (own_alone heap state (state_after heap state (Begins number command)) keeps.now number alone plays.stands.rule.machine.seated
     (λ r apart. get_or-set_other state.seats number r _ absent_seat apart) own_now)
 
 inner_plays : MachineStays → EachInnerKeeps → (heap : Heap) (state : State) (book : Book) (number : ℕ) (inner : Inner) → PlaysOn heap state book → IsAlone state number → NotesNow heap state inner
@@ -111,9 +111,9 @@ inner_plays stays inners heap state book number inner plays alone now can =
     let first : begins number (length book.history) book.begun number ≡ length book.history = rw (eq-eqb number number refl) refl in
     let own_now : list_all (is_of number) (drop (keeps.now.begun number) keeps.now.history) ≡ true
     = rw (keeps.calls, same, first) (nothing_since number book.history) in
-    plays_next keeps (inner_cycle heap state book plays.stands number (rw (← plays.stands.rule.machine.seated) can.0) inner (begins number (length book.history) book.begun) can keeps) tt plays.legal
-    (noted_alone heap state (state_after heap state (BeginsInner number inner)) (book.history ++ []) number alone plays.stands.rule.machine.seated (λ r apart. get_or-set_other state.seats number r _ absent_seat apart)
-    (subst (λ (s : Seat). FoundNow heap state.words (book.history ++ []) s s.place) (sym (get_or-set_same state.seats number (after_inner_begin (seat_at state number) inner) absent_seat can.0)) (inner_noted heap state (book.history ++ []) (after_inner_begin (seat_at state number) inner) inner now)))
+    plays_next keeps (stands_after_inner_begin heap state book plays.stands number (rw (← plays.stands.rule.machine.seated) can.0) inner (begins number (length book.history) book.begun) can keeps) tt plays.legal
+    (found_now_when_alone heap state (state_after heap state (BeginsInner number inner)) (book.history ++ []) number alone plays.stands.rule.machine.seated (λ r apart. get_or-set_other state.seats number r _ absent_seat apart)
+    (subst (λ (s : Seat). FoundNow heap state.words (book.history ++ []) s s.place) (sym (get_or-set_same state.seats number (after_inner_begin (seat_at state number) inner) absent_seat can.0)) (found_now_after_inner heap state (book.history ++ []) (after_inner_begin (seat_at state number) inner) inner now)))
     (own_alone heap state (state_after heap state (BeginsInner number inner)) keeps.now number alone plays.stands.rule.machine.seated
     (λ r apart. get_or-set_other state.seats number r _ absent_seat apart) own_now)
 
@@ -121,8 +121,8 @@ turn_plays : MachineStays → EachTurnKeeps → (heap : Heap) (state : State) (b
     → PlaysNext heap (state_after heap state Turns) book.history (entries heap state Turns)
 turn_plays stays turn heap state book plays idle can =
     let found : ℕ = found_by heap state (next_turn heap state.collector).step in
-    let keeps = turn heap state book plays.stands.rule (ends_rightly heap state book plays.stands) can (stays heap state Turns plays.stands.rule.machine can) in
-    plays_next keeps (turn_cycle heap state book plays.stands state.collector.stage refl keeps) (shape_may heap book.history state.collector found state.collector.stage ((turn_kind state.collector.stage).shape heap state.collector found)) plays.legal (λ r below. idle_noted heap (state_after heap state Turns).words (book.history ++ entries heap state Turns) (seat_at state r) (idle r (rw plays.stands.rule.machine.seated below))) (λ r below active. absurd (active (idle r (rw plays.stands.rule.machine.seated below))))
+    let keeps = turn heap state book plays.stands.rule (cycle_ends_rightly heap state book plays.stands) can (stays heap state Turns plays.stands.rule.machine can) in
+    plays_next keeps (stands_after_turn heap state book plays.stands state.collector.stage refl keeps) (shape_may_play heap book.history state.collector found state.collector.stage ((turn_kind_of_each_stage state.collector.stage).shape heap state.collector found)) plays.legal (λ r below. found_now_when_idle heap (state_after heap state Turns).words (book.history ++ entries heap state Turns) (seat_at state r) (idle r (rw plays.stands.rule.machine.seated below))) (λ r below active. absurd (active (idle r (rw plays.stands.rule.machine.seated below))))
 
 module _ (stays : MachineStays) (steps : EachStepKeeps) (begin : EachBeginKeeps) (inners_keep : EachInnerKeeps) (turn : EachTurnKeeps) where
   event_plays : (heap : Heap) (state : State) (book : Book) (event : Event) → PlaysOn heap state book → HappensAlone heap state event → Can heap state event
@@ -150,7 +150,7 @@ module _ (stays : MachineStays) (steps : EachStepKeeps) (begin : EachBeginKeeps)
       record {
         stands = first.stands;
         legal = subst (IsLegal heap true) (sym first.grown) record { objects = tt; space = tt };
-        noted = λ number below. opening_noted heap state first.book.history opening number below;
+        noted = λ number below. found_now_at_opening heap state first.book.history opening number below;
         own = λ number below active. rw first.grown (own_of_none number (first.book.begun number));
       } run alone)
     where

@@ -12,8 +12,8 @@ use Rattle.heap_model.specs.declared.reply.Reply.TheVariants as replies
 use Rattle.heap_model.specs.account.Phases.{IsBehind, ShowsPhases}
 use Rattle.heap_model.specs.account.Refusals.{FindsSpace, FindsSpine, ShowsSpace, ShowsSpine}
 use Rattle.heap_model.proofs.Histories.{KeepsSpaceAfter-more}
-use Rattle.core_rule.proofs.counts.FreeSums.{taken_and_free, passed_all}
-use Rattle.core_rule.proofs.entries.Legality.{keeps_takes, keeps_gives, keeps_answers, keeps_begins, keeps_ends, keeps_frees, keeps_returns, keeps_swings}
+use Rattle.core_rule.proofs.counts.FreeSums.{taken_and_free_make_all, all_passed_is_all_free}
+use Rattle.core_rule.proofs.entries.Legality.{keeps_space_of_takes, keeps_space_of_gives, keeps_space_of_answers, keeps_space_of_advance, keeps_space_of_end, keeps_space_of_frees, keeps_space_of_returns, keeps_space_of_swings}
 
 -- a reply that refuses nothing for want of space, and waits for nobody
 abbrev pub IsPlainReply : Reply → Type 0
@@ -48,16 +48,16 @@ shows_same heap before number commands.Collect (replies.Waits other answer p) pl
 shows_same heap before number _ _ plain shows = shows
 
 -- the rules for it are those of a run
-pub plain_keeps : (heap : Heap) (before : List Entry) (entry : Entry) → IsPlain entry → KeepsSpace heap false before entry → KeepsSpace heap true before entry
-plain_keeps heap before _ (taking number count) keeps = keeps_takes heap true before number count keeps.takes.0 keeps.takes.1
-plain_keeps heap before _ (giving number count) keeps = keeps_gives heap true before number count keeps.takes.0 keeps.takes.1
-plain_keeps heap before _ (answering number p) keeps = keeps_answers heap true before number p keeps.answers
-plain_keeps heap before _ (advancing p) keeps = keeps_begins heap true before p keeps.begins
-plain_keeps heap before _ (freeing count) keeps = keeps_frees heap true before count keeps.sweeps
-plain_keeps heap before _ (returning count) keeps = keeps_returns heap true before count keeps.sweeps
-plain_keeps heap before _ (swinging id) keeps = keeps_swings heap true before id keeps.sweeps
-plain_keeps heap before _ (ending cycle kept) keeps = keeps_ends heap true before cycle kept keeps.ends
-plain_keeps heap before _ (saying number command reply plain) keeps = record {
+pub keeps_space_of_plain : (heap : Heap) (before : List Entry) (entry : Entry) → IsPlain entry → KeepsSpace heap false before entry → KeepsSpace heap true before entry
+keeps_space_of_plain heap before _ (taking number count) keeps = keeps_space_of_takes heap true before number count keeps.takes.0 keeps.takes.1
+keeps_space_of_plain heap before _ (giving number count) keeps = keeps_space_of_gives heap true before number count keeps.takes.0 keeps.takes.1
+keeps_space_of_plain heap before _ (answering number p) keeps = keeps_space_of_answers heap true before number p keeps.answers
+keeps_space_of_plain heap before _ (advancing p) keeps = keeps_space_of_advance heap true before p keeps.begins
+keeps_space_of_plain heap before _ (freeing count) keeps = keeps_space_of_frees heap true before count keeps.sweeps
+keeps_space_of_plain heap before _ (returning count) keeps = keeps_space_of_returns heap true before count keeps.sweeps
+keeps_space_of_plain heap before _ (swinging id) keeps = keeps_space_of_swings heap true before id keeps.sweeps
+keeps_space_of_plain heap before _ (ending cycle kept) keeps = keeps_space_of_end heap true before cycle kept keeps.ends
+keeps_space_of_plain heap before _ (saying number command reply plain) keeps = record {
   takes = tt;
   makes = keeps.makes;
   refuses = shows_no_space heap before number command reply plain;
@@ -75,10 +75,10 @@ shows_behind : (heap : Heap) (before : List Entry) (number : ℕ) (command : Com
 shows_behind heap before number commands.Collect other answer p behind shows = (shows.0, shows.1, shows.2, behind refl)
 shows_behind heap before number _ other answer p behind shows = shows
 
-pub behind_keeps : (heap : Heap) (before : List Entry) (number : ℕ) (command : Command) (other answer p : ℕ)
+pub keeps_space_of_waits : (heap : Heap) (before : List Entry) (number : ℕ) (command : Command) (other answer p : ℕ)
     → (ShowsPhases heap false before number command (replies.Waits other answer p) → command ≡ commands.Collect → IsBehind other answer p before)
     → KeepsSpace heap false before (entries.Said number command (replies.Waits other answer p)) → KeepsSpace heap true before (entries.Said number command (replies.Waits other answer p))
-behind_keeps heap before number command other answer p behind keeps = record {
+keeps_space_of_waits heap before number command other answer p behind keeps = record {
   takes = tt;
   makes = keeps.makes;
   refuses = tt;
@@ -96,9 +96,9 @@ shows_full : (heap : Heap) (before : List Entry) (number : ℕ) (command : Comma
 shows_full heap before number commands.Collect need shown shows = shows
 shows_full heap before number _ need shown shows = shows
 
-pub spine_keeps : (heap : Heap) (before : List Entry) (number : ℕ) (command : Command) (need shown : ℕ) → FindsSpine heap true before number shown
+pub keeps_space_of_spine_refusal : (heap : Heap) (before : List Entry) (number : ℕ) (command : Command) (need shown : ℕ) → FindsSpine heap true before number shown
     → KeepsSpace heap false before (entries.Said number command (replies.SpineFull need shown)) → KeepsSpace heap true before (entries.Said number command (replies.SpineFull need shown))
-spine_keeps heap before number command need shown finds keeps = record {
+keeps_space_of_spine_refusal heap before number command need shown finds keeps = record {
   takes = tt;
   makes = keeps.makes;
   refuses = tt;
@@ -111,11 +111,11 @@ spine_keeps heap before number command need shown finds keeps = record {
 }
 
 -- each entry of a legal history keeps the rules after those before it
-pub keeps_there : (heap : Heap) (play : Bool) (before history rest : List Entry) (entry : Entry) → KeepsSpaceAfter heap play before (history ++ entry ∷ rest)
+pub keeps_space_of_each_entry : (heap : Heap) (play : Bool) (before history rest : List Entry) (entry : Entry) → KeepsSpaceAfter heap play before (history ++ entry ∷ rest)
     → KeepsSpace heap play (before ++ history) entry
-keeps_there heap play before [] rest entry kept = subst (λ es. KeepsSpace heap play es entry) (sym (append-nil before)) kept.0
-keeps_there heap play before (first ∷ history) rest entry kept =
-    subst (λ es. KeepsSpace heap play es entry) (append_assoc before (first ∷ []) history) (keeps_there heap play (before ++ first ∷ []) history rest entry kept.1)
+keeps_space_of_each_entry heap play before [] rest entry kept = subst (λ es. KeepsSpace heap play es entry) (sym (append-nil before)) kept.0
+keeps_space_of_each_entry heap play before (first ∷ history) rest entry kept =
+    subst (λ es. KeepsSpace heap play es entry) (append_assoc before (first ∷ []) history) (keeps_space_of_each_entry heap play (before ++ first ∷ []) history rest entry kept.1)
 
 -- each entry may stand in a play where it may in a run
 abbrev pub MayPlay : Heap → List Entry → List Entry → Type 0
@@ -123,8 +123,8 @@ MayPlay heap before [] = Unit {0}
 MayPlay heap before (entry ∷ rest) = (KeepsSpace heap false before entry → KeepsSpace heap true before entry) × MayPlay heap (before ++ entry ∷ []) rest
 
 -- a play's history with such entries
-pub play_more : (heap : Heap) (before added : List Entry) → MayPlay heap before added → IsLegal heap true before → IsLegal heap false (before ++ added) → IsLegal heap true (before ++ added)
-play_more heap before added may play run = record { objects = run.objects; space = space_more before added may play.space run.space }
+pub legal_play_grows : (heap : Heap) (before added : List Entry) → MayPlay heap before added → IsLegal heap true before → IsLegal heap false (before ++ added) → IsLegal heap true (before ++ added)
+legal_play_grows heap before added may play run = record { objects = run.objects; space = space_more before added may play.space run.space }
   where
     space_more : (before added : List Entry) → MayPlay heap before added → KeepsSpaceAfter heap true [] before → KeepsSpaceAfter heap false [] (before ++ added)
         → KeepsSpaceAfter heap true [] (before ++ added)
@@ -132,7 +132,7 @@ play_more heap before added may play run = record { objects = run.objects; space
     space_more before (entry ∷ rest) may play run =
         subst (KeepsSpaceAfter heap true []) (append_assoc before (entry ∷ []) rest)
         (space_more (before ++ entry ∷ []) rest may.1
-        (KeepsSpaceAfter-more heap {play = true} [] before entry play (may.0 (keeps_there heap false [] before rest entry run)))
+        (KeepsSpaceAfter-more heap {play = true} [] before entry play (may.0 (keeps_space_of_each_entry heap false [] before rest entry run)))
         (subst (KeepsSpaceAfter heap false []) (sym (append_assoc before (entry ∷ []) rest)) run))
 
 -- where all entries are the seat's, the others did nothing, and nothing was freed
@@ -158,14 +158,14 @@ none_freed number (entry ∷ since) own = rw (sum_by-cons (λ e. (effect_of e).f
     by_test false rest both first more = cc
 
 -- after a gather over all groups that found too little, with no step of others since, what was found is what is there
-pub finds_in_play : (heap : Heap) (owner : ℕ → Owner) (history : List Entry) (number begun cursor given reserve : ℕ) → cursor < heap.groups
+pub finds_space_in_play : (heap : Heap) (owner : ℕ → Owner) (history : List Entry) (number begun cursor given reserve : ℕ) → cursor < heap.groups
     → AreUsed heap owner history → reserve + spent_of number history ≡ taken_of number history
     → list_all (is_of number) (drop begun history) ≡ true
     → GathersRight heap owner number (drop begun history) cursor heap.groups given
     → FindsSpace heap true history number (reserve + given)
-finds_in_play heap owner history number begun cursor given reserve within used own alone gathers =
-    let all = taken_and_free (16 * heap.groups) owner in
-    let passed = passed_all heap owner cursor within in
+finds_space_in_play heap owner history number begun cursor given reserve within used own alone gathers =
+    let all = taken_and_free_make_all (16 * heap.groups) owner in
+    let passed = all_passed_is_all_free heap owner cursor within in
     let freed = none_freed number (drop begun history) alone in
     let gave = others_nothing number (λ e. e.given) (drop begun history) alone in
     let took = others_nothing number (λ e. e.taken) (drop begun history) alone in

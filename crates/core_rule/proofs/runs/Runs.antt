@@ -12,9 +12,9 @@ use Rattle.heap_model.specs.Heap.{IsHeap}
 use Rattle.core_machine.specs.machine.Opening.{IsOpening}
 use Rattle.core_rule.specs.looks.Looks.{LooksStand}
 use Rattle.core_rule.specs.Stands.{Stands}
-use Rattle.core_rule.proofs.sweep_exact.EndsRightly.{ends_rightly}
-use Rattle.core_rule.proofs.footprint.SeatCycle.{step_cycle, begin_cycle, inner_cycle}
-use Rattle.core_rule.proofs.footprint.TurnCycle.{turn_cycle}
+use Rattle.core_rule.proofs.sweep_exact.EndsRightly.{cycle_ends_rightly}
+use Rattle.core_rule.proofs.footprint.SeatCycle.{stands_after_seat_step, stands_after_begin, stands_after_inner_begin}
+use Rattle.core_rule.proofs.footprint.TurnCycle.{stands_after_turn}
 use Rattle.core_rule.proofs.steps.Assemble.{Keeps}
 use Rattle.core_rule.proofs.entries.Begins.{begins}
 use Rattle.core_rule.proofs.steps.TurnSteps.{MayEnd}
@@ -41,8 +41,8 @@ EachTurnKeeps = (heap : Heap) (state : State) (book : Book) → Rule heap state 
     → IsMachine heap (state_after heap state Turns) → Keeps heap state (state_after heap state Turns) book book.begun (entries heap state Turns)
 
 -- who makes a step is a seat
-pub seat_of_step : (heap : Heap) (state : State) (book : Book) (number : ℕ) → Rule heap state book → Can heap state (Steps number) → number < heap.seats
-seat_of_step heap state book number rule can = elim (leb_tells heap.seats number) as (λ _. number < heap.seats) [
+pub stepping_seat_is_there : (heap : Heap) (state : State) (book : Book) (number : ℕ) → Rule heap state book → Can heap state (Steps number) → number < heap.seats
+stepping_seat_is_there heap state book number rule can = elim (leb_tells heap.seats number) as (λ _. number < heap.seats) [
   | inl past ↦ absurd (nothing_due (seat_at state number) (get_or-eq_default state.seats absent_seat (rw rule.machine.seated past.1)) can)
   | inr below ↦ below.1
 ]
@@ -63,18 +63,18 @@ pub each_event_keeps : MachineStays → EachStepKeeps → EachBeginKeeps → Eac
 each_event_keeps stays steps begin inners turn heap state book (Begins number command) stands can =
     let here : number < heap.seats = rw (← stands.rule.machine.seated) can.0 in
     let keeps = begin heap state book number command stands.rule can (stays heap state (Begins number command) stands.rule.machine can) in
-    record { book = keeps.now; grown = keeps.grown; stands = begin_cycle heap state book stands number here command (begins number (length book.history) book.begun) can keeps }
+    record { book = keeps.now; grown = keeps.grown; stands = stands_after_begin heap state book stands number here command (begins number (length book.history) book.begun) can keeps }
 each_event_keeps stays steps begin inners turn heap state book (BeginsInner number inner) stands can =
     let here : number < heap.seats = rw (← stands.rule.machine.seated) can.0 in
     let keeps = inners heap state book number inner stands.rule can (stays heap state (BeginsInner number inner) stands.rule.machine can) in
-    record { book = keeps.now; grown = keeps.grown; stands = inner_cycle heap state book stands number here inner (begins number (length book.history) book.begun) can keeps }
+    record { book = keeps.now; grown = keeps.grown; stands = stands_after_inner_begin heap state book stands number here inner (begins number (length book.history) book.begun) can keeps }
 each_event_keeps stays steps begin inners turn heap state book (Steps number) stands can =
-    let here : number < heap.seats = seat_of_step heap state book number stands.rule can in
+    let here : number < heap.seats = stepping_seat_is_there heap state book number stands.rule can in
     let keeps = steps heap state book number stands.rule here (stands.looks number here) (stays heap state (Steps number) stands.rule.machine can) in
-    record { book = keeps.now; grown = keeps.grown; stands = step_cycle heap state book stands number here keeps }
+    record { book = keeps.now; grown = keeps.grown; stands = stands_after_seat_step heap state book stands number here keeps }
 each_event_keeps stays steps begin inners turn heap state book Turns stands can =
-    let keeps = turn heap state book stands.rule (ends_rightly heap state book stands) can (stays heap state Turns stands.rule.machine can) in
-    record { book = keeps.now; grown = keeps.grown; stands = turn_cycle heap state book stands state.collector.stage refl keeps }
+    let keeps = turn heap state book stands.rule (cycle_ends_rightly heap state book stands) can (stays heap state Turns stands.rule.machine can) in
+    record { book = keeps.now; grown = keeps.grown; stands = stands_after_turn heap state book stands state.collector.stage refl keeps }
 
 -- each run keeps the rule
 run_keeps : EachEventKeeps → (heap : Heap) (state : State) (book : Book) (events : List Event) → Stands heap state book → Run heap state events

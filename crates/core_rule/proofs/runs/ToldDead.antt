@@ -3,18 +3,18 @@ use Rattle.std.proofs.Common.{◌≡◌, ℕ, zero, suc, ◌+◌, ◌*◌, ◌==
 use Rattle.core_rule.proofs.Terms.{Heap, graph_of, Node, spine_words_of, turn_at, IsExamining, Word, State, found_by, at, Book, IsDeadTold, EachDeadIsTold, node_at, IsSized, Dead}
 use Rattle.core_rule.proofs.Terms.{dead_bit, Rule, SweepStands, AreDead}
 use Rattle.core_machine.specs.declared.collector.stage.Stage.TheVariants as stages
-use Rattle.core_rule.proofs.owners.OwnerLemmas.{is_dead}
-use Rattle.core_rule.proofs.ways.KeptWords.{array_has_words}
-use Rattle.core_rule.proofs.dying.DeadWords.{none_behind}
+use Rattle.core_rule.proofs.owners.OwnerLemmas.{dead_bit_is_dead}
+use Rattle.core_rule.proofs.ways.KeptWords.{array_has_spine_words}
+use Rattle.core_rule.proofs.dying.DeadWords.{no_words_behind_first}
 
 -- an array's first fragment has spine words, and no other has
 words_some : (object : Node) (part n : ℕ) → IsSized object.array (length object.cells) → n ≡ (if part == 0 then spine_words_of object else 0)
     → part ≡ 0 → object.array ≡ true → 0 < n
-words_some object zero n sized is first kind = omega (arith, is, array_has_words object sized kind)
+words_some object zero n sized is first kind = omega (arith, is, array_has_spine_words object sized kind)
 words_some object (suc part) n sized is first kind = absurd (omega (arith, first))
 
 words_only : (object : Node) (part n : ℕ) → n ≡ (if part == 0 then spine_words_of object else 0) → 0 < n → (part ≡ 0) × (object.array ≡ true)
-words_only object (suc part) n is more = let none : n ≡ 0 = is ∙ none_behind (suc part) (spine_words_of object) (omega arith) in absurd (omega (arith, none, more))
+words_only object (suc part) n is more = let none : n ≡ 0 = is ∙ no_words_behind_first (suc part) (spine_words_of object) (omega arith) in absurd (omega (arith, none, more))
 words_only object zero n is more = (refl, by object.array refl)
   where
     by : (array : Bool) → object.array ≡ array → object.array ≡ true
@@ -48,7 +48,7 @@ module _ (heap : Heap) (state : State) (book : Book) (rule : Rule heap state boo
     pub examined_told : IsDeadTold heap book (16 * group + place) (found_by heap state (turn_at heap state.collector (stages.Examining group dead place words)).step)
     examined_told =
         let one : dead_bit (book.owner (16 * group + place)) ≡ 1 = sym (are place fits.place_within) ∙ fits.is_dead in
-        let is = is_dead (book.owner (16 * group + place)) one in
+        let is = dead_bit_is_dead (book.owner (16 * group + place)) one in
         dead_told (16 * group + place) is.0 is.1 is.2
 
 pub each_dead_is_told : EachDeadIsTold

@@ -4,9 +4,9 @@ use Rattle.std.specs.Prelude.{if◌then◌else◌}
 use Rattle.std.proofs.lemmas.Bool.Decides.{nat_tests}
 use Rattle.core_rule.proofs.Terms.{Heap, Stage, sum_upto, tally, fragment_at, SweepCounts, kept_weight, dead_weight, kept_sum, dead_sum, Owner, Kept, Dead}
 use Rattle.core_machine.specs.declared.collector.stage.Stage.TheVariants as stages
-use Rattle.core_machine.proofs.table_lemmas.Free.{sum_same, sum_but_one}
-use Rattle.core_rule.proofs.lists.Members.{place_of, place_within, place_of-at, tally_at}
-use Rattle.core_rule.proofs.owners.Keeping.{kept_by, kept_cases}
+use Rattle.core_machine.proofs.table_lemmas.Free.{sum_of_same_functions, sum_but_one_number}
+use Rattle.core_rule.proofs.lists.Members.{place_of, element_stands_at_place, place_of_element_is_place, element_is_tallied}
+use Rattle.core_rule.proofs.owners.Keeping.{kept_by, kept_by_cases}
 
 -- what isn't kept weighs nothing, nor what is no object's first part
 unkept_weight : (weight : ℕ → ℕ) (o : Owner) → ((i k : ℕ) → o ≢ Kept i k) → kept_weight weight o ≡ 0
@@ -31,20 +31,20 @@ module _ (n : ℕ) (owner : ℕ → Owner) (body : List ℕ) (weight now_weight 
   dead_weight_on _ older = refl
 
   -- so all that is kept weighs as much more as the new object
-  pub kept_born : (heap : Heap) → 1 ≤ length body → ((f : ℕ) → tally f body ≤ 1) → ((f : ℕ) → 1 ≤ tally f body → f < 16 * heap.groups) → ((f i k : ℕ) → 1 ≤ tally f body → owner f ≢ Kept i k)
+  pub kept_sum_after_birth : (heap : Heap) → 1 ≤ length body → ((f : ℕ) → tally f body ≤ 1) → ((f : ℕ) → 1 ≤ tally f body → f < 16 * heap.groups) → ((f i k : ℕ) → 1 ≤ tally f body → owner f ≢ Kept i k)
       → ((f i k : ℕ) → owner f ≡ Kept i k → i < n) → kept_sum heap now_weight now ≡ kept_sum heap weight owner + now_weight n
-  kept_born heap some once inside unkept older =
+  kept_sum_after_birth heap some once inside unkept older =
       let head : ℕ = fragment_at body 0 in
-      let there : 1 ≤ tally head body = tally_at body 0 some in
-      let first : place_of head body ≡ 0 = place_of-at body 0 once some in
-      let sums = sum_but_one (16 * heap.groups) (λ f. kept_weight now_weight (now f)) (λ f. kept_weight weight (owner f)) head (inside head there) (λ f below apart. others f apart) in
+      let there : 1 ≤ tally head body = element_is_tallied body 0 some in
+      let first : place_of head body ≡ 0 = place_of_element_is_place body 0 once some in
+      let sums = sum_but_one_number (16 * heap.groups) (λ f. kept_weight now_weight (now f)) (λ f. kept_weight weight (owner f)) head (inside head there) (λ f below apart. others f apart) in
       let whole : kept_weight now_weight (now head) ≡ now_weight n
-      = kept_cases n body owner (λ o. kept_weight now_weight o ≡ now_weight n) head (λ is. rw first refl) (λ away. absurd (omega (arith, there, away))) in
+      = kept_by_cases n body owner (λ o. kept_weight now_weight o ≡ now_weight n) head (λ is. rw first refl) (λ away. absurd (omega (arith, there, away))) in
       omega (arith, sums, whole, unkept_weight weight (owner head) (λ i k. unkept head i k there))
     where
       others : (f : ℕ) → f ≢ fragment_at body 0 → kept_weight now_weight (now f) ≡ kept_weight weight (owner f)
-      others f apart = kept_cases n body owner (λ o. kept_weight now_weight o ≡ kept_weight weight (owner f)) f
-          (λ there. later (place_of f body) (λ first. apart (sym (place_within f body there).1 ∙ ap (fragment_at body) first)) ∙ sym (unkept_weight weight (owner f) (λ i k. unkept f i k there)))
+      others f apart = kept_by_cases n body owner (λ o. kept_weight now_weight o ≡ kept_weight weight (owner f)) f
+          (λ there. later (place_of f body) (λ first. apart (sym (element_stands_at_place f body there).1 ∙ ap (fragment_at body) first)) ∙ sym (unkept_weight weight (owner f) (λ i k. unkept f i k there)))
           (λ away. kept_weight_on (owner f) (older f))
         where
           later : (k : ℕ) → k ≢ 0 → kept_weight now_weight (Kept n k) ≡ 0
@@ -52,19 +52,19 @@ module _ (n : ℕ) (owner : ℕ → Owner) (body : List ℕ) (weight now_weight 
 
   -- and what is to be freed weighs what it weighed
   dead_stays : ((f i k : ℕ) → 1 ≤ tally f body → owner f ≢ Dead i k) → ((f i k : ℕ) → owner f ≡ Dead i k → i < n) → (f : ℕ) → dead_weight now_weight (now f) ≡ dead_weight weight (owner f)
-  dead_stays undead older f = kept_cases n body owner (λ o. dead_weight now_weight o ≡ dead_weight weight (owner f)) f
+  dead_stays undead older f = kept_by_cases n body owner (λ o. dead_weight now_weight o ≡ dead_weight weight (owner f)) f
       (λ there. sym (undead_weight weight (owner f) (λ i k. undead f i k there)))
       (λ away. dead_weight_on (owner f) (older f))
 
   module _ (undead : (f i k : ℕ) → 1 ≤ tally f body → owner f ≢ Dead i k) (older : (f i k : ℕ) → owner f ≡ Dead i k → i < n) where
-    pub dead_born : (heap : Heap) → dead_sum heap now_weight now ≡ dead_sum heap weight owner
-    dead_born heap = sum_same (16 * heap.groups) (λ f. dead_weight now_weight (now f)) (λ f. dead_weight weight (owner f)) (λ f below. dead_stays undead older f)
+    pub dead_sum_after_birth : (heap : Heap) → dead_sum heap now_weight now ≡ dead_sum heap weight owner
+    dead_sum_after_birth heap = sum_of_same_functions (16 * heap.groups) (λ f. dead_weight now_weight (now f)) (λ f. dead_weight weight (owner f)) (λ f below. dead_stays undead older f)
 
     -- so the sweep has counted what it counted
     group_born : (group m : ℕ) → sum_upto m (λ j. dead_weight now_weight (now (16 * group + j))) ≡ sum_upto m (λ j. dead_weight weight (owner (16 * group + j)))
-    group_born group m = sum_same m (λ j. dead_weight now_weight (now (16 * group + j))) (λ j. dead_weight weight (owner (16 * group + j))) (λ j below. dead_stays undead older (16 * group + j))
+    group_born group m = sum_of_same_functions m (λ j. dead_weight now_weight (now (16 * group + j))) (λ j. dead_weight weight (owner (16 * group + j))) (λ j below. dead_stays undead older (16 * group + j))
 
-    pub counts_born : (stage : Stage) → SweepCounts weight owner stage → SweepCounts now_weight now stage
-    counts_born (stages.Examining group dead place counted) is = is ∙ sym (group_born group place)
-    counts_born (stages.Freeing group dead counted) is = is ∙ sym (group_born group 16)
-    counts_born _ is = tt
+    pub sweep_counts_after_birth : (stage : Stage) → SweepCounts weight owner stage → SweepCounts now_weight now stage
+    sweep_counts_after_birth (stages.Examining group dead place counted) is = is ∙ sym (group_born group place)
+    sweep_counts_after_birth (stages.Freeing group dead counted) is = is ∙ sym (group_born group 16)
+    sweep_counts_after_birth _ is = tt

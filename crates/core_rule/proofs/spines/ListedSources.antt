@@ -17,20 +17,20 @@ use Rattle.core_machine.specs.declared.collector.stage.Copying.TheVariants as co
 use Rattle.core_machine.specs.declared.collector.stage.SpineCopy.{SpineCopy}
 use Rattle.core_machine.specs.declared.collector.stage.Stage.TheVariants as stages
 use Rattle.core_machine.specs.declared.place.Place.TheVariants as places
-use Rattle.core_rule.proofs.colours.LeadsFrames.{SameSources, leads_same}
-use Rattle.core_rule.proofs.colours.NoSpines.{newborn_no_spine}
+use Rattle.core_rule.proofs.colours.LeadsFrames.{SameSources, led_before_where_same}
+use Rattle.core_rule.proofs.colours.NoSpines.{newborn_tells_no_spine}
 use Rattle.core_rule.proofs.entries.AtRest.{seat_fits}
-use Rattle.core_rule.proofs.frames.BesideFrames.{LeavesBeside, beside_spine, ArraysStay}
-use Rattle.core_rule.proofs.held.BodyWords.{bearing}
-use Rattle.core_rule.proofs.lists.Members.{place_of, place_within}
-use Rattle.core_rule.proofs.marking.KeptSources.{kept_sources}
-use Rattle.core_rule.proofs.marking.Marks.{unsettled}
-use Rattle.core_rule.proofs.objects.LastBirth.{all_stored}
-use Rattle.core_rule.proofs.owners.Seated.{borne_by_seat}
-use Rattle.core_rule.proofs.objects.SpinePlaces.{place_fits}
+use Rattle.core_rule.proofs.frames.BesideFrames.{LeavesBeside, leaves_beside_spine_word, ArraysStay}
+use Rattle.core_rule.proofs.held.BodyWords.{bearing_has_stored_all}
+use Rattle.core_rule.proofs.lists.Members.{place_of, element_stands_at_place}
+use Rattle.core_rule.proofs.marking.KeptSources.{same_sources_of_kept}
+use Rattle.core_rule.proofs.marking.Marks.{marking_is_not_settled}
+use Rattle.core_rule.proofs.objects.LastBirth.{all_words_are_stored}
+use Rattle.core_rule.proofs.owners.Seated.{borne_is_in_seat_body}
+use Rattle.core_rule.proofs.objects.SpinePlaces.{owned_place_fits_spot}
 use Rattle.core_rule.proofs.spines.SpineFrames.{PlacesStay}
-use Rattle.core_rule.proofs.spines.SpineStores.{unowned, others_stored, gone_stored, arrays_stored}
-use Rattle.core_rule.proofs.ways.ArrayWords.{words_in-meta, spot_in-word}
+use Rattle.core_rule.proofs.spines.SpineStores.{unlisted_word_same_after_listing, others_word_same_after_listing, gone_word_same_after_listing, array_word_same_after_listing}
+use Rattle.core_rule.proofs.ways.ArrayWords.{spine_words_in-meta, spot_in-word}
 
 -- an object that makes an array needs a fragment
 needs_some : (command : Command) → IsArrayCall command → 1 ≤ need_of command
@@ -42,8 +42,8 @@ module _ (name : Name) (spine : Spot) (body : List ℕ) (small : (i : ℕ) → i
   newborn_spine : (command : Command) → MakesObject command → IsCommand command → (k j : ℕ) → j < spine_words_in (newborn_word command name spine body k 0)
       → (IsArrayCall command) × (j < spine_need_of command) × (newborn_word command name spine body k 2 ≡ spot_word spine)
   newborn_spine (commands.New d fields) made range k j less =
-      let none : spine_words_in (newborn_word (commands.New d fields) name spine body k 0) ≡ 0 = newborn_no_spine body small name fields k (omega (arith, range.1.1)) in absurd (omega (arith, less, none))
-  newborn_spine (commands.Array d cells) made range zero j less = (tt, omega (arith, less, words_in-meta cells (omega (arith, range.1.1))), refl)
+      let none : spine_words_in (newborn_word (commands.New d fields) name spine body k 0) ≡ 0 = newborn_tells_no_spine body small name fields k (omega (arith, range.1.1)) in absurd (omega (arith, less, none))
+  newborn_spine (commands.Array d cells) made range zero j less = (tt, omega (arith, less, spine_words_in-meta cells (omega (arith, range.1.1))), refl)
   newborn_spine (commands.Array d cells) made range (suc k) j less =
       let later : eqb (suc k) 0 ≡ false = grind arith in
       let none : spine_words_in (newborn_word (commands.Array d cells) name spine body (suc k) 0) ≡ 0 = rw later refl in
@@ -64,7 +64,7 @@ settled_or_not phase stage = elim (cases_eq (phase % cycle_phases) copying_phase
     | inr no_sweeps ↦ elim (cases_eq (phase % cycle_phases) marking_phase) as (λ _. IsSettled phase stage ⊎ (¬ IsSettled phase stage)) [
       | inl third ↦ elim (ended_or_not stage) as (λ _. IsSettled phase stage ⊎ (¬ IsSettled phase stage)) [
         | inl ended ↦ inl (inl (third, ended))
-        | inr goes ↦ inr (unsettled phase stage third goes)
+        | inr goes ↦ inr (marking_is_not_settled phase stage third goes)
       ]
       | inr other ↦ inr (never no_copies no_sweeps other)
     ]
@@ -93,8 +93,8 @@ module _ (heap : Heap) (state : State) (book : Book) (rule : Rule heap state boo
   stands : SeatStands heap state.words book number seat
   stands = rule.seats_stand number here
 
-  pub has : HasPlace seat seat.place
-  has = subst (HasPlace seat) (sym place) fits.0.1
+  pub listing_has_place : HasPlace seat seat.place
+  listing_has_place = subst (HasPlace seat) (sym place) fits.0.1
 
   small : seat.spine.half < 2
   small = (seat_fits rule number here).hand.spine_within.half_within
@@ -103,24 +103,24 @@ module _ (heap : Heap) (state : State) (book : Book) (rule : Rule heap state boo
   abbrev pub words_now : List ℕ
   words_now = put heap state.words (spine_place seat.spine seat.listed) n
 
-  pub beside_listed : LeavesBeside heap state.words words_now
-  beside_listed = beside_spine heap state.words (spine_place seat.spine seat.listed) n (omega arith)
+  pub leaves_beside_after_listing : LeavesBeside heap state.words words_now
+  leaves_beside_after_listing = leaves_beside_spine_word heap state.words (spine_place seat.spine seat.listed) n (omega arith)
 
   -- each word that is somebody's stands in one of the two halves
   in_halves : (half offset : ℕ) → book.spine_owner half offset ≢ Open → half < 2
-  in_halves half offset some = (place_fits heap state book rule.machine.limits rule.space.halves half offset some).half_within
+  in_halves half offset some = (owned_place_fits_spot heap state book rule.machine.limits rule.space.halves half offset some).half_within
 
   -- the spines of kept arrays stay
-  pub arrays_listed : ArraysStay heap state.words words_now book
-  arrays_listed = arrays_stored heap state.words book.spine_owner number seat stands.own.spine has fits.1 small n in_halves heap.seats (length book.made) (node_at (graph_of heap book.history) book.made)
+  pub arrays_stay_after_listing : ArraysStay heap state.words words_now book
+  arrays_stay_after_listing = array_word_same_after_listing heap state.words book.spine_owner number seat stands.own.spine listing_has_place fits.1 small n in_halves heap.seats (length book.made) (node_at (graph_of heap book.history) book.made)
       book.owner book.fragments book.spines rule.heap_stands.spines
 
   -- so do the words that arrays have left
-  pub places_listed : PlacesStay heap state.words words_now (length book.made) book.spines book.spines book.spine_owner book.spine_owner
-  places_listed = record {
+  pub places_stay_after_listing : PlacesStay heap state.words words_now (length book.made) book.spines book.spines book.spine_owner book.spine_owner
+  places_stay_after_listing = record {
     stay = λ i below. refl;
     gone = λ half offset is. is;
-    as_were = gone_stored heap state.words book.spine_owner number seat stands.own.spine has fits.1 small n in_halves;
+    as_were = gone_word_same_after_listing heap state.words book.spine_owner number seat stands.own.spine listing_has_place fits.1 small n in_halves;
   }
 
   -- and what the collector has copied
@@ -132,12 +132,12 @@ module _ (heap : Heap) (state : State) (book : Book) (rule : Rule heap state boo
       let begins = copies.found.begins in
       let there = rule.heap_stands.objects.back (sentinel_at copy.array) begins.index 0 begins.kept in
       let within : j < copy.array.words = omega (arith, less, few) in
-      let to = others_stored heap state.words book.spine_owner number seat stands.own.spine has fits.1 small n in_halves copy.to.half (copy.to.offset + j) heap.seats j (λ e. omega (arith, e, here)) (placed j within) in
-      let from = arrays_listed begins.index j there.0 there.1 (subst (λ m. j < m) begins.as_many within) in
+      let to = others_word_same_after_listing heap state.words book.spine_owner number seat stands.own.spine listing_has_place fits.1 small n in_halves copy.to.half (copy.to.offset + j) heap.seats j (λ e. omega (arith, e, here)) (placed j within) in
+      let from = arrays_stay_after_listing begins.index j there.0 there.1 (subst (λ m. j < m) begins.as_many within) in
       to ∙ copied j less ∙ sym (subst (λ (s : Spot). at heap words_now (spine_place s j) ≡ at heap state.words (spine_place s j)) (sym copies.own) from)
 
-  pub copy_listed : CopyInHand heap words_now book.spine_owner state.collector.stage
-  copy_listed =
+  pub copy_in_hand_after_listing : CopyInHand heap words_now book.spine_owner state.collector.stage
+  copy_in_hand_after_listing =
       let halves = rule.space.halves in
       record {
         placed = halves.copy.placed;
@@ -155,22 +155,22 @@ module _ (heap : Heap) (state : State) (book : Book) (rule : Rule heap state boo
       by (stages.Copying (copying.Swinging copy)) fit copies placed copied = copied_listed copy copies.0 fit.1.0.index_within placed copied
       by _ fit copies placed copied = tt
 
-  pub kept_listed : (f i k : ℕ) → book.owner f ≡ Kept i k → SameSources heap state.words words_now f
-  kept_listed = kept_sources heap state book rule words_now beside_listed.parts arrays_listed
+  pub kept_sources_after_listing : (f i k : ℕ) → book.owner f ≡ Kept i k → SameSources heap state.words words_now f
+  kept_sources_after_listing = same_sources_of_kept heap state book rule words_now leaves_beside_after_listing.parts arrays_stay_after_listing
 
   -- and those of arrays that others bear
-  pub borne_listed : (f r : ℕ) → book.owner f ≡ Borne r → SameSources heap state.words words_now f
-  borne_listed f r bears =
-      let there = borne_by_seat heap state book rule r f bears in
+  pub borne_sources_after_listing : (f r : ℕ) → book.owner f ≡ Borne r → SameSources heap state.words words_now f
+  borne_sources_after_listing f r bears =
+      let there = borne_is_in_seat_body heap state book rule r f bears in
       let other : Seat = seat_at state r in
       let other_fits : Fits heap other = seat_fits rule r there.0 in
-      let its = bearing heap state book rule r f bears other.place other_fits.at_place in
-      let at_body = place_within f other.body there.1 in
+      let its = bearing_has_stored_all heap state book rule r f bears other.place other_fits.at_place in
+      let at_body = element_stands_at_place f other.body there.1 in
       let k : ℕ = place_of f other.body in
-      let stored = all_stored heap state.words other.body (newborn_word_of r other) other.stored its.1 (rule.seats_stand r there.0).own.stored in
+      let stored = all_words_are_stored heap state.words other.body (newborn_word_of r other) other.stored its.1 (rule.seats_stand r there.0).own.stored in
       let within : f < 16 * heap.groups = subst (λ x. x < 16 * heap.groups) at_body.1 (other_fits.hand.body_within k 0 at_body.0) in
       record {
-        parts = λ part below. beside_listed.parts f part within below;
+        parts = λ part below. leaves_beside_after_listing.parts f part within below;
         spine = λ j less.
             let first : at heap state.words (Word f 0) ≡ newborn_word_of r other k 0 = subst (λ x. at heap state.words (Word x 0) ≡ newborn_word_of r other k 0) at_body.1 (stored k 0 at_body.0 (omega arith)) in
             let third : at heap state.words (Word f 2) ≡ newborn_word_of r other k 2 = subst (λ x. at heap state.words (Word x 2) ≡ newborn_word_of r other k 2) at_body.1 (stored k 2 at_body.0 (omega arith)) in
@@ -180,7 +180,7 @@ module _ (heap : Heap) (state : State) (book : Book) (rule : Rule heap state boo
             let spot : spot_in (at heap state.words (Word f 2)) ≡ other.spine = ap spot_in (third ∙ newborn.2) ∙ spot_in-word other.spine other_fits.hand.spine_within in
             let owned = (rule.seats_stand r there.0).own.spine.placed (its.3 newborn.0) j newborn.1 in
             subst (λ (s : Spot). at heap words_now (spine_place s j) ≡ at heap state.words (spine_place s j)) (sym spot)
-            (unowned heap state.words book.spine_owner number seat stands.own.spine has fits.1 small n other.spine.half (other.spine.offset + j) other_fits.hand.spine_within.half_within
+            (unlisted_word_same_after_listing heap state.words book.spine_owner number seat stands.own.spine listing_has_place fits.1 small n other.spine.half (other.spine.offset + j) other_fits.hand.spine_within.half_within
             (λ mine. another r its.1 its.0.whole (placed_by r number j seat.listed _ owned mine) newborn.0));
       }
     where
@@ -194,12 +194,12 @@ module _ (heap : Heap) (state : State) (book : Book) (rule : Rule heap state boo
           omega (arith, none, all, whole, needs_some (seat_at state r).command array)
 
   -- and so are those of what is black
-  pub black_listed : (f source x : ℕ) → book.colour f ≡ Black → WordPointsTo heap words_now f source x → WordPointsTo heap state.words f source x
-  black_listed f source x dark leads = by (book.owner f) refl (rule.heap_stands.cycle.coloured.born f (λ white. absurd (cc (dark, white))))
+  pub black_led_before_listing : (f source x : ℕ) → book.colour f ≡ Black → WordPointsTo heap words_now f source x → WordPointsTo heap state.words f source x
+  black_led_before_listing f source x dark leads = by (book.owner f) refl (rule.heap_stands.cycle.coloured.born f (λ white. absurd (cc (dark, white))))
     where
       by : (o : Owner) → book.owner f ≡ o → born_bit (book.owner f) ≡ 1 → WordPointsTo heap state.words f source x
       by Free is born = absurd (let none : born_bit (book.owner f) ≡ 0 = ap born_bit is in omega (arith, none, born))
       by (Taken r) is born = absurd (let none : born_bit (book.owner f) ≡ 0 = ap born_bit is in omega (arith, none, born))
-      by (Borne r) is born = leads_same heap state.words words_now f (borne_listed f r is) source x leads
-      by (Kept i k) is born = leads_same heap state.words words_now f (kept_listed f i k is) source x leads
+      by (Borne r) is born = led_before_where_same heap state.words words_now f (borne_sources_after_listing f r is) source x leads
+      by (Kept i k) is born = led_before_where_same heap state.words words_now f (kept_sources_after_listing f i k is) source x leads
       by (Dead i k) is born = absurd (cc (dark, dead_is_white heap state book rule f i k is))

@@ -6,12 +6,12 @@ use Rattle.std.proofs.lemmas.Bool.Decides.{eqb_tells, nat_tests}
 use Rattle.heap_words.specs.declared.spot.Spot.{Spot}
 use Rattle.core_rule.proofs.Terms.{Heap, Node, spine_words_of, Seat, spine_need, tally, fragment_at, IsKept, Owner, Kept, SpineOwner, Open, Placed, Spined, Gone, SpinesStand}
 use Rattle.core_rule.proofs.Terms.{SpineInHand, HasPlace, IsWordOf}
-use Rattle.core_rule.proofs.graph.SameNodes.{SameShape, shape_words}
-use Rattle.core_rule.proofs.objects.ObjectsGrowth.{with_spine, spine_new, spine_old}
-use Rattle.core_rule.proofs.owners.Keeping.{kept_by, with_object, object_new, object_old, kept_was, kept_stays}
+use Rattle.core_rule.proofs.graph.SameNodes.{SameShape, same_shape_same_words}
+use Rattle.core_rule.proofs.objects.ObjectsGrowth.{with_spine, new_spine_is_spine, old_spine_stays}
+use Rattle.core_rule.proofs.owners.Keeping.{kept_by, with_object, new_object_has_body, old_object_keeps_fragments, kept_by_others_was, kept_by_others_stays}
 use Rattle.core_rule.proofs.spines.OtherWords.{LeavesSpines}
 use Rattle.core_rule.proofs.spines.SpineFrames.{SpinesLeft}
-use Rattle.core_rule.proofs.dying.DeadWords.{DeadStay, dead_tell}
+use Rattle.core_rule.proofs.dying.DeadWords.{DeadStay, dead_tell_still}
 
 -- whose a spine word is once the seat's are those of the object of this number
 abbrev pub born_word : ℕ → ℕ → SpineOwner → SpineOwner
@@ -52,24 +52,24 @@ module _ (number n : ℕ) where
   arrays_were P _ i k is old new = absurd (cc)
 
   -- nobody's were so
-  pub open_was : (o : SpineOwner) → o ≡ Open → born_word number n o ≡ Open
-  open_was o is = ap (born_word number n) is
+  pub open_was_open : (o : SpineOwner) → o ≡ Open → born_word number n o ≡ Open
+  open_was_open o is = ap (born_word number n) is
 
   -- each other party has what it had
-  pub born_leaves : (spine_owner : ℕ → ℕ → SpineOwner) (r : ℕ) → r ≢ number → SpinesLeft r spine_owner (born_words number n spine_owner)
-  born_leaves spine_owner r apart = record {
+  pub spines_left_after_birth : (spine_owner : ℕ → ℕ → SpineOwner) (r : ℕ) → r ≢ number → SpinesLeft r spine_owner (born_words number n spine_owner)
+  spines_left_after_birth spine_owner r apart = record {
     stays = λ half offset k is. born_other _ r k apart is;
     own = λ half offset k is. (seats_were (spine_owner half offset) r k is).0;
   }
 
   -- and what arrays have left stays left
-  pub born_gone : (o : SpineOwner) → o ≡ Gone → born_word number n o ≡ Gone
-  born_gone o is = ap (born_word number n) is
+  pub gone_stays_at_birth : (o : SpineOwner) → o ≡ Gone → born_word number n o ≡ Gone
+  gone_stays_at_birth o is = ap (born_word number n) is
 
 -- and the seat has none
-pub spine_born : (heap : Heap) (words : List ℕ) (spine_owner : ℕ → ℕ → SpineOwner) (number n : ℕ) (new : Seat) → ¬ HasPlace new new.place
+pub spine_in_hand_after_birth : (heap : Heap) (words : List ℕ) (spine_owner : ℕ → ℕ → SpineOwner) (number n : ℕ) (new : Seat) → ¬ HasPlace new new.place
     → SpineInHand heap words (born_words number n spine_owner) number new
-spine_born heap words spine_owner number n new none = record {
+spine_in_hand_after_birth heap words spine_owner number n new none = record {
   placed = λ has. absurd (none has);
   own = λ half offset j is. absurd ((seats_were number n (spine_owner half offset) number j is).1 refl);
   stored = λ has. absurd (none has);
@@ -87,18 +87,18 @@ module _ (n : ℕ) (nodes now_nodes : ℕ → Node) (owner : ℕ → Owner) (fra
       (leaves : LeavesSpines heap words now_words) (hand : SpineInHand heap words spine_owner number seat) (as_many : spine_words_of (now_nodes n) ≡ spine_need seat)
       (has : 0 < spine_need seat → HasPlace seat seat.place) (head : now (fragment_at body 0) ≡ Kept n 0) (dead : DeadStay heap words now_words owner now) where
     head_new : IsKept now bodies n
-    head_new = ap (λ fs. now (fragment_at fs 0)) (object_new fragments n body) ∙ head
+    head_new = ap (λ fs. now (fragment_at fs 0)) (new_object_has_body fragments n body) ∙ head
 
     kept_old : (i : ℕ) → i ≢ n → IsKept now bodies i → IsKept owner fragments i
-    kept_old i apart is = kept_was n body owner (fragment_at (fragments i) 0) i 0 apart (ap (λ fs. now (fragment_at fs 0)) (sym (object_old fragments n body i apart)) ∙ is)
+    kept_old i apart is = kept_by_others_was n body owner (fragment_at (fragments i) 0) i 0 apart (ap (λ fs. now (fragment_at fs 0)) (sym (old_object_keeps_fragments fragments n body i apart)) ∙ is)
 
     kept_on : (i : ℕ) → i ≢ n → IsKept owner fragments i → IsKept now bodies i
-    kept_on i apart is = ap (λ fs. now (fragment_at fs 0)) (object_old fragments n body i apart) ∙ kept_stays n body owner unkept (fragment_at (fragments i) 0) i 0 is
+    kept_on i apart is = ap (λ fs. now (fragment_at fs 0)) (old_object_keeps_fragments fragments n body i apart) ∙ kept_by_others_stays n body owner unkept (fragment_at (fragments i) 0) i 0 is
 
     -- the spine words stand then
-    pub spines_born : SpinesStand heap words seats n nodes owner fragments spines spine_owner
+    pub spines_stand_after_birth : SpinesStand heap words seats n nodes owner fragments spines spine_owner
         → SpinesStand heap now_words seats (n + 1) now_nodes now bodies (with_spine spines n seat.spine) (born_words number n spine_owner)
-    spines_born old = record {
+    spines_stand_after_birth old = record {
       spot = rw leaves.spot old.spot;
       parties = λ half offset r k is. old.parties half offset r k (seats_were number n (spine_owner half offset) r k is).0;
       kept = λ i j below is within. elim (cases_eq i n) as (λ _. born_words number n spine_owner (with_spine spines n seat.spine i).half ((with_spine spines n seat.spine i).offset + j) ≡ Spined i j) [
@@ -109,21 +109,21 @@ module _ (n : ℕ) (nodes now_nodes : ℕ → Node) (owner : ℕ → Owner) (fra
           ((i < n + 1) × IsKept now bodies i × (j < spine_words_of (now_nodes i)) × IsWordOf (with_spine spines n seat.spine i) half offset j) (spine_owner half offset) i j is
           (λ was. let one = old.back half offset i j was in back_old half offset i j one.0 one.1 one.2 one.3)
           (λ new was. let one = hand.own half offset j was in back_new half offset i j new one.1 one.2);
-      tells = λ f i k is. let one = dead_tell heap words now_words n nodes now_nodes owner now shapes dead old.tells f i k is in (omega (arith, one.0), one.1);
+      tells = λ f i k is. let one = dead_tell_still heap words now_words n nodes now_nodes owner now shapes dead old.tells f i k is in (omega (arith, one.0), one.1);
     }
       where
         of_new : (i j : ℕ) → i ≡ n → j < spine_words_of (now_nodes i) → born_words number n spine_owner (with_spine spines n seat.spine i).half ((with_spine spines n seat.spine i).offset + j) ≡ Spined i j
         of_new i j same within =
             let less : j < spine_need seat = omega (arith, subst (λ x. j < spine_words_of (now_nodes x)) same within, as_many) in
             subst (λ x. born_words number n spine_owner (with_spine spines n seat.spine x).half ((with_spine spines n seat.spine x).offset + j) ≡ Spined x j) (sym same)
-            (subst (λ (s : Spot). born_words number n spine_owner s.half (s.offset + j) ≡ Spined n j) (sym (spine_new spines n seat.spine))
+            (subst (λ (s : Spot). born_words number n spine_owner s.half (s.offset + j) ≡ Spined n j) (sym (new_spine_is_spine spines n seat.spine))
             (born_own number n _ j (hand.placed (has (omega (arith, less))) j less)))
 
         of_old : (i j : ℕ) → i ≢ n → i < n → IsKept owner fragments i → j < spine_words_of (now_nodes i)
             → born_words number n spine_owner (with_spine spines n seat.spine i).half ((with_spine spines n seat.spine i).offset + j) ≡ Spined i j
         of_old i j apart below is within =
-            subst (λ (s : Spot). born_words number n spine_owner s.half (s.offset + j) ≡ Spined i j) (sym (spine_old spines n seat.spine i apart))
-            (born_arrays number n _ i j (old.kept i j below is (subst (λ m. j < m) (shape_words (now_nodes i) (nodes i) (shapes i below)) within)))
+            subst (λ (s : Spot). born_words number n spine_owner s.half (s.offset + j) ≡ Spined i j) (sym (old_spine_stays spines n seat.spine i apart))
+            (born_arrays number n _ i j (old.kept i j below is (subst (λ m. j < m) (same_shape_same_words (now_nodes i) (nodes i) (shapes i below)) within)))
 
         back_old : (half offset i j : ℕ) → i < n → IsKept owner fragments i → j < spine_words_of (nodes i) → IsWordOf (spines i) half offset j
             → (i < n + 1) × IsKept now bodies i × (j < spine_words_of (now_nodes i)) × IsWordOf (with_spine spines n seat.spine i) half offset j
@@ -131,12 +131,12 @@ module _ (n : ℕ) (nodes now_nodes : ℕ → Node) (owner : ℕ → Owner) (fra
             let apart : i ≢ n = λ e. omega (arith, e, below) in (
               omega (arith, below),
               kept_on i apart is,
-              subst (λ m. j < m) (sym (shape_words (now_nodes i) (nodes i) (shapes i below))) within,
-              subst (λ (s : Spot). IsWordOf s half offset j) (sym (spine_old spines n seat.spine i apart)) word,
+              subst (λ m. j < m) (sym (same_shape_same_words (now_nodes i) (nodes i) (shapes i below))) within,
+              subst (λ (s : Spot). IsWordOf s half offset j) (sym (old_spine_stays spines n seat.spine i apart)) word,
             )
 
         back_new : (half offset i j : ℕ) → i ≡ n → j < spine_need seat → IsWordOf seat.spine half offset j
             → (i < n + 1) × IsKept now bodies i × (j < spine_words_of (now_nodes i)) × IsWordOf (with_spine spines n seat.spine i) half offset j
         back_new half offset i j same less word =
             subst (λ x. (x < n + 1) × IsKept now bodies x × (j < spine_words_of (now_nodes x)) × IsWordOf (with_spine spines n seat.spine x) half offset j) (sym same)
-            (omega arith, head_new, omega (arith, less, as_many), subst (λ (s : Spot). IsWordOf s half offset j) (sym (spine_new spines n seat.spine)) word)
+            (omega arith, head_new, omega (arith, less, as_many), subst (λ (s : Spot). IsWordOf s half offset j) (sym (new_spine_is_spine spines n seat.spine)) word)

@@ -8,13 +8,13 @@ use Rattle.core_rule.proofs.Terms.{AwaitsCopy, IsBeforeNext, IsEarlyRange, IsLef
 use Rattle.core_rule.proofs.Terms.{SpinesStand, SpineInHand, HasPlace, IsWordOf, next_spine}
 use Rattle.core_machine.specs.declared.table.address.Address.TheVariants as addresses
 use Rattle.core_machine.proofs.table_lemmas.Addresses.{at-put_same}
-use Rattle.core_machine.proofs.collector_lemmas.SpineTurns.{told_spot}
-use Rattle.core_rule.proofs.halves.HalvesFrames.{if_some}
-use Rattle.core_rule.proofs.halves.HalvesMoves.{copy_left}
-use Rattle.core_rule.proofs.spines.SpineFrames.{SpinesLeft, PlacesStay, same_shapes}
+use Rattle.core_machine.proofs.collector_lemmas.SpineTurns.{told_spot_fits}
+use Rattle.core_rule.proofs.halves.HalvesFrames.{if_some_of_each}
+use Rattle.core_rule.proofs.halves.HalvesMoves.{copy_in_hand_where_left}
+use Rattle.core_rule.proofs.spines.SpineFrames.{SpinesLeft, PlacesStay, same_shape_of_itself}
 use Rattle.core_rule.proofs.ways.ArrayWords.{spot_in-word}
-use Rattle.core_rule.proofs.dying.DeadWords.{dead_tell}
-use Rattle.core_rule.proofs.words.Addresses.{SameSpines, at-put_apart, spines_elsewhere}
+use Rattle.core_rule.proofs.dying.DeadWords.{dead_tell_still}
+use Rattle.core_rule.proofs.words.Addresses.{SameSpines, at-put_apart, same_spines_elsewhere}
 
 -- the place of the next spine behind so many words
 abbrev pub spot_after : Spot → ℕ → Spot
@@ -50,8 +50,8 @@ module _ (number : ℕ) (spot : Spot) (need : ℕ) (spine_owner : ℕ → ℕ �
   ]
 
   -- the party has each of them
-  pub claim_has : (j : ℕ) → j < need → claimed number spot need spine_owner spot.half (spot.offset + j) ≡ Placed number j
-  claim_has j less = claim_cases (λ o. o ≡ Placed number j) spot.half (spot.offset + j) (λ is. ap (Placed number) (omega arith))
+  pub claimed_is_placed : (j : ℕ) → j < need → claimed number spot need spine_owner spot.half (spot.offset + j) ≡ Placed number j
+  claimed_is_placed j less = claim_cases (λ o. o ≡ Placed number j) spot.half (spot.offset + j) (λ is. ap (Placed number) (omega arith))
       (λ away. absurd (away record { half_is = refl; from = omega arith; upto = omega (arith, less) }))
 
   module _ (open_ : (half offset : ℕ) → IsClaimed spot need half offset → spine_owner half offset ≡ Open) where
@@ -107,14 +107,14 @@ module _ (heap : Heap) (state : State) (book : Book) (number need : ℕ) (table 
   book_claimed = record book { spine_owner = owner_claimed }
 
   -- the spine words are as before
-  pub same_claimed : SameSpines heap state.words words_claimed
-  same_claimed = spines_elsewhere heap state.words _ addresses.Spot (omega arith)
+  pub same_spines_after_spot_claim : SameSpines heap state.words words_claimed
+  same_spines_after_spot_claim = same_spines_elsewhere heap state.words _ addresses.Spot (omega arith)
 
   -- the party has exactly these words then
-  pub spine_claimed : (old new : Seat) → ¬ HasPlace old old.place → HasPlace new new.place → spine_need new ≡ need → new.spine ≡ spot → new.listed ≡ 0
+  pub spine_in_hand_after_claim : (old new : Seat) → ¬ HasPlace old old.place → HasPlace new new.place → spine_need new ≡ need → new.spine ≡ spot → new.listed ≡ 0
       → SpineInHand heap state.words book.spine_owner number old → SpineInHand heap words_claimed owner_claimed number new
-  spine_claimed old new before has same there none hand = record {
-    placed = λ placed j less. rw there (claim_has number spot need book.spine_owner j (subst (λ n. j < n) same less));
+  spine_in_hand_after_claim old new before has same there none hand = record {
+    placed = λ placed j less. rw there (claimed_is_placed number spot need book.spine_owner j (subst (λ n. j < n) same less));
     own = λ half offset j. claim_cases number spot need book.spine_owner (λ o. o ≡ Placed number j → HasPlace new new.place × (j < spine_need new) × IsWordOf new.spine half offset j) half offset
         (λ is e. let place : offset - spot.offset ≡ j = cc in
         (has, rw same (omega (arith, place, is.from, is.upto)), rw there record { half_is = is.half_is; offset_is = omega (arith, place, is.from) }))
@@ -132,50 +132,50 @@ module _ (heap : Heap) (state : State) (book : Book) (number need : ℕ) (table 
         by _ same = let there = stands_before heap state book halves half offset (λ none. absurd (cc (same, none))) is.half_is in absurd (omega (arith, there, is.from))
 
     -- each other party has what it had, and what arrays have left stays left
-    pub leaves_claimed : (r : ℕ) → r ≢ number → SpinesLeft r book.spine_owner owner_claimed
-    leaves_claimed = claim_leaves number spot need book.spine_owner unclaimed
+    pub spines_left_after_claim : (r : ℕ) → r ≢ number → SpinesLeft r book.spine_owner owner_claimed
+    spines_left_after_claim = claim_leaves number spot need book.spine_owner unclaimed
 
-    pub places_claimed : PlacesStay heap state.words words_claimed (length book.made) book.spines book.spines book.spine_owner owner_claimed
-    places_claimed = record {
+    pub places_stay_after_claim : PlacesStay heap state.words words_claimed (length book.made) book.spines book.spines book.spine_owner owner_claimed
+    places_stay_after_claim = record {
       stay = λ i below. refl;
       gone = claim_gone number spot need book.spine_owner unclaimed;
-      as_were = λ half offset is. same_claimed half offset;
+      as_were = λ half offset is. same_spines_after_spot_claim half offset;
     }
 
     module _ (old : SpinesStand heap state.words heap.seats (length book.made) (node_at (graph_of heap book.history) book.made) book.owner book.fragments book.spines book.spine_owner)
         (few : spot.offset + need < 2 ^ 31) where
       fits : FitsSpot spot
-      fits = told_spot (at heap state.words addresses.Spot)
+      fits = told_spot_fits (at heap state.words addresses.Spot)
 
       found_spot : at heap words_claimed addresses.Spot ≡ spot_word (spot_after spot need)
       found_spot = at-put_same heap state.words addresses.Spot _ table tt ∙ ap (λ w. (w + need) % 2 ^ 64) old.spot ∙ spot_grows spot need fits few
 
       -- the next spine stands behind them
-      pub next_claimed : next_spine heap words_claimed ≡ spot_after spot need
-      next_claimed = ap spot_in found_spot ∙ spot_claimed spot need fits few
+      pub next_spine_after_claim : next_spine heap words_claimed ≡ spot_after spot need
+      next_spine_after_claim = ap spot_in found_spot ∙ spot_claimed spot need fits few
 
       -- and the spine words stand
-      pub spines_claimed : number ≤ heap.seats
+      pub spines_stand_after_claim : number ≤ heap.seats
           → SpinesStand heap words_claimed heap.seats (length book.made) (node_at (graph_of heap book.history) book.made) book.owner book.fragments book.spines owner_claimed
-      spines_claimed here = record {
-        spot = found_spot ∙ ap spot_word (sym next_claimed);
+      spines_stand_after_claim here = record {
+        spot = found_spot ∙ ap spot_word (sym next_spine_after_claim);
         parties = λ half offset r k. claim_cases number spot need book.spine_owner (λ o. o ≡ Placed r k → r ≤ heap.seats) half offset
             (λ is e. let same : number ≡ r = cc in subst (λ n. n ≤ heap.seats) same here) (λ away e. old.parties half offset r k e);
         kept = λ i j below is within. let was = old.kept i j below is within in claim_stays number spot need book.spine_owner unclaimed _ _ (λ none. absurd (cc (was, none))) ∙ was;
         back = λ half offset i j is. old.back half offset i j (claim_arrays number spot need book.spine_owner unclaimed half offset i j is);
-        tells = dead_tell heap state.words words_claimed (length book.made) (node_at (graph_of heap book.history) book.made) (node_at (graph_of heap book.history) book.made) book.owner book.owner
-            (λ i below. same_shapes (node_at (graph_of heap book.history) book.made) i)
+        tells = dead_tell_still heap state.words words_claimed (length book.made) (node_at (graph_of heap book.history) book.made) (node_at (graph_of heap book.history) book.made) book.owner book.owner
+            (λ i below. same_shape_of_itself (node_at (graph_of heap book.history) book.made) i)
             (λ f i k is. (is, at-put_apart heap state.words addresses.Spot (addresses.Word f 0) _ (λ e. omega (arith, e)))) old.tells;
       }
 
       same_half : (next_spine heap words_claimed).half ≡ spot.half
-      same_half = ap (λ (s : Spot). s.half) next_claimed
+      same_half = ap (λ (s : Spot). s.half) next_spine_after_claim
 
       -- they stand before the next spine, and in its half
-      pub before_claimed : (half offset : ℕ) → owner_claimed half offset ≢ Open
+      pub claimed_is_before_next : (half offset : ℕ) → owner_claimed half offset ≢ Open
           → IsBeforeNext (next_spine heap words_claimed) half offset ⊎ IsLeftBehind heap (next_spine heap words_claimed) state.collector.phase state.collector.stage half offset
-      before_claimed half offset = subst (λ (s : Spot). owner_claimed half offset ≢ Open → IsBeforeNext s half offset ⊎ IsLeftBehind heap s state.collector.phase state.collector.stage half offset)
-          (sym next_claimed) (claim_cases number spot need book.spine_owner
+      claimed_is_before_next half offset = subst (λ (s : Spot). owner_claimed half offset ≢ Open → IsBeforeNext s half offset ⊎ IsLeftBehind heap s state.collector.phase state.collector.stage half offset)
+          (sym next_spine_after_claim) (claim_cases number spot need book.spine_owner
           (λ o. o ≢ Open → IsBeforeNext (spot_after spot need) half offset ⊎ IsLeftBehind heap (spot_after spot need) state.collector.phase state.collector.stage half offset) half offset
           (λ is some. inl record { here = is.half_is; before = is.upto })
           (λ away some. elim (halves.before half offset some)
@@ -185,16 +185,16 @@ module _ (heap : Heap) (state : State) (book : Book) (number need : ℕ) (table 
           ]))
 
       -- so spines stand in their halves after a seat's claim
-      pub halves_claimed : number < heap.seats → HalvesStand heap (record state { words = words_claimed }) book_claimed
-      halves_claimed here = record {
+      pub halves_stand_after_claim : number < heap.seats → HalvesStand heap (record state { words = words_claimed }) book_claimed
+      halves_stand_after_claim here = record {
         half = same_half ∙ halves.half;
-        before = before_claimed;
+        before = claimed_is_before_next;
         arrays = λ i below is an_array. subst (λ h. ((book.spines i).half ≡ h) ⊎ AwaitsCopy state.collector.phase state.collector.stage (fragment_at (book.fragments i) 0)) (sym same_half)
             (halves.arrays i below is an_array);
         hands = λ r below has. subst (λ h. ((seat_at state r).spine.half ≡ h) ⊎ IsEarlyRange state.collector.phase state.collector.stage (seat_at state r).answered) (sym same_half) (halves.hands r below has);
         swung = λ in_copying i below is has. halves.swung in_copying i below is has ∙ sym same_half;
         copies = subst (λ h. WhileCopying (CopyingStands (node_at (graph_of heap book.history) book.made) book.made book.owner book.colour book.fragments book.spines h) state.collector.stage)
             (sym same_half) halves.copies;
-        copy = copy_left heap state.words words_claimed book.spine_owner owner_claimed state.collector.stage (leaves_claimed heap.seats (λ e. omega (arith, e, here)))
-            (if_some (copy_in state.collector.stage) (λ copy copied j less. same_claimed _ _ ∙ copied j less ∙ sym (same_claimed _ _)) halves.copy.copied) halves.copy;
+        copy = copy_in_hand_where_left heap state.words words_claimed book.spine_owner owner_claimed state.collector.stage (spines_left_after_claim heap.seats (λ e. omega (arith, e, here)))
+            (if_some_of_each (copy_in state.collector.stage) (λ copy copied j less. same_spines_after_spot_claim _ _ ∙ copied j less ∙ sym (same_spines_after_spot_claim _ _)) halves.copy.copied) halves.copy;
       }

@@ -9,25 +9,25 @@ use Rattle.core_machine.specs.declared.place.Access.{Access}
 use Rattle.core_rule.specs.roots.Roots.{IsInMarking, AtCall, OfRoots}
 use Rattle.core_rule.proofs.frames.SeatFrames.{AddressAt}
 use Rattle.core_rule.proofs.steps.Assemble.{Keeps}
-use Rattle.core_rule.proofs.ways.AtObject.{is_near}
-use Rattle.core_rule.proofs.cycle.Barriers.{barrier_window, barrier_runs}
-use Rattle.core_rule.proofs.cycle.CycleFrames.{cycle_by_flight}
-use Rattle.core_rule.proofs.entries.InFlight.{began_on}
-use Rattle.core_rule.proofs.colours.Births.{births_stay}
-use Rattle.core_rule.proofs.colours.LeadsFrames.{leads_control}
+use Rattle.core_rule.proofs.ways.AtObject.{answer_is_near_phase}
+use Rattle.core_rule.proofs.cycle.Barriers.{barrier_is_between, barrier_is_not_resting}
+use Rattle.core_rule.proofs.cycle.CycleFrames.{seat_in_cycle_by_flight}
+use Rattle.core_rule.proofs.entries.InFlight.{began_without_entry}
+use Rattle.core_rule.proofs.colours.Births.{born_colours_stay}
+use Rattle.core_rule.proofs.colours.LeadsFrames.{led_before_control_write}
 use Rattle.core_rule.proofs.book.BookGoing.{IsNamed}
 use Rattle.core_rule.proofs.ways.LoadedObjects.{KeptHead}
-use Rattle.core_rule.proofs.roots.CallRoots.{IsReachedNow, roots_on_way}
-use Rattle.core_rule.proofs.steps.Loads.{went, loaded_state, load_goes}
-use Rattle.core_rule.proofs.entries.SeatLists.{list_more}
+use Rattle.core_rule.proofs.roots.CallRoots.{IsReachedNow, roots_hold_on_way}
+use Rattle.core_rule.proofs.steps.Loads.{went, loaded_state, keeps_rule_by_silent_load}
+use Rattle.core_rule.proofs.entries.SeatLists.{own_list_after_entry}
 use Rattle.core_rule.proofs.colours.ShadeColours.{with_mark}
-use Rattle.core_rule.proofs.steps.ShadeStep.{shading, words_shaded, shade_keeps, shade_within, answer_shaded, borne_unshaded}
+use Rattle.core_rule.proofs.steps.ShadeStep.{shading, words_shaded, keeps_rule_by_shade, shaded_within_heap, answer_same_after_shade, borne_colour_same_after_shade}
 use Rattle.core_rule.proofs.graph.ToldGraph.{told_graph}
 
 -- where the new value goes next
-pub new_cases : (P : Access → Type 0) (head : Option ℕ) → (head ≡ None → P Swapping) → ((f : ℕ) → head ≡ Some f → P ShadingNew) → P (new_place_of head)
-new_cases P None swaps shades = swaps refl
-new_cases P (Some f) swaps shades = shades f refl
+pub new_place_cases : (P : Access → Type 0) (head : Option ℕ) → (head ≡ None → P Swapping) → ((f : ℕ) → head ≡ Some f → P ShadingNew) → P (new_place_of head)
+new_place_cases P None swaps shades = swaps refl
+new_place_cases P (Some f) swaps shades = shades f refl
 
 module _ (heap : Heap) (state : State) (book : Book) (number : ℕ) (rule : Rule heap state book) (here : number < heap.seats)
     (from : Access) (place : (seat_at state number).place ≡ places.Access from)
@@ -44,8 +44,8 @@ module _ (heap : Heap) (state : State) (book : Book) (number : ℕ) (rule : Rule
   awake : (d r : ℕ) → ¬ IsAwaited seat.place d r
   awake d r awaited = unnamed d r (subst (λ x. IsAwaited x d r) place awaited)
 
-  pub holds_all : (r : ℕ) → HoldsValue book.made book.owner book.fragments (register_in seat.registers r) (register_value (told_graph heap book) number r)
-  holds_all r = (rule.seats_stand number here).names.registers r (awake (target_of seat.command) r)
+  pub registers_hold_values : (r : ℕ) → HoldsValue book.made book.owner book.fragments (register_in seat.registers r) (register_value (told_graph heap book) number r)
+  registers_hold_values r = (rule.seats_stand number here).names.registers r (awake (target_of seat.command) r)
 
   -- what marking comes to when it comes to the roots that the seat had
   abbrev CallGoesOn : Seat → Access → Type 0
@@ -56,7 +56,7 @@ module _ (heap : Heap) (state : State) (book : Book) (number : ℕ) (rule : Rule
   Unnamed next = (seat_now : Seat) → Awaits (told_graph heap book) book.made book.owner book.fragments number seat_now (places.Access next) []
 
   -- a load that leads on
-  pub loads_on : (loaded : ℕ) (next : Access) → Unnamed next
+  pub keeps_rule_by_leading_load : (loaded : ℕ) (next : Access) → Unnamed next
       → AddressAt heap state.words book (went seat seat.registers seat.reached seat.links seat.part seat.address loaded (places.Access next) seat.looks []) (places.Access next)
       → AccessStands (node_at (told_graph heap book) book.made) book.made book.owner book.fragments (went seat seat.registers seat.reached seat.links seat.part seat.address loaded (places.Access next) seat.looks []) next
       → (IsBetween 2 5 p → FieldStands heap state.words book.colour (went seat seat.registers seat.reached seat.links seat.part seat.address loaded (places.Access next) seat.looks []) next)
@@ -64,19 +64,19 @@ module _ (heap : Heap) (state : State) (book : Book) (number : ℕ) (rule : Rule
       → CallGoesOn (went seat seat.registers seat.reached seat.links seat.part seat.address loaded (places.Access next) seat.looks []) next
       → IsMachine heap (loaded_state heap state number (Word seat.reached seat.part) (went seat seat.registers seat.reached seat.links seat.part seat.address loaded (places.Access next) seat.looks []))
       → Keeps heap state (loaded_state heap state number (Word seat.reached seat.part) (went seat seat.registers seat.reached seat.links seat.part seat.address loaded (places.Access next) seat.looks [])) book book.begun []
-  loads_on loaded next names address way field shaded comes machine =
+  keeps_rule_by_leading_load loaded next names address way field shaded comes machine =
       let stands = rule.seats_stand number here in
       let new : Seat = went seat seat.registers seat.reached seat.links seat.part seat.address loaded (places.Access next) seat.looks [] in
-      load_goes heap state book number rule here (Word seat.reached seat.part) seat.registers seat.reached seat.links seat.part seat.address loaded (places.Access next) seat.looks [] machine (rw place tt) tt
-      (λ r unawaited. holds_all r)
-      (list_more (told_graph heap book) book.made book.owner book.fragments number seat book.history busy stands.told.list (told_graph heap book) book.history new [] [] [] refl refl (sym (append-nil (filter (is_of number) book.history))) (names new))
+      keeps_rule_by_silent_load heap state book number rule here (Word seat.reached seat.part) seat.registers seat.reached seat.links seat.part seat.address loaded (places.Access next) seat.looks [] machine (rw place tt) tt
+      (λ r unawaited. registers_hold_values r)
+      (own_list_after_entry (told_graph heap book) book.made book.owner book.fragments number seat book.history busy stands.told.list (told_graph heap book) book.history new [] [] [] refl refl (sym (append-nil (filter (is_of number) book.history))) (names new))
       way address
-      (began_on book.history number (book.begun number) seat.place (places.Access next) busy stands.told.began)
-      (cycle_by_flight heap state.words state.words book.owner book.owner book.colour book.colour p (last_answer number book.history) (has_left number book.history) number seat new
+      (began_without_entry book.history number (book.begun number) seat.place (places.Access next) busy stands.told.began)
+      (seat_in_cycle_by_flight heap state.words state.words book.owner book.owner book.colour book.colour p (last_answer number book.history) (has_left number book.history) number seat new
       record { answered = refl; left = refl; asked = refl } refl tt
       record { set = λ making snapped. field making; shaded = λ making. shaded; roots = λ begins. tt }
       stands.cycle.births stands.cycle)
-      (λ marks roots. roots_on_way (IsReachedNow heap state book) seat new next refl refl (comes marks roots) roots)
+      (λ marks roots. roots_hold_on_way (IsReachedNow heap state book) seat new next refl refl (comes marks roots) roots)
 
   module _ (f : ℕ) (head : KeptHead book.made book.owner book.fragments f) (on : has_barrier_of seat ≡ true) where
     abbrev coloured : ℕ → Colour
@@ -86,12 +86,12 @@ module _ (heap : Heap) (state : State) (book : Book) (number : ℕ) (rule : Rule
     shaded_state next = record state { words = words_shaded heap state book number rule here f head.index head.kept head.is; seats = slice_set state.seats number next }
 
     -- what the field leads to is as before
-    pub leads_back : (x : ℕ) → WordPointsTo heap (words_shaded heap state book number rule here f head.index head.kept head.is) seat.reached seat.part x
+    pub field_leads_as_before : (x : ℕ) → WordPointsTo heap (words_shaded heap state book number rule here f head.index head.kept head.is) seat.reached seat.part x
         → WordPointsTo heap state.words seat.reached seat.part x
-    leads_back x leads = leads_control heap state.words (f / 16) _ (omega (arith, shade_within heap state book number rule here f head.index head.kept head.is)) _ _ x leads
+    field_leads_as_before x leads = led_before_control_write heap state.words (f / 16) _ (omega (arith, shaded_within_heap heap state book number rule here f head.index head.kept head.is)) _ _ x leads
 
     -- a shade that leads on
-    pub shades_on : (next : Access) → Unnamed next → AddressAt heap state.words book (shading seat seat.shaded (places.Access next)) (places.Access next)
+    pub keeps_rule_by_leading_shade : (next : Access) → Unnamed next → AddressAt heap state.words book (shading seat seat.shaded (places.Access next)) (places.Access next)
         → AccessStands (node_at (told_graph heap book) book.made) book.made book.owner book.fragments (shading seat seat.shaded (places.Access next)) next
         → (IsBetween 2 5 p → IsBetween 2 5 seat.answered → FieldStands heap (words_shaded heap state book number rule here f head.index head.kept head.is) coloured (shading seat seat.shaded (places.Access next)) next)
         → (IsBetween 1 5 p → ShadedStands coloured (shading seat seat.shaded (places.Access next)) next)
@@ -100,17 +100,17 @@ module _ (heap : Heap) (state : State) (book : Book) (number : ℕ) (rule : Rule
         → IsNamed heap state book f
         → IsMachine heap (shaded_state (shading seat seat.shaded (places.Access next)))
         → Keeps heap state (shaded_state (shading seat seat.shaded (places.Access next))) book book.begun []
-    shades_on next names address way field shaded marked comes named machine =
+    keeps_rule_by_leading_shade next names address way field shaded marked comes named machine =
         let stands = rule.seats_stand number here in
         let new : Seat = shading seat seat.shaded (places.Access next) in
-        shade_keeps heap state book number rule here f head.index head.kept head.is seat.shaded (places.Access next) (barrier_runs p seat.answered (is_near heap state book number rule here from place) (barrier_window seat on)) machine
-        (λ r unawaited. holds_all r)
-        (list_more (told_graph heap book) book.made book.owner book.fragments number seat book.history busy stands.told.list (told_graph heap book) book.history new [] [] [] refl refl (sym (append-nil (filter (is_of number) book.history))) (names new))
+        keeps_rule_by_shade heap state book number rule here f head.index head.kept head.is seat.shaded (places.Access next) (barrier_is_not_resting p seat.answered (answer_is_near_phase heap state book number rule here from place) (barrier_is_between seat on)) machine
+        (λ r unawaited. registers_hold_values r)
+        (own_list_after_entry (told_graph heap book) book.made book.owner book.fragments number seat book.history busy stands.told.list (told_graph heap book) book.history new [] [] [] refl refl (sym (append-nil (filter (is_of number) book.history))) (names new))
         way (rw place tt) tt address busy
-        (cycle_by_flight heap state.words (words_shaded heap state book number rule here f head.index head.kept head.is) book.owner book.owner book.colour coloured p
+        (seat_in_cycle_by_flight heap state.words (words_shaded heap state book number rule here f head.index head.kept head.is) book.owner book.owner book.colour coloured p
         (last_answer number book.history) (has_left number book.history) number seat new
-        record { answered = refl; left = refl; asked = refl } (answer_shaded heap state book number rule here f head.index head.kept head.is number here) tt
+        record { answered = refl; left = refl; asked = refl } (answer_same_after_shade heap state book number rule here f head.index head.kept head.is number here) tt
         record { set = field; shaded = shaded; roots = λ begins. tt }
-        (births_stay book.owner book.owner book.colour coloured number seat.answered (λ x borne. (borne, borne_unshaded heap state book number rule here f head.index head.kept head.is number x borne)) stands.cycle.births) stands.cycle)
-        marked (λ marks roots. roots_on_way (IsReachedNow heap state book) seat new next refl refl (comes marks roots) roots)
-        (λ last. omega (arith, (barrier_window seat on).upto, last)) named
+        (born_colours_stay book.owner book.owner book.colour coloured number seat.answered (λ x borne. (borne, borne_colour_same_after_shade heap state book number rule here f head.index head.kept head.is number x borne)) stands.cycle.births) stands.cycle)
+        marked (λ marks roots. roots_hold_on_way (IsReachedNow heap state book) seat new next refl refl (comes marks roots) roots)
+        (λ last. omega (arith, (barrier_is_between seat on).upto, last)) named

@@ -10,26 +10,26 @@ use Rattle.core_machine.specs.declared.table.address.Address.{Address}
 use Rattle.core_machine.specs.declared.place.Place.TheVariants as places
 use Rattle.core_machine.specs.declared.seat.looks.Looks.{Looks}
 use Rattle.core_machine.specs.seat.Looks.{forgotten}
-use Rattle.core_machine.proofs.table_lemmas.Addresses.{put-at}
-use Rattle.core_machine.proofs.seat_lemmas.Aside.{over_way}
-use Rattle.core_rule.proofs.budgets.BudgetFrames.{grants_same}
+use Rattle.core_machine.proofs.table_lemmas.Addresses.{put_of_read_changes_nothing}
+use Rattle.core_machine.proofs.seat_lemmas.Aside.{call_over_clears_way}
+use Rattle.core_rule.proofs.budgets.BudgetFrames.{same_grants_recoloured}
 use Rattle.core_rule.proofs.frames.SeatFrames.{AddressAt, with_entry}
-use Rattle.core_rule.proofs.colours.SpineStays.{same_sources}
-use Rattle.core_rule.proofs.marking.Marks.{Leaves, RootsGoOn, marks_go_on, leaves_words}
-use Rattle.core_rule.proofs.book.BookGoing.{book_stays}
-use Rattle.core_rule.proofs.steps.Assemble.{Keeps, seat_steps, step_space}
-use Rattle.core_rule.proofs.budgets.NoneMade.{MakesNone, none_has_place, none_used, none_weights}
-use Rattle.core_rule.proofs.spines.OtherWords.{spines_left_none}
-use Rattle.core_rule.proofs.spines.SpineFrames.{spine_away}
-use Rattle.core_rule.proofs.cycle.CycleHistory.{cycle_own}
-use Rattle.core_rule.proofs.entries.Others.{gathers_stay}
-use Rattle.core_rule.proofs.entries.OwnEntries.{counts_own, counts_same}
+use Rattle.core_rule.proofs.colours.SpineStays.{same_sources_of_itself}
+use Rattle.core_rule.proofs.marking.Marks.{Leaves, RootsGoOn, marks_go_on, leaves_by_same_sources}
+use Rattle.core_rule.proofs.book.BookGoing.{book_goes_on_with_history}
+use Rattle.core_rule.proofs.steps.Assemble.{Keeps, keeps_rule_after_step, space_stands_after_step}
+use Rattle.core_rule.proofs.budgets.NoneMade.{MakesNone, no_place_where_none_made, used_stands_where_none_made, same_weights_where_none_made}
+use Rattle.core_rule.proofs.spines.OtherWords.{leaves_spines_of_itself}
+use Rattle.core_rule.proofs.spines.SpineFrames.{spine_in_hand_away}
+use Rattle.core_rule.proofs.cycle.CycleHistory.{seat_in_cycle_after_own}
+use Rattle.core_rule.proofs.entries.Others.{gathers_right_after_entry}
+use Rattle.core_rule.proofs.entries.OwnEntries.{counts_agree_after_own, counts_agree_without_entry}
 use Rattle.core_rule.proofs.graph.PutRegister.{OnlyRegisters}
-use Rattle.core_rule.proofs.frames.Replying.{no_part, began_told}
-use Rattle.core_rule.proofs.steps.ReplyStep.{graph_replies, told_keeps}
-use Rattle.core_rule.proofs.entries.Legality.{legal_more}
-use Rattle.core_rule.proofs.cycle.CycleFrames.{leaves_same}
-use Rattle.core_rule.proofs.cycle.Unwatched.{IsUnwatchedAt, cycle_unwatched}
+use Rattle.core_rule.proofs.frames.Replying.{effect_part_is_none, began_after_reply}
+use Rattle.core_rule.proofs.steps.ReplyStep.{graph_replies_of_registers, keeps_in_cycle_when_told}
+use Rattle.core_rule.proofs.entries.Legality.{legal_after_entry}
+use Rattle.core_rule.proofs.cycle.CycleFrames.{leaves_cycle_unchanged}
+use Rattle.core_rule.proofs.cycle.Unwatched.{IsUnwatchedAt, seat_in_cycle_unwatched}
 
 -- the seat with other registers, elsewhere on its way, with what it has found for its collects, and with more entries
 abbrev pub went : Seat → List Register → ℕ → ℕ → ℕ → Spot → ℕ → Place → Looks → List Entry → Seat
@@ -41,26 +41,26 @@ abbrev pub loaded_state : Heap → State → ℕ → Address → Seat → State
 loaded_state heap state number a seat = record state { words = put heap state.words a (at heap state.words a); seats = slice_set state.seats number seat }
 
 -- a call that has its way alone is over where its way is
-pub ends_went : (heap : Heap) (state : State) (book : Book) (number : ℕ) (a : Address) (registers : List Register) (looks : Looks) (added shown : List Entry)
+pub keeps_rule_by_ending_load : (heap : Heap) (state : State) (book : Book) (number : ℕ) (a : Address) (registers : List Register) (looks : Looks) (added shown : List Entry)
     → IsAtRest (seat_at state number) → IsSilent (seat_at state number)
     → (IsMachine heap (loaded_state heap state number a (went (seat_at state number) registers 0 0 0 no_spot 0 places.Idle looks added))
     → Keeps heap state (loaded_state heap state number a (went (seat_at state number) registers 0 0 0 no_spot 0 places.Idle looks added)) book book.begun shown)
     → IsMachine heap (loaded_state heap state number a (with_entries (record (call_over (record (seat_at state number) { registers = registers })) { looks = looks }) added))
     → Keeps heap state (loaded_state heap state number a (with_entries (record (call_over (record (seat_at state number) { registers = registers })) { looks = looks }) added)) book book.begun shown
-ends_went heap state book number a registers looks added shown rest silent keeps =
+keeps_rule_by_ending_load heap state book number a registers looks added shown rest silent keeps =
     let seat : Seat = seat_at state number in
     let same : with_entries (record (call_over (record seat { registers = registers })) { looks = looks }) added ≡ went seat registers 0 0 0 no_spot 0 places.Idle looks added
-    = ap (λ (s : Seat). record s { registers = registers; looks = looks; mine = seat.mine ++ added }) (over_way seat rest silent) in
+    = ap (λ (s : Seat). record s { registers = registers; looks = looks; mine = seat.mine ++ added }) (call_over_clears_way seat rest silent) in
     subst (λ (s : Seat). IsMachine heap (loaded_state heap state number a s) → Keeps heap state (loaded_state heap state number a s) book book.begun shown) (sym same) keeps
 
 -- and has forgotten what was found before where it ends with its reply
-pub over_went : (heap : Heap) (state : State) (book : Book) (number : ℕ) (a : Address) (registers : List Register) (added shown : List Entry)
+pub keeps_rule_by_forgetting_load : (heap : Heap) (state : State) (book : Book) (number : ℕ) (a : Address) (registers : List Register) (added shown : List Entry)
     → IsAtRest (seat_at state number) → IsSilent (seat_at state number)
     → (IsMachine heap (loaded_state heap state number a (went (seat_at state number) registers 0 0 0 no_spot 0 places.Idle (forgotten (seat_at state number).looks) added))
     → Keeps heap state (loaded_state heap state number a (went (seat_at state number) registers 0 0 0 no_spot 0 places.Idle (forgotten (seat_at state number).looks) added)) book book.begun shown)
     → IsMachine heap (loaded_state heap state number a (with_entries (after_call (record (seat_at state number) { registers = registers })) added))
     → Keeps heap state (loaded_state heap state number a (with_entries (after_call (record (seat_at state number) { registers = registers })) added)) book book.begun shown
-over_went heap state book number a registers added shown rest silent keeps = ends_went heap state book number a registers (forgotten (seat_at state number).looks) added shown rest silent keeps
+keeps_rule_by_forgetting_load heap state book number a registers added shown rest silent keeps = keeps_rule_by_ending_load heap state book number a registers (forgotten (seat_at state number).looks) added shown rest silent keeps
 
 module _ (heap : Heap) (state : State) (book : Book) (number : ℕ) (rule : Rule heap state book) (here : number < heap.seats) (a : Address)
     (registers : List Register) (reached links part : ℕ) (address : Spot) (loaded : ℕ) (place : Place) (looks : Looks) (added : List Entry)
@@ -70,23 +70,23 @@ module _ (heap : Heap) (state : State) (book : Book) (number : ℕ) (rule : Rule
 
   -- the words are written back
   same_machine : IsMachine heap (record state { words = state.words; seats = slice_set state.seats number new })
-  same_machine = subst (λ words. IsMachine heap (record state { words = words; seats = slice_set state.seats number new })) (put-at heap state.words a) machine
+  same_machine = subst (λ words. IsMachine heap (record state { words = words; seats = slice_set state.seats number new })) (put_of_read_changes_nothing heap state.words a) machine
 
   from_same : (begun : ℕ → ℕ) (shown : List Entry) → Keeps heap state (record state { words = state.words; seats = slice_set state.seats number new }) book begun shown
       → Keeps heap state (loaded_state heap state number a new) book begun shown
-  from_same begun shown keeps = subst (λ words. Keeps heap state (record state { words = words; seats = slice_set state.seats number new }) book begun shown) (sym (put-at heap state.words a)) keeps
+  from_same begun shown keeps = subst (λ words. Keeps heap state (record state { words = words; seats = slice_set state.seats number new }) book begun shown) (sym (put_of_read_changes_nothing heap state.words a)) keeps
 
   -- the seat has its part in the cycle where it shades nothing
-  pub went_cycle : IsUnwatchedAt (has_barrier_of (seat_at state number)) place
+  pub seat_in_cycle_after_load : IsUnwatchedAt (has_barrier_of (seat_at state number)) place
       → SeatInCycle heap state.words (phase book.history) (last_answer number book.history) (has_left number book.history) book.owner book.colour number new
-  went_cycle unwatched =
+  seat_in_cycle_after_load unwatched =
       let cycle = (rule.seats_stand number here).cycle in
-      cycle_unwatched heap state.words state.words book.owner book.owner book.colour book.colour (phase book.history) (last_answer number book.history) (has_left number book.history)
+      seat_in_cycle_unwatched heap state.words state.words book.owner book.owner book.colour book.colour (phase book.history) (last_answer number book.history) (has_left number book.history)
       number (seat_at state number) new record { answered = refl; left = refl; asked = refl } unwatched refl cycle.births cycle
 
   -- each word leads where it led
   words_lead : Leaves heap state book rule state.words book
-  words_lead = leaves_words heap state book rule state.words (same_sources heap state.words)
+  words_lead = leaves_by_same_sources heap state book rule state.words (same_sources_of_itself heap state.words)
 
   -- what the seat has is as before, where it makes no object
   own_stays : MakesNone (seat_at state number).place → MakesNone place → OwnStands heap state.words book.owner book.spine_owner number new
@@ -96,12 +96,12 @@ module _ (heap : Heap) (state : State) (book : Book) (number : ℕ) (rule : Rule
         holding = own.holding;
         stored = own.stored;
         together = own.together;
-        spine = spine_away heap state.words state.words book.spine_owner number (seat_at state number) new (none_has_place (seat_at state number) (seat_at state number).place before)
-            (none_has_place new place after) own.spine;
+        spine = spine_in_hand_away heap state.words state.words book.spine_owner number (seat_at state number) new (no_place_where_none_made (seat_at state number) (seat_at state number).place before)
+            (no_place_where_none_made new place after) own.spine;
       }
 
   -- nothing is shown
-  pub load_goes : MakesNone (seat_at state number).place → MakesNone place
+  pub keeps_rule_by_silent_load : MakesNone (seat_at state number).place → MakesNone place
       → Registers (graph_of heap book.history) book.made book.owner book.fragments number registers place (target_of (seat_at state number).command)
       → OwnList (graph_of heap book.history) book.history book.made book.owner book.fragments number new
       → WayStands (node_at (graph_of heap book.history) book.made) book.made book.owner book.fragments new place
@@ -110,32 +110,32 @@ module _ (heap : Heap) (state : State) (book : Book) (number : ℕ) (rule : Rule
       → SeatInCycle heap state.words (phase book.history) (last_answer number book.history) (has_left number book.history) book.owner book.colour number new
       → RootsGoOn heap state book rule number here new
       → Keeps heap state (loaded_state heap state number a new) book book.begun []
-  load_goes before after held list way address began cycle roots =
+  keeps_rule_by_silent_load before after held list way address began cycle roots =
       let stands = rule.seats_stand number here in
       from_same book.begun []
-      (seat_steps heap state book number state.words new book [] rule here same_machine (sym (append-nil book.history)) refl rule.heap_stands
+      (keeps_rule_after_step heap state book number state.words new book [] rule here same_machine (sym (append-nil book.history)) refl rule.heap_stands
       record {
         own = own_stays before after;
         names = record { registers = held; way = way; address = address };
         told = record {
           list = list;
-          counts = counts_same (graph_of heap book.history) book.history number (seat_at state number) new refl refl refl refl stands.told.counts;
+          counts = counts_agree_without_entry (graph_of heap book.history) book.history number (seat_at state number) new refl refl refl refl stands.told.counts;
           began = began;
           gathers = stands.told.gathers;
-          used = none_used heap book.history number new place after;
+          used = used_stands_where_none_made heap book.history number new place after;
         };
         cycle = cycle;
       }
       (λ r below apart other. other)
       (marks_go_on heap state book rule number here state.words book new words_lead refl roots)
-      (step_space heap state book number rule here state.words new book (spines_left_none heap state.words) (none_weights (seat_at state number) new before after)
-      (grants_same heap book book.colour book.begun) (λ f dark. dark))
-      (book_stays heap state book book.history book.begun))
+      (space_stands_after_step heap state book number rule here state.words new book (leaves_spines_of_itself heap state.words) (same_weights_where_none_made (seat_at state number) new before after)
+      (same_grants_recoloured heap book book.colour book.begun) (λ f dark. dark))
+      (book_goes_on_with_history heap state book book.history book.begun))
 
   module _ (command : Command) (reply : Reply) (nothing : effect_of (Said number command reply) ≡ no_effect)
       (after : Graph) (grows : after_reply (graph_of heap book.history) number command reply ≡ after) (only : OnlyRegisters (graph_of heap book.history) after number) where
     -- a reply is shown
-    pub load_tells : MakesNone (seat_at state number).place → MakesNone place → Accepts (graph_of heap book.history) (Said number command reply) → KeepsSpace heap false book.history (Said number command reply)
+    pub keeps_rule_by_telling_load : MakesNone (seat_at state number).place → MakesNone place → Accepts (graph_of heap book.history) (Said number command reply) → KeepsSpace heap false book.history (Said number command reply)
         → Registers after book.made book.owner book.fragments number registers place (target_of (seat_at state number).command)
         → OwnList after (book.history ++ Said number command reply ∷ []) book.made book.owner book.fragments number new
         → WayStands (node_at after book.made) book.made book.owner book.fragments new place
@@ -144,28 +144,28 @@ module _ (heap : Heap) (state : State) (book : Book) (number : ℕ) (rule : Rule
         → SeatInCycle heap state.words (phase book.history) (last_answer number book.history) (has_left number book.history) book.owner book.colour number new
         → RootsGoOn heap state book rule number here new
         → Keeps heap state (loaded_state heap state number a new) book book.begun (Said number command reply ∷ [])
-    load_tells before then accepts keeps held list way address answers stays cycle roots =
+    keeps_rule_by_telling_load before then accepts keeps held list way address answers stays cycle roots =
         let entry : Entry = Said number command reply in
         let g : Graph = graph_of heap book.history in
         let stands = rule.seats_stand number here in
         from_same book.begun (entry ∷ [])
-        (told_keeps heap state book number state.words new command reply rule here same_machine
-        (legal_more heap false book.history entry rule.heap_stands.legal accepts keeps)
-        record { controls = λ group below. refl; unkept = λ f part free within. refl; spines = spines_left_none heap state.words }
-        (graph_replies g (after_reply g number command reply) number (rw grows only.changes) heap state.words book rule.heap_stands.ids rule.heap_stands.objects)
-        (none_weights (seat_at state number) new before then) (no_part entry (λ e. e.words) nothing refl)
+        (keeps_in_cycle_when_told heap state book number state.words new command reply rule here same_machine
+        (legal_after_entry heap false book.history entry rule.heap_stands.legal accepts keeps)
+        record { controls = λ group below. refl; unkept = λ f part free within. refl; spines = leaves_spines_of_itself heap state.words }
+        (graph_replies_of_registers g (after_reply g number command reply) number (rw grows only.changes) heap state.words book rule.heap_stands.ids rule.heap_stands.objects)
+        (same_weights_where_none_made (seat_at state number) new before then) (effect_part_is_none entry (λ e. e.words) nothing refl)
         (own_stays before then)
         (rw grows record { registers = held; way = way; address = address })
         (rw grows record {
           list = list;
-          counts = counts_own g after book.history number (seat_at state number) new stands.told.counts entry (eq-eqb number number refl)
+          counts = counts_agree_after_own g after book.history number (seat_at state number) new stands.told.counts entry (eq-eqb number number refl)
               (stands.told.counts.numbered ∙ sym only.changes.objects) (stands.told.counts.stamped ∙ sym only.changes.sets) (only.left ∙ stands.told.counts.leaves)
-              (omega (arith, no_part entry (λ e. e.given) nothing refl, no_part entry (λ e. e.born) nothing refl, no_part entry (λ e. e.taken) nothing refl));
-          began = began_told book.history entry number (book.begun number) (seat_at state number).place place answers stands.told.began;
-          gathers = gathers_stay heap book.owner number book.history (book.begun number) entry (seat_at state number).cursor (seat_at state number).tried (seat_at state number).given stands.told.began.earlier stands.told.gathers;
-          used = none_used heap (book.history ++ entry ∷ []) number new place then;
+              (omega (arith, effect_part_is_none entry (λ e. e.given) nothing refl, effect_part_is_none entry (λ e. e.born) nothing refl, effect_part_is_none entry (λ e. e.taken) nothing refl));
+          began = began_after_reply book.history entry number (book.begun number) (seat_at state number).place place answers stands.told.began;
+          gathers = gathers_right_after_entry heap book.owner number book.history (book.begun number) entry (seat_at state number).cursor (seat_at state number).tried (seat_at state number).given stands.told.began.earlier stands.told.gathers;
+          used = used_stands_where_none_made heap (book.history ++ entry ∷ []) number new place then;
         })
         rule.heap_stands.cycle
-        (cycle_own heap state.words book.owner book.colour book.history entry (no_part entry (λ e. e.phases) nothing refl) number new cycle (no_part entry (λ e. e.answers) nothing refl) stays)
-        (λ r below apart. leaves_same heap state.words book.owner book.colour (phase book.history) r)
+        (seat_in_cycle_after_own heap state.words book.owner book.colour book.history entry (effect_part_is_none entry (λ e. e.phases) nothing refl) number new cycle (effect_part_is_none entry (λ e. e.answers) nothing refl) stays)
+        (λ r below apart. leaves_cycle_unchanged heap state.words book.owner book.colour (phase book.history) r)
         (marks_go_on heap state book rule number here state.words (with_entry book entry) new words_lead refl roots))

@@ -7,12 +7,12 @@ use Rattle.core_machine.specs.declared.place.Collecting.{Collecting}
 use Rattle.core_machine.specs.declared.place.Place.TheVariants as places
 use Rattle.core_machine.specs.declared.table.address.Address.{Address}
 use Rattle.core_machine.specs.declared.seat.looks.Looks.{Looks}
-use Rattle.core_rule.proofs.entries.InFlight.{began_on}
+use Rattle.core_rule.proofs.entries.InFlight.{began_without_entry}
 use Rattle.core_rule.proofs.roots.CallRoots.{IsReachedNow}
-use Rattle.core_rule.proofs.marking.Marks.{roots_off_way}
+use Rattle.core_rule.proofs.marking.Marks.{roots_hold_off_way}
 use Rattle.core_rule.proofs.budgets.NoneMade.{MakesNone}
 use Rattle.core_rule.proofs.steps.Assemble.{Keeps}
-use Rattle.core_rule.proofs.steps.Loads.{went, went_cycle, loaded_state, load_goes, ends_went}
+use Rattle.core_rule.proofs.steps.Loads.{went, seat_in_cycle_after_load, loaded_state, keeps_rule_by_silent_load, keeps_rule_by_ending_load}
 
 module _ (heap : Heap) (state : State) (book : Book) (number : ℕ) (rule : Rule heap state book) (here : number < heap.seats) (a : Address) (looks : Looks)
     (makes : MakesNone (seat_at state number).place) (rest : IsAtRest (seat_at state number)) (silent : IsSilent (seat_at state number)) (busy : ¬ IsAnswered (seat_at state number).place)
@@ -24,28 +24,28 @@ module _ (heap : Heap) (state : State) (book : Book) (number : ℕ) (rule : Rule
   stands = rule.seats_stand number here
 
   -- the call is over
-  pub quiet_ends : IsMachine heap (loaded_state heap state number a (with_entries (record (call_over seat) { looks = looks }) []))
+  pub keeps_rule_by_quiet_end : IsMachine heap (loaded_state heap state number a (with_entries (record (call_over seat) { looks = looks }) []))
       → Keeps heap state (loaded_state heap state number a (with_entries (record (call_over seat) { looks = looks }) [])) book book.begun []
-  quiet_ends = ends_went heap state book number a seat.registers looks [] [] rest silent (λ machine.
+  keeps_rule_by_quiet_end = keeps_rule_by_ending_load heap state book number a seat.registers looks [] [] rest silent (λ machine.
       let new : Seat = went seat seat.registers 0 0 0 no_spot 0 places.Idle looks [] in
-      load_goes heap state book number rule here a seat.registers 0 0 0 no_spot 0 places.Idle looks [] machine makes tt
+      keeps_rule_by_silent_load heap state book number rule here a seat.registers 0 0 0 no_spot 0 places.Idle looks [] machine makes tt
       (λ r unawaited. stands.names.registers r (free r))
       record { awaited = []; own = append-nil new.mine ∙ append-nil seat.mine ∙ told; awaits = refl }
       tt tt
-      (began_on book.history number (book.begun number) seat.place places.Idle busy stands.told.began)
-      (went_cycle heap state book number rule here a seat.registers 0 0 0 no_spot 0 places.Idle looks [] machine tt)
-      (λ marks. roots_off_way (IsReachedNow heap state book) seat new refl tt))
+      (began_without_entry book.history number (book.begun number) seat.place places.Idle busy stands.told.began)
+      (seat_in_cycle_after_load heap state book number rule here a seat.registers 0 0 0 no_spot 0 places.Idle looks [] machine tt)
+      (λ marks. roots_hold_off_way (IsReachedNow heap state book) seat new refl tt))
 
   -- the call goes on at another place of a collect
-  pub quiet_goes : (place : Collecting) → IsMachine heap (loaded_state heap state number a (with_entries (record seat { place = places.Collecting place; looks = looks }) []))
+  pub keeps_rule_by_quiet_move : (place : Collecting) → IsMachine heap (loaded_state heap state number a (with_entries (record seat { place = places.Collecting place; looks = looks }) []))
       → Keeps heap state (loaded_state heap state number a (with_entries (record seat { place = places.Collecting place; looks = looks }) [])) book book.begun []
-  quiet_goes place machine =
+  keeps_rule_by_quiet_move place machine =
       let next = places.Collecting place in
       let new : Seat = went seat seat.registers seat.reached seat.links seat.part seat.address seat.loaded next looks [] in
-      load_goes heap state book number rule here a seat.registers seat.reached seat.links seat.part seat.address seat.loaded next looks [] machine makes tt
+      keeps_rule_by_silent_load heap state book number rule here a seat.registers seat.reached seat.links seat.part seat.address seat.loaded next looks [] machine makes tt
       (λ r unawaited. stands.names.registers r (free r))
       record { awaited = []; own = append-nil new.mine ∙ append-nil seat.mine ∙ told; awaits = refl }
       tt tt
-      (began_on book.history number (book.begun number) seat.place next busy stands.told.began)
-      (went_cycle heap state book number rule here a seat.registers seat.reached seat.links seat.part seat.address seat.loaded next looks [] machine tt)
-      (λ marks. roots_off_way (IsReachedNow heap state book) seat new refl tt)
+      (began_without_entry book.history number (book.begun number) seat.place next busy stands.told.began)
+      (seat_in_cycle_after_load heap state book number rule here a seat.registers seat.reached seat.links seat.part seat.address seat.loaded next looks [] machine tt)
+      (λ marks. roots_hold_off_way (IsReachedNow heap state book) seat new refl tt)

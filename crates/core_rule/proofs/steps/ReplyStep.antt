@@ -9,27 +9,27 @@ use Rattle.heap_model.proofs.Histories.{graph_after-more}
 use Rattle.core_machine.specs.declared.place.Place.TheVariants as places
 use Rattle.core_rule.specs.graph.Registers as regs
 use Rattle.core_rule.proofs.marking.Marks.{MarksGoOn}
-use Rattle.core_rule.proofs.steps.Assemble.{Keeps, seat_fits, seat_steps, step_space}
-use Rattle.core_rule.proofs.entries.AtRest.{own_reserve}
-use Rattle.core_rule.proofs.words.ControlLemmas.{bits_same}
-use Rattle.core_rule.proofs.cycle.CycleFrames.{LeavesCycle, cycle_stays}
-use Rattle.core_rule.proofs.cycle.FieldFrames.{watched_born}
-use Rattle.core_rule.proofs.cycle.CycleHistory.{heap_cycle_more, cycle_other}
-use Rattle.core_rule.proofs.hand.EmptyHand.{nothing_together, none_stored, gathers_none, holding_as, bare_unborn}
+use Rattle.core_rule.proofs.steps.Assemble.{Keeps, seat_fits, keeps_rule_after_step, space_stands_after_step}
+use Rattle.core_rule.proofs.entries.AtRest.{reserve_and_spent_is_taken}
+use Rattle.core_rule.proofs.words.ControlLemmas.{bits_where_controls_same}
+use Rattle.core_rule.proofs.cycle.CycleFrames.{LeavesCycle, seat_in_cycle_stays}
+use Rattle.core_rule.proofs.cycle.FieldFrames.{watched_is_born}
+use Rattle.core_rule.proofs.cycle.CycleHistory.{heap_in_cycle_after_entry, seat_in_cycle_after_other}
+use Rattle.core_rule.proofs.hand.EmptyHand.{together_where_empty, is_stored_where_none, gathers_right_unbegun, holding_of_equal_hand, bare_unborn_holds_reserve}
 use Rattle.core_rule.proofs.graph.GraphSeats.{SeatChanges}
-use Rattle.core_rule.proofs.entries.InFlight.{began_idle, stored_within}
-use Rattle.core_rule.proofs.entries.Others.{of_other}
-use Rattle.core_rule.proofs.entries.OwnEntries.{own_grows}
-use Rattle.core_rule.proofs.entries.ReplyEntries.{said_own, said_used, said_taken, said_spent}
-use Rattle.core_rule.proofs.graph.SameNodes.{SameShape, ids_stay, objects_stay, shapes_stay}
-use Rattle.core_rule.proofs.book.BookGoing.{book_stays}
-use Rattle.core_rule.proofs.frames.SeatFrames.{SameParty, with_entry, seat_stays, same_party}
-use Rattle.core_rule.proofs.hand.StoredFrames.{SameUnkept, stored_stays}
-use Rattle.core_rule.proofs.budgets.SameBooks.{grants_alike}
-use Rattle.core_rule.proofs.entries.ToldSpines.{seats_tell, told_spines}
-use Rattle.core_rule.proofs.budgets.NoneMade.{MakesNone, SameWeights, none_has_place, none_weights, none_made_words}
-use Rattle.core_rule.proofs.spines.SpineFrames.{same_kept, spines_stay, spine_away}
-use Rattle.core_rule.proofs.owners.DeadOwners.{dead_keeps_none}
+use Rattle.core_rule.proofs.entries.InFlight.{began_idle_after_reply, stored_within_body}
+use Rattle.core_rule.proofs.entries.Others.{seat_is_not_other}
+use Rattle.core_rule.proofs.entries.OwnEntries.{own_list_grows}
+use Rattle.core_rule.proofs.entries.ReplyEntries.{said_is_own, used_after_said, taken_stays_by_said, spent_stays_by_said}
+use Rattle.core_rule.proofs.graph.SameNodes.{SameShape, are_made_still, objects_with_same_nodes, same_shape_of_made}
+use Rattle.core_rule.proofs.book.BookGoing.{book_goes_on_with_history}
+use Rattle.core_rule.proofs.frames.SeatFrames.{SameParty, with_entry, seat_stands_with_entry, same_party_of_same_graph}
+use Rattle.core_rule.proofs.hand.StoredFrames.{SameUnkept, is_stored_still}
+use Rattle.core_rule.proofs.budgets.SameBooks.{same_grants_with_history}
+use Rattle.core_rule.proofs.entries.ToldSpines.{seat_entry_tells_no_spine, same_told_after_entry}
+use Rattle.core_rule.proofs.budgets.NoneMade.{MakesNone, SameWeights, no_place_where_none_made, same_weights_where_none_made, no_words_by_reply}
+use Rattle.core_rule.proofs.spines.SpineFrames.{same_kept_of_itself, spines_stand_with_budget, spine_in_hand_away}
+use Rattle.core_rule.proofs.owners.DeadOwners.{dead_is_not_kept}
 
 -- the graph has the same objects of the same shapes, with the cells that their words have, and the other seats' data
 pub record GraphReplies (heap : Heap) (words : List ℕ) (book : Book) (g now : Graph) (number : ℕ) : Type 0 where
@@ -39,13 +39,13 @@ pub record GraphReplies (heap : Heap) (words : List ℕ) (book : Book) (g now : 
   pub others : (r : ℕ) → r ≢ number → SameParty g now r
 
 -- so it is where the registers of a seat change alone
-pub graph_replies : (g now : Graph) (number : ℕ) → SeatChanges g now number → (heap : Heap) (words : List ℕ) (book : Book) → AreMade g book.made → Objects heap words g book.made book.owner book.fragments book.spines
+pub graph_replies_of_registers : (g now : Graph) (number : ℕ) → SeatChanges g now number → (heap : Heap) (words : List ℕ) (book : Book) → AreMade g book.made → Objects heap words g book.made book.owner book.fragments book.spines
     → GraphReplies heap words book g now number
-graph_replies g now number changes heap words book ids objects = record {
-  ids = ids_stay g now book.made changes.nodes ids;
-  objects = objects_stay g now book.made changes.nodes book.owner book.fragments book.spines heap words objects;
-  shapes = shapes_stay g now book.made changes.nodes;
-  others = λ r apart. same_party g now r (changes.others r apart);
+graph_replies_of_registers g now number changes heap words book ids objects = record {
+  ids = are_made_still g now book.made changes.nodes ids;
+  objects = objects_with_same_nodes g now book.made changes.nodes book.owner book.fragments book.spines heap words objects;
+  shapes = same_shape_of_made g now book.made changes.nodes;
+  others = λ r apart. same_party_of_same_graph g now r (changes.others r apart);
 }
 
 -- the seat stands idle, has told the reply, and what it has is the graph's
@@ -93,73 +93,73 @@ module _ (heap : Heap) (state : State) (book : Book) (number : ℕ) (words : Lis
       → Keeps heap state (record state { words = words; seats = slice_set state.seats number now }) book book.begun (entry ∷ [])
 
   -- a reply is told, and what the seat has, names and is told of stands
-  pub told_keeps : IsLegal heap false later.history → SameUnkept heap book.owner state.words words → GraphReplies heap words book before after number
+  pub keeps_in_cycle_when_told : IsLegal heap false later.history → SameUnkept heap book.owner state.words words → GraphReplies heap words book before after number
       → SameWeights seat now → words_by command reply ≡ 0
       → OwnStands heap words book.owner book.spine_owner number now → NamesStand heap words after book.made book.owner book.fragments book.spines book.spine_owner number now
       → ToldStands heap after later.history book.made book.owner book.fragments (book.begun number) number now
       → KeepsInCycle
-  told_keeps legal same grows weights wordless own names told heap_cycle cycle leaves marks =
-      seat_steps heap state book number words now later (entry ∷ []) rule here machine refl refl
+  keeps_in_cycle_when_told legal same grows weights wordless own names told heap_cycle cycle leaves marks =
+      keeps_rule_after_step heap state book number words now later (entry ∷ []) rule here machine refl refl
       record {
-        control_words = bits_same heap state.words words book.owner same.controls rule.heap_stands.control_words;
+        control_words = bits_where_controls_same heap state.words words book.owner same.controls rule.heap_stands.control_words;
         owners = rule.heap_stands.owners;
         ids = rw graph grows.ids;
         objects = rw graph grows.objects;
-        spines = rw graph (spines_stay heap state.words words same.spines heap.seats (length book.made) book.spines book.fragments book.spine_owner (node_at before book.made) (node_at after book.made)
-            book.owner book.owner (same_kept book.owner) grows.shapes
-            (λ f i k is. (is, same.unkept f 0 (λ j m. dead_keeps_none j m (book.owner f) (ap dead_bit is)) (omega arith))) rule.heap_stands.spines);
-        used = said_used book.history number command reply heap book.owner rule.heap_stands.used;
-        cycle = heap_cycle_more heap words book.owner book.colour book.history entry refl book.fragments heap_cycle;
+        spines = rw graph (spines_stand_with_budget heap state.words words same.spines heap.seats (length book.made) book.spines book.fragments book.spine_owner (node_at before book.made) (node_at after book.made)
+            book.owner book.owner (same_kept_of_itself book.owner) grows.shapes
+            (λ f i k is. (is, same.unkept f 0 (λ j m. dead_is_not_kept j m (book.owner f) (ap dead_bit is)) (omega arith))) rule.heap_stands.spines);
+        used = used_after_said book.history number command reply heap book.owner rule.heap_stands.used;
+        cycle = heap_in_cycle_after_entry heap words book.owner book.colour book.history entry refl book.fragments heap_cycle;
         legal = legal;
       }
       record { own = own; names = rw graph names; told = rw graph told; cycle = cycle }
-      (λ r below apart other. seat_stays heap state.words words book entry r (seat_at state r) (of_other number r apart)
+      (λ r below apart other. seat_stands_with_entry heap state.words words book entry r (seat_at state r) (seat_is_not_other number r apart)
       (rw graph (grows.others r apart))
       (rw graph grows.shapes)
-      (stored_stays heap book.owner state.words words r (seat_at state r) same other.own.holding (stored_within heap (seat_at state r) (seat_at state r).place (seat_fits rule r below).at_place) other.own.stored)
+      (is_stored_still heap book.owner state.words words r (seat_at state r) same other.own.holding (stored_within_body heap (seat_at state r) (seat_at state r).place (seat_fits rule r below).at_place) other.own.stored)
       same.spines.spines
-      (cycle_other heap words book.owner book.colour book.history entry refl r (seat_at state r)
-      (cycle_stays heap state.words words book.owner book.owner book.colour book.colour (phase book.history) (last_answer r book.history) (has_left r book.history) r (seat_at state r)
-      (leaves r below apart) (watched_born heap state book rule r below) other.cycle) (of_other number r apart))
+      (seat_in_cycle_after_other heap words book.owner book.colour book.history entry refl r (seat_at state r)
+      (seat_in_cycle_stays heap state.words words book.owner book.owner book.colour book.colour (phase book.history) (last_answer r book.history) (has_left r book.history) r (seat_at state r)
+      (leaves r below apart) (watched_is_born heap state book rule r below) other.cycle) (seat_is_not_other number r apart))
       other)
       marks
-      (step_space heap state book number rule here words now later same.spines weights
-      (grants_alike heap book later.history (told_spines book.history entry (seats_tell entry refl wordless)) (rw graph grows.shapes)) (λ f dark. dark))
-      (book_stays heap state book later.history book.begun)
+      (space_stands_after_step heap state book number rule here words now later same.spines weights
+      (same_grants_with_history heap book later.history (same_told_after_entry book.history entry (seat_entry_tells_no_spine entry refl wordless)) (rw graph grows.shapes)) (λ f dark. dark))
+      (book_goes_on_with_history heap state book later.history book.begun)
 
   -- the seat stands idle then
-  pub reply_keeps : made_by command reply ≡ 0 → MakesNone seat.place → IsAtRest seat → seat.mine ≡ filter (is_of number) book.history → IsLegal heap false later.history
+  pub keeps_in_cycle_when_idle : made_by command reply ≡ 0 → MakesNone seat.place → IsAtRest seat → seat.mine ≡ filter (is_of number) book.history → IsLegal heap false later.history
       → SameUnkept heap book.owner state.words words → GraphReplies heap words book before after number → SeatReplies book after number seat now entry
       → KeepsInCycle
-  reply_keeps none makes rest told legal same grows replies heap_cycle cycle leaves marks =
+  keeps_in_cycle_when_idle none makes rest told legal same grows replies heap_cycle cycle leaves marks =
       let stands = rule.seats_stand number here in
       let idle : IsAtRest now = rw replies.idle at fit_after.at_place in
-      let own = own_reserve heap state book number rule here rest in
+      let own = reserve_and_spent_is_taken heap state book number rule here rest in
       let ends : MakesNone now.place = rw replies.idle tt in
-      told_keeps legal same grows (none_weights seat now makes ends) (none_made_words command reply none)
+      keeps_in_cycle_when_told legal same grows (same_weights_where_none_made seat now makes ends) (no_words_by_reply command reply none)
       record {
-        holding = holding_as book.owner number seat.reserve seat.hand seat.body now.reserve now.hand now.body replies.reserve
+        holding = holding_of_equal_hand book.owner number seat.reserve seat.hand seat.body now.reserve now.hand now.body replies.reserve
             (idle.empty_hand ∙ sym rest.empty_hand) (idle.no_body ∙ sym rest.no_body) stands.own.holding;
-        stored = none_stored heap words number now idle.none_stored;
-        together = nothing_together heap now.cursor now.tried now.hand now.body idle.empty_hand idle.no_body;
-        spine = spine_away heap state.words words book.spine_owner number seat now (none_has_place seat seat.place makes) (none_has_place now now.place ends) stands.own.spine;
+        stored = is_stored_where_none heap words number now idle.none_stored;
+        together = together_where_empty heap now.cursor now.tried now.hand now.body idle.empty_hand idle.no_body;
+        spine = spine_in_hand_away heap state.words words book.spine_owner number seat now (no_place_where_none_made seat seat.place makes) (no_place_where_none_made now now.place ends) stands.own.spine;
       }
       record { registers = λ i awake. replies.registers i; way = rw replies.idle tt; address = rw replies.idle tt }
       record {
         list = record {
           awaited = [];
-          own = append-nil now.mine ∙ replies.mine ∙ own_grows number book.history seat.mine entry (said_own book.history number command reply) told;
+          own = append-nil now.mine ∙ replies.mine ∙ own_list_grows number book.history seat.mine entry (said_is_own book.history number command reply) told;
           awaits = rw replies.idle refl;
         };
         counts = record {
           numbered = replies.made;
           stamped = replies.sets;
           leaves = replies.left;
-          unborn = bare_unborn seat.reserve now.reserve now.hand now.body (spent_of number later.history) (taken_of number later.history) replies.reserve idle.empty_hand idle.no_body
-              (omega (arith, own, said_taken book.history number command reply none, said_spent book.history number command reply none));
+          unborn = bare_unborn_holds_reserve seat.reserve now.reserve now.hand now.body (spent_of number later.history) (taken_of number later.history) replies.reserve idle.empty_hand idle.no_body
+              (omega (arith, own, taken_stays_by_said book.history number command reply none, spent_stays_by_said book.history number command reply none));
         };
-        began = rw replies.idle (began_idle book.history entry number (book.begun number) seat.place stands.told.began);
-        gathers = gathers_none heap book.owner number (drop (book.begun number) later.history) now.cursor now.tried now.given idle.none_tried idle.none_given;
+        began = rw replies.idle (began_idle_after_reply book.history entry number (book.begun number) seat.place stands.told.began);
+        gathers = gathers_right_unbegun heap book.owner number (drop (book.begun number) later.history) now.cursor now.tried now.given idle.none_tried idle.none_given;
         used = rw replies.idle tt;
       }
       heap_cycle cycle leaves marks

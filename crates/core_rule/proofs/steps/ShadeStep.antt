@@ -9,24 +9,24 @@ use Rattle.core_machine.specs.declared.table.address.Address.TheVariants.{Answer
 use Rattle.core_machine.specs.table.Operation.{shade_bit_of}
 use Rattle.core_rule.specs.roots.Roots.{IsInMarking}
 use Rattle.core_rule.specs.owners.Owners.{Kept as KeepsPart}
-use Rattle.core_rule.proofs.budgets.BudgetFrames.{grants_same}
+use Rattle.core_rule.proofs.budgets.BudgetFrames.{same_grants_recoloured}
 use Rattle.core_rule.proofs.frames.SeatFrames.{AddressAt}
-use Rattle.core_rule.proofs.book.BookGoing.{IsNamed, mark_goes}
-use Rattle.core_rule.proofs.frames.Recoloured.{Recolours, heap_recoloured, seat_recoloured}
-use Rattle.core_rule.proofs.colours.OneBit.{bits_marked}
+use Rattle.core_rule.proofs.book.BookGoing.{IsNamed, book_goes_on_with_mark}
+use Rattle.core_rule.proofs.frames.Recoloured.{Recolours, heap_stands_after_recolouring, seat_stands_after_recolouring}
+use Rattle.core_rule.proofs.colours.OneBit.{bits_after_mark}
 use Rattle.core_rule.proofs.words.Addresses.{at-put_apart}
 use Rattle.core_rule.proofs.marking.Marks.{RootsGoOn}
-use Rattle.core_rule.proofs.marking.SeatShades.{marks_shaded}
-use Rattle.core_rule.proofs.steps.Assemble.{Keeps, seat_steps, step_space, in_flight}
-use Rattle.core_rule.proofs.entries.InFlight.{began_on}
-use Rattle.core_rule.proofs.ways.KeptWords.{kept_within}
-use Rattle.core_rule.proofs.objects.ObjectFrames.{bears_keeps_none}
-use Rattle.core_rule.proofs.entries.OwnEntries.{counts_same}
-use Rattle.core_rule.proofs.colours.ShadeColours.{with_mark, mark_keeps, mark_marks, mark_away, marks_shade, coloured_shade}
-use Rattle.core_rule.proofs.hand.StoredFrames.{stored_control}
-use Rattle.core_rule.proofs.budgets.NoneMade.{MakesNone, none_has_place, none_used, none_weights}
-use Rattle.core_rule.proofs.spines.OtherWords.{spines_left_control}
-use Rattle.core_rule.proofs.spines.SpineFrames.{address_words, spine_away}
+use Rattle.core_rule.proofs.marking.SeatShades.{marks_go_on_after_shade}
+use Rattle.core_rule.proofs.steps.Assemble.{Keeps, keeps_rule_after_step, space_stands_after_step, in_flight_has_not_left}
+use Rattle.core_rule.proofs.entries.InFlight.{began_without_entry}
+use Rattle.core_rule.proofs.ways.KeptWords.{owned_within_heap}
+use Rattle.core_rule.proofs.objects.ObjectFrames.{borne_is_not_kept}
+use Rattle.core_rule.proofs.entries.OwnEntries.{counts_agree_without_entry}
+use Rattle.core_rule.proofs.colours.ShadeColours.{with_mark, mark_keeps_marked, mark_marks_fragment, mark_keeps_other_colour, marks_after_shade, coloured_after_shade}
+use Rattle.core_rule.proofs.hand.StoredFrames.{is_stored_after_control}
+use Rattle.core_rule.proofs.budgets.NoneMade.{MakesNone, no_place_where_none_made, used_stands_where_none_made, same_weights_where_none_made}
+use Rattle.core_rule.proofs.spines.OtherWords.{leaves_spines_after_control}
+use Rattle.core_rule.proofs.spines.SpineFrames.{address_stands_with_words, spine_in_hand_away}
 
 -- the seat after a shade: elsewhere, and with so many roots shaded
 abbrev pub shading : Seat → ℕ → Place → Seat
@@ -38,35 +38,35 @@ module _ (heap : Heap) (state : State) (book : Book) (number : ℕ) (rule : Rule
   owned : book.owner f ≡ KeepsPart index 0
   owned = ap book.owner first ∙ kept
 
-  pub shade_within : f < 16 * heap.groups
-  shade_within = kept_within heap state.words book.owner f index 0 rule.heap_stands.control_words owned
+  pub shaded_within_heap : f < 16 * heap.groups
+  shaded_within_heap = owned_within_heap heap state.words book.owner f index 0 rule.heap_stands.control_words owned
 
   abbrev pub words_shaded : List ℕ
   words_shaded = put heap state.words (Control (f / 16)) (bit_or (at heap state.words (Control (f / 16))) (shade_bit_of f))
 
   group_below : f / 16 < heap.groups
-  group_below = omega (arith, shade_within)
+  group_below = omega (arith, shaded_within_heap)
 
   -- another seat's answer stays
-  pub answer_shaded : (r : ℕ) → r < heap.seats → at heap words_shaded (Answer r) ≡ at heap state.words (Answer r)
-  answer_shaded r less = at-put_apart heap state.words (Control (f / 16)) (Answer r) _ (λ e. omega (arith, e, less, rule.machine.limits.seats_fit))
+  pub answer_same_after_shade : (r : ℕ) → r < heap.seats → at heap words_shaded (Answer r) ≡ at heap state.words (Answer r)
+  answer_same_after_shade r less = at-put_apart heap state.words (Control (f / 16)) (Answer r) _ (λ e. omega (arith, e, less, rule.machine.limits.seats_fit))
 
   -- what a seat bears has the colour that it had
-  pub borne_unshaded : (r x : ℕ) → book.owner x ≡ Borne r → with_mark book.colour f x ≡ book.colour x
-  borne_unshaded r x borne = mark_away book.colour f x (λ same. bears_keeps_none r index 0 (sym borne ∙ ap book.owner same ∙ owned))
+  pub borne_colour_same_after_shade : (r x : ℕ) → book.owner x ≡ Borne r → with_mark book.colour f x ≡ book.colour x
+  borne_colour_same_after_shade r x borne = mark_keeps_other_colour book.colour f x (λ same. borne_is_not_kept r index 0 (sym borne ∙ ap book.owner same ∙ owned))
 
   -- the control words have the new colours
   recolours : phase book.history % cycle_phases ≢ resting → Recolours heap words_shaded book (with_mark book.colour f)
   recolours runs = record {
-    bits = bits_marked heap state.words book.owner 32 f rule.machine.table shade_within (omega arith) rule.heap_stands.control_words;
-    marks = marks_shade heap state.words book.owner book.colour f rule.machine.table shade_within rule.heap_stands.cycle.marks;
-    right = coloured_shade heap state.words book.owner book.colour f rule.machine.table shade_within book.fragments (phase book.history) index 0 owned
-        (subst (IsMarked (with_mark book.colour f)) first (mark_marks book.colour f)) runs rule.heap_stands.cycle.coloured;
-    keeps = mark_keeps book.colour f;
-    births = borne_unshaded;
+    bits = bits_after_mark heap state.words book.owner 32 f rule.machine.table shaded_within_heap (omega arith) rule.heap_stands.control_words;
+    marks = marks_after_shade heap state.words book.owner book.colour f rule.machine.table shaded_within_heap rule.heap_stands.cycle.marks;
+    right = coloured_after_shade heap state.words book.owner book.colour f rule.machine.table shaded_within_heap book.fragments (phase book.history) index 0 owned
+        (subst (IsMarked (with_mark book.colour f)) first (mark_marks_fragment book.colour f)) runs rule.heap_stands.cycle.coloured;
+    keeps = mark_keeps_marked book.colour f;
+    births = borne_colour_same_after_shade;
   }
 
-  pub shade_keeps : (shaded : ℕ) (place : Place) → phase book.history % cycle_phases ≢ resting
+  pub keeps_rule_by_shade : (shaded : ℕ) (place : Place) → phase book.history % cycle_phases ≢ resting
       → IsMachine heap (record state { words = words_shaded; seats = slice_set state.seats number (shading (seat_at state number) shaded place) })
       → Registers (graph_of heap book.history) book.made book.owner book.fragments number (seat_at state number).registers place (target_of (seat_at state number).command)
       → OwnList (graph_of heap book.history) book.history book.made book.owner book.fragments number (shading (seat_at state number) shaded place)
@@ -77,37 +77,37 @@ module _ (heap : Heap) (state : State) (book : Book) (number : ℕ) (rule : Rule
       → (IsInMarking state.collector → (seat_at state number).answered ≡ state.collector.phase → IsReached heap state.words book.owner book.colour f)
       → RootsGoOn heap state book rule number here (shading (seat_at state number) shaded place) → (seat_at state number).answered % cycle_phases ≢ clearing_phase
       → IsNamed heap state book f → Keeps heap state (record state { words = words_shaded; seats = slice_set state.seats number (shading (seat_at state number) shaded place) }) book book.begun []
-  shade_keeps shaded place runs machine held list way before after address busy cycle comes roots early named =
+  keeps_rule_by_shade shaded place runs machine held list way before after address busy cycle comes roots early named =
       let seat : Seat = seat_at state number in
       let new : Seat = shading seat shaded place in
       let stands = rule.seats_stand number here in
       let now : Book = record book { colour = with_mark book.colour f } in
-      let leaves = spines_left_control heap state.words _ (f / 16) group_below in
-      seat_steps heap state book number words_shaded new now [] rule here machine (sym (append-nil book.history)) refl
-      (heap_recoloured heap state book rule (f / 16) _ group_below (with_mark book.colour f) (recolours runs))
+      let leaves = leaves_spines_after_control heap state.words _ (f / 16) group_below in
+      keeps_rule_after_step heap state book number words_shaded new now [] rule here machine (sym (append-nil book.history)) refl
+      (heap_stands_after_recolouring heap state book rule (f / 16) _ group_below (with_mark book.colour f) (recolours runs))
       record {
         own = record {
           holding = stands.own.holding;
-          stored = stored_control heap state.words number seat (f / 16) _ group_below stands.own.stored;
+          stored = is_stored_after_control heap state.words number seat (f / 16) _ group_below stands.own.stored;
           together = stands.own.together;
-          spine = spine_away heap state.words words_shaded book.spine_owner number seat new (none_has_place seat seat.place before) (none_has_place new place after) stands.own.spine;
+          spine = spine_in_hand_away heap state.words words_shaded book.spine_owner number seat new (no_place_where_none_made seat seat.place before) (no_place_where_none_made new place after) stands.own.spine;
         };
         names = record {
           registers = held;
           way = way;
-          address = address_words heap state.words words_shaded leaves.spines (node_at (graph_of heap book.history) book.made) book.owner book.fragments book.spines book.spine_owner new place address;
+          address = address_stands_with_words heap state.words words_shaded leaves.spines (node_at (graph_of heap book.history) book.made) book.owner book.fragments book.spines book.spine_owner new place address;
         };
         told = record {
           list = list;
-          counts = counts_same (graph_of heap book.history) book.history number seat new refl refl refl refl stands.told.counts;
-          began = began_on book.history number (book.begun number) seat.place place busy stands.told.began;
+          counts = counts_agree_without_entry (graph_of heap book.history) book.history number seat new refl refl refl refl stands.told.counts;
+          began = began_without_entry book.history number (book.begun number) seat.place place busy stands.told.began;
           gathers = stands.told.gathers;
-          used = none_used heap book.history number new place after;
+          used = used_stands_where_none_made heap book.history number new place after;
         };
         cycle = cycle;
       }
-      (λ r less apart other. seat_recoloured heap state book rule (f / 16) _ group_below (with_mark book.colour f) (recolours runs) r less other)
-      (marks_shaded heap state book rule f shade_within number here new record { index = index; place = 0; kept = owned }
-      (in_flight rule number here (λ idle. busy (subst IsAnswered (sym idle) tt))) refl comes roots early)
-      (step_space heap state book number rule here words_shaded new now leaves (none_weights seat new before after) (grants_same heap book (with_mark book.colour f) book.begun) (mark_keeps book.colour f))
-      (mark_goes heap state book f named)
+      (λ r less apart other. seat_stands_after_recolouring heap state book rule (f / 16) _ group_below (with_mark book.colour f) (recolours runs) r less other)
+      (marks_go_on_after_shade heap state book rule f shaded_within_heap number here new record { index = index; place = 0; kept = owned }
+      (in_flight_has_not_left rule number here (λ idle. busy (subst IsAnswered (sym idle) tt))) refl comes roots early)
+      (space_stands_after_step heap state book number rule here words_shaded new now leaves (same_weights_where_none_made seat new before after) (same_grants_recoloured heap book (with_mark book.colour f) book.begun) (mark_keeps_marked book.colour f))
+      (book_goes_on_with_mark heap state book f named)

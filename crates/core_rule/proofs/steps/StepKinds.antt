@@ -18,18 +18,18 @@ use Rattle.core_machine.specs.seat.Looks.{forgotten}
 use Rattle.core_rule.specs.told.Found.{TellsWord}
 use Rattle.core_rule.specs.looks.Looks.{LooksStand}
 use Rattle.core_rule.specs.Stands.{Stands}
-pub use Rattle.core_rule.proofs.entries.StepTells.{shows_none, shows_plain, local_plain, shows_get, shows_some, meta_plain, shows_claim, shows_one, gives, SeatShows, refuses, refuses_words, shows_answer, shows_poll, shows_note}
-use Rattle.core_rule.proofs.looks.Follows.{IsBlind, MoveFollows, follows_way}
-pub use Rattle.core_rule.proofs.looks.Follows.{blind_follows, load_follows, get_follows, old_follows, meta_follows, birth_follows, refusal_follows, answer_follows, poll_follows, compare_follows}
-use Rattle.core_rule.proofs.looks.Moves.{Goes, GoesBy, NoReplies, quiet, no_entries}
-pub use Rattle.core_rule.proofs.looks.Moves.{ends, seen_first, one_own, reply_goes, get_goes, old_goes, meta_goes, none_claimed, birth_goes, refusal_goes, answer_goes, polling_goes, find_goes}
-pub use Rattle.core_rule.proofs.looks.Origins.{from_usual, new_usual, field_usual, get_usual, from_load, walk_usual, meta_usual, from_grant, claim_usual, IsUsual, ComesFrom, store_usual, over_usual, phase_usual}
+pub use Rattle.core_rule.proofs.entries.StepTells.{shows_none, shows_plain, local_reply_is_plain, shows_get, shows_reply_if, meta_reply_is_plain, shows_claim, shows_one, gives, SeatShows, refuses, refuses_words, shows_answer, shows_poll, shows_note}
+use Rattle.core_rule.proofs.looks.Follows.{IsBlind, MoveFollows, looks_follow_way}
+pub use Rattle.core_rule.proofs.looks.Follows.{looks_follow_blind_step, looks_follow_phase_load, looks_follow_get, looks_follow_old_load, looks_follow_meta, looks_follow_birth, looks_follow_refusal, looks_follow_answer, looks_follow_poll, looks_follow_compare}
+use Rattle.core_rule.proofs.looks.Moves.{Goes, GoesBy, NoReplies, looks_go_quiet, empty_has_no_replies}
+pub use Rattle.core_rule.proofs.looks.Moves.{looks_go_at_end, looks_go_at_first_seen, other_is_not_own, looks_go_at_reply, looks_go_at_get, looks_go_at_old_load, looks_go_at_meta, claim_has_no_replies, looks_go_at_birth, looks_go_at_refusal, looks_go_at_answer, looks_go_at_polling, looks_go_at_find}
+pub use Rattle.core_rule.proofs.looks.Origins.{comes_from_usual, new_place_is_usual, field_place_is_usual, get_is_usual, comes_from_old_load, walk_is_usual, meta_is_usual, comes_from_grant, claim_is_usual, IsUsual, ComesFrom, store_place_is_usual, polling_over_is_usual, phase_load_is_usual}
 use Rattle.core_rule.proofs.looks.Ways.{StaysFound}
-pub use Rattle.core_rule.proofs.looks.Ways.{stays_walk, stays_budget, stays_claim}
+pub use Rattle.core_rule.proofs.looks.Ways.{stays_found_after_walk, stays_found_after_budget, stays_found_after_claim}
 use Rattle.core_rule.proofs.steps.Assemble.{Keeps, StepKeeps}
-use Rattle.core_rule.proofs.words.BitsLeft.{bits_left}
+use Rattle.core_rule.proofs.words.BitsLeft.{fragment_bit_stays}
 pub use Rattle.core_rule.proofs.words.BitsLeft.{spares, only_loads, beside, LeavesBits}
-pub use Rattle.core_rule.proofs.told.StepsFind.{poll_finds, meta_finds, birth_finds, refusal_finds, comparing_finds}
+pub use Rattle.core_rule.proofs.told.StepsFind.{tells_at_poll, tells_at_meta, tells_at_birth, tells_at_refusal, tells_at_comparing}
 
 -- the step that is due at the place keeps the rule
 abbrev pub PlaceKeeps : Place → Type 0
@@ -91,14 +91,14 @@ pub record OnItsWay (place : Place) (move : Heap → ℕ → Seat → Move) : Ty
   pub stays : (heap : Heap) (number : ℕ) (seat : Seat) (found : ℕ) → seat.place ≡ place → StaysFound seat ((move heap number seat).told found)
   pub comes : (heap : Heap) (number : ℕ) (seat : Seat) (found : ℕ) → ComesFrom place ((move heap number seat).told found).place
 
-pub on_its_way : (place : Place) (move : Heap → ℕ → Seat → Move) → IsDue place move → OnItsWay place move → OnLooks place
-on_its_way place move due way = record {
+pub on_looks_of_way : (place : Place) (move : Heap → ℕ → Seat → Move) → IsDue place move → OnItsWay place move → OnLooks place
+on_looks_of_way place move due way = record {
   follows = λ heap state number seat compares placed. subst (MoveFollows heap state seat) (sym (due heap number seat))
-      (follows_way heap state number seat (move heap number seat).step ((move heap number seat).told (found_by heap state (move heap number seat).step)) (way.blind heap number seat)
+      (looks_follow_way heap state number seat (move heap number seat).step ((move heap number seat).told (found_by heap state (move heap number seat).step)) (way.blind heap number seat)
       (way.stays heap number seat (found_by heap state (move heap number seat).step) placed));
   goes = λ heap state book rule number placed. subst (GoesBy heap state book rule number) (sym (due heap number (seat_at state number)))
       (let stays = way.stays heap number (seat_at state number) (found_by heap state (move heap number (seat_at state number)).step) placed in
-      quiet heap number book.history (seat_at state number) _ _ (λ named. way.unnamed (sym placed ∙ named))
+      looks_go_quiet heap number book.history (seat_at state number) _ _ (λ named. way.unnamed (sym placed ∙ named))
       (way.mute heap number (seat_at state number) state.words (found_by heap state (move heap number (seat_at state number)).step)) record { looks = stays.looks; elsewhere = stays.elsewhere });
   comes = λ heap number seat found placed. subst (λ o. ComesFrom place (seat_after_due seat o found).place) (sym (due heap number seat)) (way.comes heap number seat found);
 }
@@ -111,18 +111,18 @@ pub record WayKind (place : Place) (move : Heap → ℕ → Seat → Move) : Typ
   pub words : OnWords place
   pub found : PlaceFinds place
 
-pub way_kind : (place : Place) (move : Heap → ℕ → Seat → Move) → IsDue place move → place ≢ places.Access Naming → ((heap : Heap) (number : ℕ) (seat : Seat) → IsBlind (Some (move heap number seat).step))
+pub step_kind_of_way : (place : Place) (move : Heap → ℕ → Seat → Move) → IsDue place move → place ≢ places.Access Naming → ((heap : Heap) (number : ℕ) (seat : Seat) → IsBlind (Some (move heap number seat).step))
     → ((heap : Heap) (number : ℕ) (seat : Seat) (words : List ℕ) (found : ℕ) → (move heap number seat).shows words found ≡ []) → WayKind place move → StepKind place
-way_kind place move due unnamed blind silent kind = record {
+step_kind_of_way place move due unnamed blind silent kind = record {
   keeps = λ heap state book number rule here looks placed.
       subst (λ o. IsMachine heap (state_after_due heap state number o) → Keeps heap state (state_after_due heap state number o) book book.begun (entries_shown heap state o)) (sym (due heap number (seat_at state number)))
       (kind.keeps heap state book number rule here placed);
   shows = λ heap state number. subst (λ o. SeatShows number (seat_at state number) place (entries_shown heap state o)) (sym (due heap number (seat_at state number)))
       (subst (SeatShows number (seat_at state number) place) (sym (silent heap number (seat_at state number) state.words (found_by heap state (move heap number (seat_at state number)).step))) shows_none);
-  looks = on_its_way place move due record {
+  looks = on_looks_of_way place move due record {
     unnamed = unnamed;
     blind = blind;
-    mute = λ heap number seat words found. subst NoReplies (sym (silent heap number seat words found)) no_entries;
+    mute = λ heap number seat words found. subst NoReplies (sym (silent heap number seat words found)) empty_has_no_replies;
     stays = kind.stays;
     comes = kind.comes;
   };
@@ -131,40 +131,40 @@ way_kind place move due unnamed blind silent kind = record {
 }
 
 -- a step that looks at nothing, tells a reply, and ends the call
-pub reply_ends : (place : Place) (move : Heap → ℕ → Seat → Move) (reply : Seat → ℕ → Reply) → IsDue place move → ((heap : Heap) (number : ℕ) (seat : Seat) → IsBlind (Some (move heap number seat).step))
+pub on_looks_of_reply : (place : Place) (move : Heap → ℕ → Seat → Move) (reply : Seat → ℕ → Reply) → IsDue place move → ((heap : Heap) (number : ℕ) (seat : Seat) → IsBlind (Some (move heap number seat).step))
     → ((heap : Heap) (number : ℕ) (seat : Seat) (found : ℕ) → ((move heap number seat).told found).looks ≡ forgotten seat.looks)
     → ((heap : Heap) (number : ℕ) (seat : Seat) (found : ℕ) → ((move heap number seat).told found).place ≡ places.Idle)
     → ((heap : Heap) (number : ℕ) (seat : Seat) (words : List ℕ) (found : ℕ) → (move heap number seat).shows words found ≡ Said number seat.command (reply seat found) ∷ []) → OnLooks place
-reply_ends place move reply due blind looks idle tells = record {
+on_looks_of_reply place move reply due blind looks idle tells = record {
   follows = λ heap state number seat compares placed. subst (MoveFollows heap state seat) (sym (due heap number seat))
-      (blind_follows heap state (Some (move heap number seat).step) seat.looks ((move heap number seat).told (found_by heap state (move heap number seat).step)).looks (blind heap number seat)
+      (looks_follow_blind_step heap state (Some (move heap number seat).step) seat.looks ((move heap number seat).told (found_by heap state (move heap number seat).step)).looks (blind heap number seat)
       (ap (λ (l : Looks). l.waits) (looks heap number seat (found_by heap state (move heap number seat).step))) (ap (λ (l : Looks). l.seen) (looks heap number seat (found_by heap state (move heap number seat).step))));
   goes = λ heap state book rule number placed. subst (GoesBy heap state book rule number) (sym (due heap number (seat_at state number)))
       (let seat : Seat = seat_at state number in
       let found : ℕ = found_by heap state (move heap number seat).step in
       subst (Goes heap state book rule number (seat_after (move heap number seat) found)) (sym (tells heap number seat state.words found))
-      (reply_goes heap state book rule number (seat_after (move heap number seat) found) (reply seat found) (looks heap number seat found) (idle heap number seat found)));
+      (looks_go_at_reply heap state book rule number (seat_after (move heap number seat) found) (reply seat found) (looks heap number seat found) (idle heap number seat found)));
   comes = λ heap number seat found placed. subst (λ o. ComesFrom place (seat_after_due seat o found).place) (sym (due heap number seat))
       (subst (ComesFrom place) (sym (idle heap number seat found)) tt);
 }
 
 -- a step that leaves the born bits bears nothing
-pub bears_none : (place : Place) (move : Heap → ℕ → Seat → Move) → IsDue place move → (heap : Heap) (state : State) (book : Book) → Rule heap state book → (number f : ℕ) → f < 16 * heap.groups
+pub birth_colour_where_none_borne : (place : Place) (move : Heap → ℕ → Seat → Move) → IsDue place move → (heap : Heap) (state : State) (book : Book) → Rule heap state book → (number f : ℕ) → f < 16 * heap.groups
     → ¬ IsBorn heap state.words f → LeavesBits heap 16 32 (move heap number (seat_at state number)).step
     → IsBorn heap (state_after_due heap state number (move_at heap number (seat_at state number) place)).words f
     → HasBirthColour heap (state_after_due heap state number (move_at heap number (seat_at state number) place)).words f (last_answer number book.history)
-bears_none place move due heap state book rule number f within unborn bits =
+birth_colour_where_none_borne place move due heap state book rule number f within unborn bits =
     subst (λ o. IsBorn heap (state_after_due heap state number o).words f → HasBirthColour heap (state_after_due heap state number o).words f (last_answer number book.history)) (sym (due heap number (seat_at state number)))
-    (λ born. absurd (unborn (sym (bits_left heap state.words (move heap number (seat_at state number)).step rule.machine.table f within 16 32 bits (born_at f) (omega arith) (omega arith)) ∙ born)))
+    (λ born. absurd (unborn (sym (fragment_bit_stays heap state.words (move heap number (seat_at state number)).step rule.machine.table f within 16 32 bits (born_at f) (omega arith) (omega arith)) ∙ born)))
 
 -- a step that bears nothing, stores no word of a new object, and is on a word that the table has
-pub plain_words : (place : Place) (move : Heap → ℕ → Seat → Move) → IsDue place move
+pub on_words_of_plain_step : (place : Place) (move : Heap → ℕ → Seat → Move) → IsDue place move
     → ((heap : Heap) (number : ℕ) (seat : Seat) → ¬ IsStore (Some (move heap number seat).step))
     → ((heap : Heap) (number : ℕ) (seat : Seat) → InTable heap (address_of (move heap number seat).step) → HasWord heap (address_of (move heap number seat).step))
     → ((heap : Heap) (state : State) (book : Book) → Rule heap state book → (number : ℕ) → number < heap.seats → LeavesBits heap 16 32 (move heap number (seat_at state number)).step) → OnWords place
-plain_words place move due unstored there bits = record {
+on_words_of_plain_step place move due unstored there bits = record {
   bears = λ heap state book rule number here f within unborn.
-      bears_none place move due heap state book rule number f within unborn (bits heap state book rule number here);
+      birth_colour_where_none_borne place move due heap state book rule number f within unborn (bits heap state book rule number here);
   stores = λ heap number seat is. absurd (unstored heap number seat (subst (λ o. IsStore (option_map (λ (m : Move). m.step) o)) (due heap number seat) is));
   there = λ heap state book rule number here placed low.
       subst (λ o. IfSome (option_map (λ (m : Move). m.step) o) (λ step. HasWord heap (address_of step))) (sym (due heap number (seat_at state number)))
@@ -172,7 +172,7 @@ plain_words place move due unstored there bits = record {
 }
 
 -- the born bits are those from the sixteenth on
-pub born_bits : (word now : ℕ) → ((j : ℕ) → j < 16 → bit_at now (16 + j) ≡ bit_at word (16 + j)) → (i : ℕ) → 16 ≤ i → i < 32 → bit_at now i ≡ bit_at word i
-born_bits word now same i above below =
+pub born_bits_stay : (word now : ℕ) → ((j : ℕ) → j < 16 → bit_at now (16 + j) ≡ bit_at word (16 + j)) → (i : ℕ) → 16 ≤ i → i < 32 → bit_at now i ≡ bit_at word i
+born_bits_stay word now same i above below =
     let is : 16 + (i - 16) ≡ i = omega (arith, above) in
     subst (λ n. bit_at now n ≡ bit_at word n) is (same (i - 16) (omega (arith, above, below)))

@@ -7,12 +7,12 @@ use Rattle.core_rule.proofs.entries.Begins.{begins}
 use Rattle.core_rule.proofs.runs.Runs.{EachStepKeeps, EachBeginKeeps, EachInnerKeeps, EachTurnKeeps}
 use Rattle.core_rule.proofs.steps.access
 use Rattle.core_rule.proofs.steps.collecting
-use Rattle.core_rule.proofs.steps.collector.{turn_kind}
-use Rattle.core_rule.proofs.steps.Seats.{step_kind}
+use Rattle.core_rule.proofs.steps.collector.{turn_kind_of_each_stage}
+use Rattle.core_rule.proofs.steps.Seats.{step_kind_of_each_place}
 use Rattle.core_rule.proofs.steps.making
 
 pub each_step_keeps : EachStepKeeps
-each_step_keeps heap state book number rule here looks machine = (step_kind (seat_at state number).place).keeps heap state book number rule here looks refl machine
+each_step_keeps heap state book number rule here looks machine = (step_kind_of_each_place (seat_at state number).place).keeps heap state book number rule here looks refl machine
 
 -- so does the begin of a call
 begins_at : (heap : Heap) (state : State) (book : Book) (number : ℕ) (command : Command) → Rule heap state book → number < heap.seats → Can heap state (Begins number command)
@@ -28,4 +28,4 @@ each_inner_keeps heap state book number inner rule can machine = collecting.Begi
 
 -- each turn of the collector keeps the rule
 pub each_turn_keeps : EachTurnKeeps
-each_turn_keeps heap state book rule ends may machine = (turn_kind state.collector.stage).keeps heap state book rule ends refl machine
+each_turn_keeps heap state book rule ends may machine = (turn_kind_of_each_stage state.collector.stage).keeps heap state book rule ends refl machine

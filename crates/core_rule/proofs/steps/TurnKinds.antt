@@ -12,14 +12,14 @@ use Rattle.core_machine.specs.declared.collector.stage.Stage.TheVariants as stag
 use Rattle.core_machine.specs.declared.step.CopyingStep.TheVariants.{CopyStore, CopyClaim}
 use Rattle.core_machine.specs.declared.step.Step.TheVariants as steps
 use Rattle.core_rule.proofs.entries.TurnShapes.{HasShape}
-pub use Rattle.core_rule.proofs.entries.TurnShapes.{adds_one, returns_in_phase, ends_cycle, quiet_shape, frees_in_phase, begins_phase, adds_nothing, swings_in_phase}
+pub use Rattle.core_rule.proofs.entries.TurnShapes.{adds_one, returns_steps_in_phase, ends_cycle, shape_of_quiet_step, frees_steps_in_phase, begins_phase, adds_nothing, swings_steps_in_phase}
 use Rattle.core_rule.proofs.footprint.StagesInside.{LeadsInside}
-pub use Rattle.core_rule.proofs.footprint.StagesInside.{swept_inside, Inside, index_inside, freed_inside, spine_at_inside, scan_inside, look_inside, examined_inside, cleared_inside, pass_inside, at_inside}
+pub use Rattle.core_rule.proofs.footprint.StagesInside.{inside_after_swept, Inside, inside_after_index, inside_after_freed, inside_spine_scan_at, inside_after_scan, inside_after_look, inside_after_examined, inside_after_cleared, inside_after_pass, inside_scan_at}
 use Rattle.core_rule.proofs.steps.TurnSteps.{StageKeeps, MayEnd, TurnKeeps}
 use Rattle.core_rule.proofs.turns.Lefts.{StageLeavesFewer}
-use Rattle.core_rule.proofs.words.BitsLeft.{LeavesBits, bits_left}
+use Rattle.core_rule.proofs.words.BitsLeft.{LeavesBits, fragment_bit_stays}
 pub use Rattle.core_rule.proofs.words.BitsLeft.{beside, only_loads, spares}
-use Rattle.core_rule.proofs.words.BesideSpines.{IsBesideSpines, beside_there}
+use Rattle.core_rule.proofs.words.BesideSpines.{IsBesideSpines, word_beside_is_there}
 
 -- the turn keeps the rule, where the end of a cycle may come if it is that
 abbrev pub StageKeepsWhole : Stage → Type 0
@@ -60,26 +60,26 @@ pub record TurnKind (stage : Stage) : Type 0 where
   pub spines : OnSpines stage
 
 -- a turn that ends no cycle
-pub keeps_whole : (stage : Stage) → StageKeeps stage → StageKeepsWhole stage
-keeps_whole stage keeps heap state book rule ends is = keeps heap state book rule is
+pub stage_keeps_whole : (stage : Stage) → StageKeeps stage → StageKeepsWhole stage
+stage_keeps_whole stage keeps heap state book rule ends is = keeps heap state book rule is
 
 -- where it has looked at all
-pub looked_all : (stage : Stage) → ((heap : Heap) (phase looked : ℕ) → FitsStage heap phase looked stage → looked ≡ heap.seats) → HasLookedAt stage
-looked_all stage all heap phase looked fits = inr (all heap phase looked fits)
+pub has_looked_at_stage : (stage : Stage) → ((heap : Heap) (phase looked : ℕ) → FitsStage heap phase looked stage → looked ≡ heap.seats) → HasLookedAt stage
+has_looked_at_stage stage all heap phase looked fits = inr (all heap phase looked fits)
 
 -- a turn that leaves the taken and the born bits
-pub keeps_bits : (stage : Stage) → ((heap : Heap) (collector : Collector) → LeavesBits heap 0 32 (turn_at heap collector stage).step) → OnBits stage
-keeps_bits stage leaves = record {
+pub on_bits_of_same_bits : (stage : Stage) → ((heap : Heap) (collector : Collector) → LeavesBits heap 0 32 (turn_at heap collector stage).step) → OnBits stage
+on_bits_of_same_bits stage leaves = record {
   spares_taken = λ heap state book rule is f within alive taken.
-      bits_left heap state.words (turn_at heap state.collector stage).step rule.machine.table f within 0 32 (leaves heap state.collector) (f % 16) (omega arith) (omega arith) ∙ taken;
+      fragment_bit_stays heap state.words (turn_at heap state.collector stage).step rule.machine.table f within 0 32 (leaves heap state.collector) (f % 16) (omega arith) (omega arith) ∙ taken;
   bears_none = λ heap state book rule f within unborn born. unborn
-      (sym (bits_left heap state.words (turn_at heap state.collector stage).step rule.machine.table f within 0 32 (leaves heap state.collector) (born_at f) (omega arith) (omega arith)) ∙ born);
+      (sym (fragment_bit_stays heap state.words (turn_at heap state.collector stage).step rule.machine.table f within 0 32 (leaves heap state.collector) (born_at f) (omega arith) (omega arith)) ∙ born);
 }
 
 -- a turn beside the spine space
-pub beside_spines : (stage : Stage) → ((heap : Heap) (collector : Collector) → IsBesideSpines (address_of (turn_at heap collector stage).step)) → OnSpines stage
-beside_spines stage off = record {
-  there = λ heap state book rule is. beside_there heap (address_of (turn_at heap state.collector stage).step) (off heap state.collector);
+pub on_spines_beside : (stage : Stage) → ((heap : Heap) (collector : Collector) → IsBesideSpines (address_of (turn_at heap collector stage).step)) → OnSpines stage
+on_spines_beside stage off = record {
+  there = λ heap state book rule is. word_beside_is_there heap (address_of (turn_at heap state.collector stage).step) (off heap state.collector);
   stores = λ heap collector half offset word due. absurd (subst (λ step. IsBesideSpines (address_of step)) due (off heap collector));
   claims = λ heap collector words due. absurd (subst (λ step. IsBesideSpines (address_of step)) due (off heap collector));
 }
@@ -98,13 +98,13 @@ pub record LoadKind (stage : Stage) : Type 0 where
   pub inside : LeadsInside stage
   pub all : (heap : Heap) (phase looked : ℕ) → FitsStage heap phase looked stage → looked ≡ heap.seats
 
-pub load_kind : (stage : Stage) → ((heap : Heap) (collector : Collector) → IsPlainLoad stage heap collector) → LoadKind stage → TurnKind stage
-load_kind stage plain kind = record {
-  keeps = keeps_whole stage kind.keeps;
+pub turn_kind_of_load : (stage : Stage) → ((heap : Heap) (collector : Collector) → IsPlainLoad stage heap collector) → LoadKind stage → TurnKind stage
+turn_kind_of_load stage plain kind = record {
+  keeps = stage_keeps_whole stage kind.keeps;
   fewer = kind.fewer;
   inside = kind.inside;
-  shape = λ heap collector found. quiet_shape heap collector found stage (plain heap collector).adds_none ((plain heap collector).steps found);
-  looked = looked_all stage kind.all;
-  bits = keeps_bits stage (λ heap collector. only_loads (plain heap collector).loaded);
-  spines = beside_spines stage (λ heap collector. (plain heap collector).beside);
+  shape = λ heap collector found. shape_of_quiet_step heap collector found stage (plain heap collector).adds_none ((plain heap collector).steps found);
+  looked = has_looked_at_stage stage kind.all;
+  bits = on_bits_of_same_bits stage (λ heap collector. only_loads (plain heap collector).loaded);
+  spines = on_spines_beside stage (λ heap collector. (plain heap collector).beside);
 }

@@ -6,13 +6,13 @@ use Rattle.core_rule.proofs.Terms.{CollectorAgrees, Rule, HeapStands, SeatStands
 use Rattle.core_machine.specs.declared.table.address.Address.{Address}
 use Rattle.core_machine.specs.declared.collector.stage.Stage.TheVariants as stages
 use Rattle.core_machine.specs.collector.Collector.{TurnMove}
-use Rattle.core_machine.proofs.table_lemmas.Addresses.{put-at}
-use Rattle.core_rule.proofs.book.BookGoing.{BookGoesOn, book_stays}
-use Rattle.core_rule.proofs.budgets.BudgetSteps.{budgets_told}
-use Rattle.core_rule.proofs.budgets.BudgetFrames.{SameGrants, grants_same}
-use Rattle.core_rule.proofs.halves.HalvesFrames.{StageGoesOn, budgets_turn, halves_turn}
-use Rattle.core_rule.proofs.spines.OtherWords.{LeavesSpines, spines_left_none}
-use Rattle.core_rule.proofs.steps.Assemble.{Keeps, parts_keep}
+use Rattle.core_machine.proofs.table_lemmas.Addresses.{put_of_read_changes_nothing}
+use Rattle.core_rule.proofs.book.BookGoing.{BookGoesOn, book_goes_on_with_history}
+use Rattle.core_rule.proofs.budgets.BudgetSteps.{budgets_stand_with_log}
+use Rattle.core_rule.proofs.budgets.BudgetFrames.{SameGrants, same_grants_recoloured}
+use Rattle.core_rule.proofs.halves.HalvesFrames.{StageGoesOn, budgets_stand_after_turn, halves_stand_after_turn}
+use Rattle.core_rule.proofs.spines.OtherWords.{LeavesSpines, leaves_spines_of_itself}
+use Rattle.core_rule.proofs.steps.Assemble.{Keeps, keeps_rule_by_parts}
 
 -- a turn of the collector keeps the rule
 abbrev pub TurnKeeps : Heap → State → Book → TurnMove → Type 0
@@ -31,22 +31,22 @@ abbrev pub after_turn : State → List ℕ → Collector → State
 after_turn state words collector = record state { words = words; collector = collector }
 
 -- the spine space stands as before after a turn that leaves the spine words, where it leads to a stage at which that may be
-pub turn_space : (heap : Heap) (state : State) (book : Book) → Rule heap state book → (words : List ℕ) (collector : Collector) (now : Book)
+pub space_stands_after_turn : (heap : Heap) (state : State) (book : Book) → Rule heap state book → (words : List ℕ) (collector : Collector) (now : Book)
     → LeavesSpines heap state.words words → SameGrants heap book now → StageGoesOn heap words now state.collector collector → SpaceStands heap (after_turn state words collector) now
-turn_space heap state book rule words collector now leaves grants on = record {
-  budgets = budgets_turn heap state book words collector now leaves grants on rule.space.budgets;
-  halves = halves_turn heap state book words collector now leaves grants on rule.space.halves;
+space_stands_after_turn heap state book rule words collector now leaves grants on = record {
+  budgets = budgets_stand_after_turn heap state book words collector now leaves grants on rule.space.budgets;
+  halves = halves_stand_after_turn heap state book words collector now leaves grants on rule.space.halves;
 }
 
 -- the rule after a turn
-pub turn_steps : (heap : Heap) (state : State) (book : Book) (words : List ℕ) (collector : Collector) (now : Book) (added : List Entry)
+pub keeps_rule_after_turn : (heap : Heap) (state : State) (book : Book) (words : List ℕ) (collector : Collector) (now : Book) (added : List Entry)
     → Rule heap state book → IsMachine heap (after_turn state words collector) → now.history ≡ book.history ++ added
     → HeapStands heap words now
     → ((r : ℕ) → r < heap.seats → SeatStands heap state.words book r (seat_at state r) → SeatStands heap words now r (seat_at state r))
     → CollectorAgrees heap collector now.history → MarksStand heap (after_turn state words collector) now.owner now.colour now.fragments
     → SpaceStands heap (after_turn state words collector) now → BookGoesOn heap state book now → Keeps heap state (after_turn state words collector) book now.begun added
-turn_steps heap state book words collector now added rule machine grown heap_after seats collector_after marks space goes =
-    parts_keep now grown machine heap_after (λ r below. seats r below (rule.seats_stand r below)) collector_after marks space goes
+keeps_rule_after_turn heap state book words collector now added rule machine grown heap_after seats collector_after marks space goes =
+    keeps_rule_by_parts now grown machine heap_after (λ r below. seats r below (rule.seats_stand r below)) collector_after marks space goes
 
 -- the collector with no entry added
 abbrev pub quiet : Collector → Collector
@@ -66,26 +66,26 @@ quiet_halves heap state words collector book old = record {
 }
 
 -- the rule after a load of the collector, with the book that stands then
-pub load_turns_with : (heap : Heap) (state : State) (book : Book) (a : Address) (collector : Collector) (now : Book) → Rule heap state book
+pub keeps_rule_by_load_with_book : (heap : Heap) (state : State) (book : Book) (a : Address) (collector : Collector) (now : Book) → Rule heap state book
     → IsMachine heap (after_turn state (put heap state.words a (at heap state.words a)) (quiet collector)) → now.history ≡ book.history
     → HeapStands heap state.words now
     → ((r : ℕ) → r < heap.seats → SeatStands heap state.words book r (seat_at state r) → SeatStands heap state.words now r (seat_at state r))
     → CollectorAgrees heap collector now.history → MarksStand heap (after_turn state state.words collector) now.owner now.colour now.fragments
     → SpaceStands heap (after_turn state state.words collector) now → BookGoesOn heap state book now → Keeps heap state (after_turn state (put heap state.words a (at heap state.words a)) (quiet collector)) book now.begun []
-load_turns_with heap state book a collector now rule machine told heap_after seats stands marks space goes =
-    subst (λ words. IsMachine heap (after_turn state words (quiet collector)) → Keeps heap state (after_turn state words (quiet collector)) book now.begun []) (sym (put-at heap state.words a))
-    (λ same. turn_steps heap state book state.words (quiet collector) now [] rule same (told ∙ sym (append-nil book.history)) heap_after seats
+keeps_rule_by_load_with_book heap state book a collector now rule machine told heap_after seats stands marks space goes =
+    subst (λ words. IsMachine heap (after_turn state words (quiet collector)) → Keeps heap state (after_turn state words (quiet collector)) book now.begun []) (sym (put_of_read_changes_nothing heap state.words a))
+    (λ same. keeps_rule_after_turn heap state book state.words (quiet collector) now [] rule same (told ∙ sym (append-nil book.history)) heap_after seats
     (subst (λ log. CollectorAgrees heap (record collector { log = log }) now.history) (sym (append-nil collector.log)) stands)
     record { heap_marks = marks.heap_marks; roots = λ r below is answered. marks.roots r below (record { phase = is.phase; goes_on = is.goes_on }) answered }
-    record { budgets = budgets_told heap (after_turn state state.words collector) now (collector.log ++ []) space.budgets; halves = quiet_halves heap state state.words collector now space.halves } goes) machine
+    record { budgets = budgets_stand_with_log heap (after_turn state state.words collector) now (collector.log ++ []) space.budgets; halves = quiet_halves heap state state.words collector now space.halves } goes) machine
 
 -- and after one that leaves the book
-pub load_turns : (heap : Heap) (state : State) (book : Book) (a : Address) (collector : Collector) → Rule heap state book
+pub keeps_rule_by_load_turn : (heap : Heap) (state : State) (book : Book) (a : Address) (collector : Collector) → Rule heap state book
     → IsMachine heap (after_turn state (put heap state.words a (at heap state.words a)) (quiet collector))
     → CollectorAgrees heap collector book.history → MarksStand heap (after_turn state state.words collector) book.owner book.colour book.fragments
     → StageGoesOn heap state.words book state.collector collector
     → Keeps heap state (after_turn state (put heap state.words a (at heap state.words a)) (quiet collector)) book book.begun []
-load_turns heap state book a collector rule machine agrees marks on =
-    load_turns_with heap state book a collector book rule machine refl rule.heap_stands (λ r below seat_stands. seat_stands) agrees marks
-    (turn_space heap state book rule state.words collector book (spines_left_none heap state.words) (grants_same heap book book.colour book.begun) on)
-    (book_stays heap state book book.history book.begun)
+keeps_rule_by_load_turn heap state book a collector rule machine agrees marks on =
+    keeps_rule_by_load_with_book heap state book a collector book rule machine refl rule.heap_stands (λ r below seat_stands. seat_stands) agrees marks
+    (space_stands_after_turn heap state book rule state.words collector book (leaves_spines_of_itself heap state.words) (same_grants_recoloured heap book book.colour book.begun) on)
+    (book_goes_on_with_history heap state book book.history book.begun)

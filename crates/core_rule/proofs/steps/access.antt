@@ -19,14 +19,14 @@ use Rattle.core_machine.specs.declared.place.Place.TheVariants as places
 use Rattle.core_rule.proofs.steps.StepKinds.{StepKind}
 
 -- the kinds of step at its places
-pub access_kind : (place : Access) → StepKind (places.Access place)
-access_kind LoadingMeta = OpenStep.open_kind
-access_kind Walking = OnwardStep.walk_kind
-access_kind LoadingSpot = LocateStep.locate_kind
-access_kind Indexing = IndexStep.index_kind
-access_kind Getting = GetStep.get_kind
-access_kind Naming = NameStep.name_kind
-access_kind LoadingOld = OldStep.old_kind
-access_kind ShadingOld = ShadeOldStep.shade_old_kind
-access_kind ShadingNew = ShadeNewStep.shade_new_kind
-access_kind Swapping = SwapStep.swap_kind
+pub step_kind_of_access : (place : Access) → StepKind (places.Access place)
+step_kind_of_access LoadingMeta = OpenStep.step_kind_of_loading_meta
+step_kind_of_access Walking = OnwardStep.step_kind_of_walking
+step_kind_of_access LoadingSpot = LocateStep.step_kind_of_locating
+step_kind_of_access Indexing = IndexStep.step_kind_of_indexing
+step_kind_of_access Getting = GetStep.step_kind_of_getting
+step_kind_of_access Naming = NameStep.step_kind_of_naming
+step_kind_of_access LoadingOld = OldStep.step_kind_of_loading_old
+step_kind_of_access ShadingOld = ShadeOldStep.step_kind_of_shading_old
+step_kind_of_access ShadingNew = ShadeNewStep.step_kind_of_shading_new
+step_kind_of_access Swapping = SwapStep.step_kind_of_swapping

@@ -8,8 +8,8 @@ use Rattle.core_machine.specs.declared.place.Place.TheVariants as places
 use Rattle.core_rule.proofs.steps.StepKinds.{StepKind}
 
 -- the kinds of step at its places
-pub collecting_kind : (place : Collecting) → StepKind (places.Collecting place)
-collecting_kind Looking = FindSteps.look_kind
-collecting_kind (Asking other) = FindSteps.asking_kind other
-collecting_kind (Comparing other p) = FindSteps.comparing_kind other p
-collecting_kind (Noting reply) = NoteStep.note_kind reply
+pub step_kind_of_collecting : (place : Collecting) → StepKind (places.Collecting place)
+step_kind_of_collecting Looking = FindSteps.step_kind_of_looking
+step_kind_of_collecting (Asking other) = FindSteps.step_kind_of_look_asking other
+step_kind_of_collecting (Comparing other p) = FindSteps.step_kind_of_comparing other p
+step_kind_of_collecting (Noting reply) = NoteStep.step_kind_of_noting reply

@@ -33,31 +33,31 @@ use Rattle.core_rule.proofs.steps.TurnKinds.{TurnKind}
 
 -- the kind of turn at each stage of copying
 copying_kind : (stage : Copying) → TurnKind (stages.Copying stage)
-copying_kind (copying.Visiting group) = VisitStep.visit_kind group
-copying_kind (copying.Inspecting visit) = InspectStep.inspect_kind visit
-copying_kind (copying.Naming visit words) = FindStep.name_copy_kind visit words
-copying_kind (copying.Locating array) = FindStep.find_kind array
-copying_kind (copying.Claiming array from) = CopyClaimStep.copy_claim_kind array from
-copying_kind (copying.Loading copy) = CopyLoadStep.copy_load_kind copy
-copying_kind (copying.Storing copy word) = CopyStoreStep.copy_store_kind copy word
-copying_kind (copying.Swinging copy) = SwingStep.swing_kind copy
+copying_kind (copying.Visiting group) = VisitStep.turn_kind_of_copy_visiting group
+copying_kind (copying.Inspecting visit) = InspectStep.turn_kind_of_copy_inspecting visit
+copying_kind (copying.Naming visit words) = FindStep.turn_kind_of_copy_naming visit words
+copying_kind (copying.Locating array) = FindStep.turn_kind_of_copy_locating array
+copying_kind (copying.Claiming array from) = CopyClaimStep.turn_kind_of_copy_claiming array from
+copying_kind (copying.Loading copy) = CopyLoadStep.turn_kind_of_copy_loading copy
+copying_kind (copying.Storing copy word) = CopyStoreStep.turn_kind_of_copy_storing copy word
+copying_kind (copying.Swinging copy) = SwingStep.turn_kind_of_copy_swinging copy
 
 -- the kind of turn at each stage
-pub turn_kind : (stage : Stage) → TurnKind stage
-turn_kind stages.Looking = LookStep.look_kind
-turn_kind (stages.Passing group found) = PassStep.pass_kind group found
-turn_kind (stages.Scanning scan) = ScanStep.scan_kind scan
-turn_kind (stages.Shading scan target next) = MarkShadeStep.mark_shade_kind scan target next
-turn_kind (stages.Addressing scan count) = AddressStep.address_kind scan count
-turn_kind (stages.Indexing s) = IndexStep.index_kind s
-turn_kind (stages.Spreading s target) = SpreadStep.spread_kind s target
-turn_kind (stages.Blackening scan) = BlackenStep.blacken_kind scan
-turn_kind stages.Flipping = FlipStep.flip_kind
-turn_kind (stages.Copying stage) = copying_kind stage
-turn_kind (stages.Sweeping group) = SweepStep.sweep_kind group
-turn_kind (stages.Examining group dead place counted) = SweepStep.examine_kind group dead place counted
-turn_kind (stages.Freeing group dead counted) = FreeStep.free_kind group dead counted
-turn_kind (stages.Returning group counted) = ReturnStep.return_kind group counted
-turn_kind (stages.Clearing group kept) = ClearStep.clear_kind group kept
-turn_kind (stages.Ending kept) = EndStep.end_kind kept
-turn_kind stages.Advancing = AdvanceStep.advance_kind
+pub turn_kind_of_each_stage : (stage : Stage) → TurnKind stage
+turn_kind_of_each_stage stages.Looking = LookStep.turn_kind_of_looking
+turn_kind_of_each_stage (stages.Passing group found) = PassStep.turn_kind_of_passing group found
+turn_kind_of_each_stage (stages.Scanning scan) = ScanStep.turn_kind_of_scanning scan
+turn_kind_of_each_stage (stages.Shading scan target next) = MarkShadeStep.turn_kind_of_shading scan target next
+turn_kind_of_each_stage (stages.Addressing scan count) = AddressStep.address_kind scan count
+turn_kind_of_each_stage (stages.Indexing s) = IndexStep.turn_kind_of_indexing s
+turn_kind_of_each_stage (stages.Spreading s target) = SpreadStep.turn_kind_of_spreading s target
+turn_kind_of_each_stage (stages.Blackening scan) = BlackenStep.turn_kind_of_blackening scan
+turn_kind_of_each_stage stages.Flipping = FlipStep.turn_kind_of_flipping
+turn_kind_of_each_stage (stages.Copying stage) = copying_kind stage
+turn_kind_of_each_stage (stages.Sweeping group) = SweepStep.turn_kind_of_sweeping group
+turn_kind_of_each_stage (stages.Examining group dead place counted) = SweepStep.turn_kind_of_examining group dead place counted
+turn_kind_of_each_stage (stages.Freeing group dead counted) = FreeStep.turn_kind_of_freeing group dead counted
+turn_kind_of_each_stage (stages.Returning group counted) = ReturnStep.turn_kind_of_returning group counted
+turn_kind_of_each_stage (stages.Clearing group kept) = ClearStep.turn_kind_of_clearing group kept
+turn_kind_of_each_stage (stages.Ending kept) = EndStep.turn_kind_of_ending kept
+turn_kind_of_each_stage stages.Advancing = AdvanceStep.turn_kind_of_advancing

@@ -13,12 +13,12 @@ use Rattle.core_machine.specs.declared.place.Place.TheVariants as places
 use Rattle.core_rule.proofs.steps.StepKinds.{StepKind}
 
 -- the kinds of step of a poll
-pub polling_kind : (place : Polling) → StepKind (places.Polling place)
-polling_kind Asking = PollStep.poll_kind
-polling_kind Shading = RootStep.root_kind
-polling_kind Answering = AnswerStep.answer_kind
+pub step_kind_of_polling : (place : Polling) → StepKind (places.Polling place)
+step_kind_of_polling Asking = PollStep.step_kind_of_poll_asking
+step_kind_of_polling Shading = RootStep.step_kind_of_shading
+step_kind_of_polling Answering = AnswerStep.step_kind_of_answering
 
 -- the kinds of step of a leave
-pub leaving_kind : (place : Leaving) → StepKind (places.Leaving place)
-leaving_kind Emptying = EmptyStep.empty_kind
-leaving_kind Parting = LeaveStep.leave_kind
+pub step_kind_of_leaving : (place : Leaving) → StepKind (places.Leaving place)
+step_kind_of_leaving Emptying = EmptyStep.step_kind_of_emptying
+step_kind_of_leaving Parting = LeaveStep.step_kind_of_parting

@@ -20,13 +20,13 @@ use Rattle.core_machine.specs.declared.place.Place.TheVariants as places
 use Rattle.core_rule.proofs.steps.StepKinds.{StepKind}
 
 -- the kinds of step at its places
-pub making_kind : (place : Making) → StepKind (places.Making place)
-making_kind Granting = GrantStep.grant_kind
-making_kind Withdrawing = WithdrawStep.withdraw_kind
-making_kind Gathering = ClaimStep.claim_kind
-making_kind GivingBack = GiveBackStep.give_back_kind
-making_kind Refusing = RefusalStep.refusal_kind
-making_kind Placing = PlacingStep.placing_kind
-making_kind Listing = ListingStep.listing_kind
-making_kind Storing = StoreStep.store_kind
-making_kind Bearing = BearingStep.bearing_kind
+pub step_kind_of_making : (place : Making) → StepKind (places.Making place)
+step_kind_of_making Granting = GrantStep.step_kind_of_granting
+step_kind_of_making Withdrawing = WithdrawStep.step_kind_of_withdrawing
+step_kind_of_making Gathering = ClaimStep.step_kind_of_gathering
+step_kind_of_making GivingBack = GiveBackStep.step_kind_of_returning
+step_kind_of_making Refusing = RefusalStep.step_kind_of_refusing
+step_kind_of_making Placing = PlacingStep.step_kind_of_placing
+step_kind_of_making Listing = ListingStep.step_kind_of_listing
+step_kind_of_making Storing = StoreStep.step_kind_of_storing
+step_kind_of_making Bearing = BearingStep.step_kind_of_bearing

@@ -8,14 +8,14 @@ use Rattle.core_rule.proofs.Terms.{IsReach}
 use Rattle.heap_model.specs.declared.command.Command.TheVariants as commands
 use Rattle.heap_model.specs.declared.entry.Entry.TheVariants as entries
 use Rattle.heap_model.proofs.Histories.{graph_after-more, total_of-more}
-use Rattle.heap_model.proofs.account_lemmas.Windows.{parts, any-more, up_to_last-yes, after_last-yes}
-use Rattle.core_machine.proofs.table_lemmas.Free.{sum_zero}
-use Rattle.core_rule.proofs.footprint.Bounds.{brings-other}
-use Rattle.core_rule.proofs.footprint.Brought.{sum_counted}
-use Rattle.core_rule.proofs.sweep_exact.GoneSeats.{IsGone, gone_after, leaves_gone, not_of_gone, gone_after_all, gone_opens, none_taken, none_made}
-use Rattle.core_rule.proofs.graph.LeftSeats.{left_empty}
+use Rattle.heap_model.proofs.account_lemmas.Windows.{window_parts_make_whole, any_with_entry_more, up_to_last-yes, after_last-yes}
+use Rattle.core_machine.proofs.table_lemmas.Free.{sum_of_nothing_is_zero}
+use Rattle.core_rule.proofs.footprint.Bounds.{brings_stays_by_other}
+use Rattle.core_rule.proofs.footprint.Brought.{range_sum_is_counted_sum}
+use Rattle.core_rule.proofs.sweep_exact.GoneSeats.{IsGone, gone_stays_after_entry, gone_after_leave, gone_has_no_entry, gone_stays_after_history, gone_at_opening, gone_take_none, gone_make_no_words}
+use Rattle.core_rule.proofs.graph.LeftSeats.{left_registers_are_nil}
 use Rattle.core_rule.proofs.growth.LaterGraphs.{accepts_later}
-use Rattle.core_rule.proofs.growth.RegisterIds.{holding_register}
+use Rattle.core_rule.proofs.growth.RegisterIds.{root_is_in_register}
 
 -- a seat that has left is gone, and brings nothing
 record IsThrough (heap : Heap) (number : ℕ) (history : List Entry) : Type 0 where
@@ -45,13 +45,13 @@ module _ (heap : Heap) (play : Bool) (number : ℕ) where
   -- an entry that makes it leave, or another's
   through_more : (history : List Entry) (entry : Entry) → Accepts (graph_of heap history) entry → KeepsSpace heap play history entry → WhereLeft history → WhereLeft (history ++ entry ∷ [])
   through_more history entry accepts keeps through left =
-      elim (or_cases (has_left number history) (is_leave_of number entry) (sym (any-more (is_leave_of number) history entry) ∙ left)) [
+      elim (or_cases (has_left number history) (is_leave_of number entry) (sym (any_with_entry_more (is_leave_of number) history entry) ∙ left)) [
         | inl before ↦ record {
-          gone = subst (λ g. IsGone g number) (sym (graph_after-more (opening heap) history entry)) (gone_after (graph_of heap history) number entry accepts (through before).gone);
-          none = brings-other number history entry (not_of_gone (graph_of heap history) number entry accepts (through before).gone) ∙ (through before).none;
+          gone = subst (λ g. IsGone g number) (sym (graph_after-more (opening heap) history entry)) (gone_stays_after_entry (graph_of heap history) number entry accepts (through before).gone);
+          none = brings_stays_by_other number history entry (gone_has_no_entry (graph_of heap history) number entry accepts (through before).gone) ∙ (through before).none;
         }
         | inr leaves ↦ record {
-          gone = subst (λ g. IsGone g number) (sym (graph_after-more (opening heap) history entry)) (leaves_gone (graph_of heap history) number entry accepts leaves);
+          gone = subst (λ g. IsGone g number) (sym (graph_after-more (opening heap) history entry)) (gone_after_leave (graph_of heap history) number entry accepts leaves);
           none = by entry keeps leaves;
         }
       ]
@@ -74,19 +74,19 @@ module _ (heap : Heap) (play : Bool) (number : ℕ) where
   through_legal history rest legal = through_after [] history rest legal.objects legal.space (λ left. absurd (cc))
 
 -- the first part of what a graph accepts
-pub accepts_before : (g : Graph) (history later : List Entry) → AcceptsAll g (history ++ later) → AcceptsAll g history
-accepts_before g [] later accepts = tt
-accepts_before g (entry ∷ history) later accepts = (accepts.0, accepts_before (after_entry g entry) history later accepts.1)
+pub accepts_first_part : (g : Graph) (history later : List Entry) → AcceptsAll g (history ++ later) → AcceptsAll g history
+accepts_first_part g [] later accepts = tt
+accepts_first_part g (entry ∷ history) later accepts = (accepts.0, accepts_first_part (after_entry g entry) history later accepts.1)
 
 module _ (heap : Heap) (play : Bool) (history : List Entry) (legal : IsLegal heap play history) (left : (number : ℕ) → number < heap.seats → has_left number (up_to_cycle history) ≡ true) where
   abbrev earlier : Graph
   earlier = graph_of heap (up_to_cycle history)
 
   legal_parts : IsLegal heap play (up_to_cycle history ++ since_cycle history)
-  legal_parts = subst (IsLegal heap play) (sym (parts begins_cycle history)) legal
+  legal_parts = subst (IsLegal heap play) (sym (window_parts_make_whole begins_cycle history)) legal
 
   legal_then : IsObjectLegal heap (up_to_cycle history)
-  legal_then = accepts_before (opening heap) (up_to_cycle history) (since_cycle history) legal_parts.objects
+  legal_then = accepts_first_part (opening heap) (up_to_cycle history) (since_cycle history) legal_parts.objects
 
   through : (number : ℕ) → number < heap.seats → IsThrough heap number (up_to_cycle history)
   through number below = through_legal heap play number (up_to_cycle history) (since_cycle history) legal_parts (left number below)
@@ -94,35 +94,35 @@ module _ (heap : Heap) (play : Bool) (history : List Entry) (legal : IsLegal hea
   all_left : (number : ℕ) → IsGone earlier number
   all_left number = elim (cases_lt number heap.seats) [
     | inl below ↦ (through number below).gone
-    | inr past ↦ gone_after_all (opening heap) number (up_to_cycle history) legal_then (gone_opens heap number past)
+    | inr past ↦ gone_stays_after_history (opening heap) number (up_to_cycle history) legal_then (gone_at_opening heap number past)
   ]
 
   no_root : (id : Id) → ¬ IsRoot earlier id
   no_root id root =
-      let its = holding_register earlier id root in
-      absurd (cc (left_empty heap (up_to_cycle history) its.number legal_then (all_left its.number) its.register, its.holds))
+      let its = root_is_in_register earlier id root in
+      absurd (cc (left_registers_are_nil heap (up_to_cycle history) its.number legal_then (all_left its.number) its.register, its.holds))
 
   no_reached : (id : Id) → ¬ Reaches earlier id
   no_reached _ (from_register id made root) = no_root id root
   no_reached _ (from_cell id made holder reached points) = no_reached holder reached
 
   -- nothing is reached then
-  pub none_reached : IsReach earlier []
-  none_reached = record {
+  pub nothing_is_reached : IsReach earlier []
+  nothing_is_reached = record {
     ordered = λ i j d less within. absurd (omega (arith, within));
     reached = λ id. (λ there. absurd (omega (arith, there.1)), λ its. absurd (no_reached id its));
   }
 
   -- and the seats bring nothing, and take nothing later
   pub none_brought : all_bring heap (up_to_cycle history) ≡ 0
-  none_brought = sum_counted heap.seats (λ q. brings q (up_to_cycle history)) ∙ sum_zero heap.seats (λ q. brings q (up_to_cycle history)) (λ q below. (through q below).none)
+  none_brought = range_sum_is_counted_sum heap.seats (λ q. brings q (up_to_cycle history)) ∙ sum_of_nothing_is_zero heap.seats (λ q. brings q (up_to_cycle history)) (λ q below. (through q below).none)
 
   pub none_since : total (λ e. e.taken) (since_cycle history) ≡ 0
-  none_since = none_taken earlier (since_cycle history) (accepts_later (opening heap) (up_to_cycle history) (since_cycle history) legal_parts.objects) all_left
+  none_since = gone_take_none earlier (since_cycle history) (accepts_later (opening heap) (up_to_cycle history) (since_cycle history) legal_parts.objects) all_left
 
-  pub bound_none : bound heap [] history ≡ 0
-  bound_none = omega (arith, none_brought, none_since)
+  pub bound_is_none : bound heap [] history ≡ 0
+  bound_is_none = omega (arith, none_brought, none_since)
 
   -- no array was made since
-  pub none_granted : total (λ e. e.words) (since_cycle history) ≡ 0
-  none_granted = none_made earlier (since_cycle history) (accepts_later (opening heap) (up_to_cycle history) (since_cycle history) legal_parts.objects) all_left
+  pub no_words_granted_since : total (λ e. e.words) (since_cycle history) ≡ 0
+  no_words_granted_since = gone_make_no_words earlier (since_cycle history) (accepts_later (opening heap) (up_to_cycle history) (since_cycle history) legal_parts.objects) all_left

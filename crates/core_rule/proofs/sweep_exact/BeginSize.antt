@@ -5,21 +5,21 @@ use Rattle.std.proofs.lemmas.Bool.{cases_Bool, cases_lt}
 use Rattle.heap_words.specs.declared.spot.Spot.{Spot}
 use Rattle.core_rule.proofs.Terms.{Heap, Id, Graph, node, IsBefore, fragments_of_all, tally, sum_upto, id_at, Holding, fragments_in_hand, AreMade, Objects, Owner, Free, Taken}
 use Rattle.core_rule.proofs.Terms.{Borne, Kept, Dead, IsSeated, OwnersStand, one_at, holds_bit, bears_bit}
-use Rattle.core_machine.proofs.table_lemmas.Free.{sum_same, sum_zero, sum_upto-none}
+use Rattle.core_machine.proofs.table_lemmas.Free.{sum_of_same_functions, sum_of_nothing_is_zero, sum_upto-none}
 use Rattle.core_rule.specs.footprint.Footprint.{is_among, is_inside, inside_bit, kept_bit}
-use Rattle.core_rule.proofs.kept.KeptSums.{kept_among_most}
+use Rattle.core_rule.proofs.kept.KeptSums.{kept_sum_within_sizes}
 use Rattle.core_rule.proofs.lists.SumLemmas.{sum-suc, sum_plus}
-use Rattle.core_rule.proofs.lists.Tallies.{sum_one, sum_one_at}
+use Rattle.core_rule.proofs.lists.Tallies.{sum_of_outside_is_none, sum_of_inside_is_one}
 
 -- a list has numbers below n no more often than it is long
 sum_tally-le : (n : ℕ) (fs : List ℕ) → sum_upto n (λ f. tally f fs) ≤ length fs
-sum_tally-le n [] = omega (arith, sum_zero n (λ f. tally f []) (λ f less. refl))
+sum_tally-le n [] = omega (arith, sum_of_nothing_is_zero n (λ f. tally f []) (λ f less. refl))
 sum_tally-le n (x ∷ xs) =
     let both : sum_upto n (λ f. tally f (x ∷ xs)) ≡ sum_upto n (λ f. one_at x f) + sum_upto n (λ f. tally f xs)
     = sum_plus n (λ f. tally f (x ∷ xs)) (λ f. one_at x f) (λ f. tally f xs) (λ f less. refl) in
     elim (cases_lt x n) [
-      | inl within ↦ omega (arith, both, sum_one_at n x within, sum_tally-le n xs)
-      | inr past ↦ omega (arith, both, sum_one n x past, sum_tally-le n xs)
+      | inl within ↦ omega (arith, both, sum_of_inside_is_one n x within, sum_tally-le n xs)
+      | inr past ↦ omega (arith, both, sum_of_outside_is_none n x past, sum_tally-le n xs)
     ]
 
 -- whether a seat has the fragment
@@ -36,15 +36,15 @@ own_bit number o = holds_bit number o + bears_bit number o
 one_has : (seats : ℕ) (o : Owner) → IsSeated seats o → seat_bit o ≡ sum_upto seats (λ number. own_bit number o)
 one_has seats (Taken r) below =
     let same : sum_upto seats (λ number. own_bit number (Taken r)) ≡ sum_upto seats (λ number. one_at r number)
-    = sum_same seats (λ number. own_bit number (Taken r)) (λ number. one_at r number) (λ number less. omega arith) in
-    omega (arith, same, sum_one_at seats r below)
+    = sum_of_same_functions seats (λ number. own_bit number (Taken r)) (λ number. one_at r number) (λ number less. omega arith) in
+    omega (arith, same, sum_of_inside_is_one seats r below)
 one_has seats (Borne r) below =
     let same : sum_upto seats (λ number. own_bit number (Borne r)) ≡ sum_upto seats (λ number. one_at r number)
-    = sum_same seats (λ number. own_bit number (Borne r)) (λ number. one_at r number) (λ number less. omega arith) in
-    omega (arith, same, sum_one_at seats r below)
-one_has seats Free none = omega (arith, sum_zero seats (λ number. own_bit number Free) (λ number less. omega arith))
-one_has seats (Kept i k) none = omega (arith, sum_zero seats (λ number. own_bit number (Kept i k)) (λ number less. omega arith))
-one_has seats (Dead i k) none = omega (arith, sum_zero seats (λ number. own_bit number (Dead i k)) (λ number less. omega arith))
+    = sum_of_same_functions seats (λ number. own_bit number (Borne r)) (λ number. one_at r number) (λ number less. omega arith) in
+    omega (arith, same, sum_of_inside_is_one seats r below)
+one_has seats Free none = omega (arith, sum_of_nothing_is_zero seats (λ number. own_bit number Free) (λ number less. omega arith))
+one_has seats (Kept i k) none = omega (arith, sum_of_nothing_is_zero seats (λ number. own_bit number (Kept i k)) (λ number less. omega arith))
+one_has seats (Dead i k) none = omega (arith, sum_of_nothing_is_zero seats (λ number. own_bit number (Dead i k)) (λ number less. omega arith))
 
 module _ (n : ℕ) (owner : ℕ → Owner) where
   -- a seat has no more than its reserve and what it has in hand
@@ -57,7 +57,7 @@ module _ (n : ℕ) (owner : ℕ → Owner) where
   -- what each seat has, together
   seats_have : (own : ℕ → ℕ) (seats : ℕ) → ((number : ℕ) → number < seats → sum_upto n (λ f. own_bit number (owner f)) ≤ own number)
       → sum_upto n (λ f. sum_upto seats (λ number. own_bit number (owner f))) ≤ sum_upto seats own
-  seats_have own zero each = omega (arith, sum_zero n (λ f. sum_upto 0 (λ number. own_bit number (owner f))) (λ f less. sum_upto-none (λ number. own_bit number (owner f))))
+  seats_have own zero each = omega (arith, sum_of_nothing_is_zero n (λ f. sum_upto 0 (λ number. own_bit number (owner f))) (λ f less. sum_upto-none (λ number. own_bit number (owner f))))
   seats_have own (suc seats) each =
       let both = sum_plus n (λ f. sum_upto (suc seats) (λ number. own_bit number (owner f))) (λ f. sum_upto seats (λ number. own_bit number (owner f))) (λ f. own_bit seats (owner f))
       (λ f less. sum-suc seats (λ number. own_bit number (owner f))) in
@@ -77,18 +77,18 @@ inside_parts g made begun ids (Borne number) within = refl
 inside_parts g made begun ids (Dead i k) within = refl
 
 -- what is inside where a cycle begins is no more than what the seats have and what is reached
-pub size_begins : (heap : Heap) (words : List ℕ) (g : Graph) (made : List Id) (owner : ℕ → Owner) (fragments : ℕ → List ℕ) {spines : ℕ → Spot} → AreMade g made → Objects heap words g made owner fragments spines
+pub inside_within_held_and_reached : (heap : Heap) (words : List ℕ) (g : Graph) (made : List Id) (owner : ℕ → Owner) (fragments : ℕ → List ℕ) {spines : ℕ → Spot} → AreMade g made → Objects heap words g made owner fragments spines
     → ((f : ℕ) → 16 * heap.groups ≤ f → owner f ≡ Free) → OwnersStand heap.seats owner
     → (reserve hand body : ℕ → List ℕ) → ((number : ℕ) → number < heap.seats → Holding owner number (reserve number) (hand number) (body number))
     → (begun : List Id) → AllPairs IsBefore begun
     → sum_upto (16 * heap.groups) (λ f. inside_bit (is_inside g begun) made (owner f))
     ≤ sum_upto heap.seats (λ number. length (reserve number) + length (fragments_in_hand (hand number) (body number))) + fragments_of_all g begun
-size_begins heap words g made owner fragments ids objects outside owners reserve hand body holding begun ordered =
+inside_within_held_and_reached heap words g made owner fragments ids objects outside owners reserve hand body holding begun ordered =
     let n : ℕ = 16 * heap.groups in
     let parts = sum_plus n (λ f. inside_bit (is_inside g begun) made (owner f)) (λ f. seat_bit (owner f)) (λ f. kept_bit (is_among begun) made (owner f))
     (λ f less. inside_parts g made begun ids (owner f) (λ i k is. (objects.back f i k is).0)) in
-    let seats = sum_same n (λ f. seat_bit (owner f)) (λ f. sum_upto heap.seats (λ number. own_bit number (owner f))) (λ f less. one_has heap.seats (owner f) (owners.seated f)) in
+    let seats = sum_of_same_functions n (λ f. seat_bit (owner f)) (λ f. sum_upto heap.seats (λ number. own_bit number (owner f))) (λ f less. one_has heap.seats (owner f) (owners.seated f)) in
     let own = seats_have n owner (λ number. length (reserve number) + length (fragments_in_hand (hand number) (body number))) heap.seats
     (λ number below. seat_has n owner number (reserve number) (hand number) (body number) (holding number below)) in
-    let kept = kept_among_most heap words g made owner fragments ids objects outside begun ordered in
+    let kept = kept_sum_within_sizes heap words g made owner fragments ids objects outside begun ordered in
     omega (arith, parts, seats, own, kept)

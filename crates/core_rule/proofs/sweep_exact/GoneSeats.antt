@@ -13,7 +13,7 @@ use Rattle.heap_model.specs.declared.graph.cell.Cell.{Cell}
 use Rattle.heap_model.specs.declared.id.Value.TheVariants.{Nil, Number, Object}
 use Rattle.heap_model.specs.declared.reply.Reply.TheVariants as replies
 use Rattle.heap_model.specs.graph.Graph.{GraphSeat}
-use Rattle.core_rule.proofs.graph.GraphSeats.{party_is}
+use Rattle.core_rule.proofs.graph.GraphSeats.{party_with_seat_is_new}
 
 -- the seat has left, or isn't there
 abbrev pub IsGone : Graph → ℕ → Type 0
@@ -48,25 +48,25 @@ gone_said g number other commands.Leave reply present gone = gone_with g number 
 gone_said g number other command reply present gone = gone
 
 module _ (g : Graph) (number : ℕ) (entry : Entry) (accepts : Accepts g entry) where
-  pub gone_after : IsGone g number → IsGone (after_entry g entry) number
-  gone_after gone = by entry accepts
+  pub gone_stays_after_entry : IsGone g number → IsGone (after_entry g entry) number
+  gone_stays_after_entry gone = by entry accepts
     where
       by : (e : Entry) → Accepts g e → IsGone (after_entry g e) number
       by (entries.Said other command reply) its = gone_said g number other command reply its.0 gone
       by _ its = gone
 
   -- its leave makes it so
-  pub leaves_gone : is_leave_of number entry ≡ true → IsGone (after_entry g entry) number
-  leaves_gone leaves = by entry accepts leaves
+  pub gone_after_leave : is_leave_of number entry ≡ true → IsGone (after_entry g entry) number
+  gone_after_leave leaves = by entry accepts leaves
     where
       by : (e : Entry) → Accepts g e → is_leave_of number e ≡ true → IsGone (after_entry g e) number
       by (entries.Said other commands.Leave reply) its here =
-          subst (IsGone (after_reply g other commands.Leave reply)) (eqb-true other number here) (ap (λ (s : GraphSeat). s.left) (party_is g other _ its.0))
+          subst (IsGone (after_reply g other commands.Leave reply)) (eqb-true other number here) (ap (λ (s : GraphSeat). s.left) (party_with_seat_is_new g other _ its.0))
       by _ its here = absurd (cc)
 
   -- none of its entries is accepted
-  pub not_of_gone : IsGone g number → is_of number entry ≡ false
-  not_of_gone gone = by entry accepts
+  pub gone_has_no_entry : IsGone g number → is_of number entry ≡ false
+  gone_has_no_entry gone = by entry accepts
     where
       apart : (other : ℕ) → IsPresent g other → (other == number) ≡ false
       apart other present = ne_eqb other number (λ same. absurd (cc (subst (IsPresent g) same present, gone)))
@@ -78,13 +78,13 @@ module _ (g : Graph) (number : ℕ) (entry : Entry) (accepts : Accepts g entry) 
       by (entries.Answers other p) its = apart other its
       by _ its = refl
 
-pub gone_after_all : (g : Graph) (number : ℕ) (history : List Entry) → AcceptsAll g history → IsGone g number → IsGone (graph_after g history) number
-gone_after_all g number [] accepts gone = gone
-gone_after_all g number (entry ∷ history) accepts gone = gone_after_all (after_entry g entry) number history accepts.1 (gone_after g number entry accepts.0 gone)
+pub gone_stays_after_history : (g : Graph) (number : ℕ) (history : List Entry) → AcceptsAll g history → IsGone g number → IsGone (graph_after g history) number
+gone_stays_after_history g number [] accepts gone = gone
+gone_stays_after_history g number (entry ∷ history) accepts gone = gone_stays_after_history (after_entry g entry) number history accepts.1 (gone_stays_after_entry g number entry accepts.0 gone)
 
 -- a seat past the last never was there
-pub gone_opens : (heap : Heap) (number : ℕ) → heap.seats ≤ number → IsGone (opening heap) number
-gone_opens heap number past = ap (λ (s : GraphSeat). s.left) (get_or_past (replicate heap.seats opening_graph_seat) number absent_graph_seat (omega (arith, past, length-replicate heap.seats opening_graph_seat)))
+pub gone_at_opening : (heap : Heap) (number : ℕ) → heap.seats ≤ number → IsGone (opening heap) number
+gone_at_opening heap number past = ap (λ (s : GraphSeat). s.left) (get_or_past (replicate heap.seats opening_graph_seat) number absent_graph_seat (omega (arith, past, length-replicate heap.seats opening_graph_seat)))
 
 -- where all have left, nothing is taken, and no array is made
 takes_none : (g : Graph) (entry : Entry) → Accepts g entry → ((number : ℕ) → IsGone g number) → (effect_of entry).taken ≡ 0
@@ -104,11 +104,11 @@ none_done part none g (entry ∷ history) accepts gone =
       arith,
       sum_by-cons (λ e. part (effect_of e)) entry history,
       none g entry accepts.0 gone,
-      none_done part none (after_entry g entry) history accepts.1 (λ number. gone_after g number entry accepts.0 (gone number)),
+      none_done part none (after_entry g entry) history accepts.1 (λ number. gone_stays_after_entry g number entry accepts.0 (gone number)),
     )
 
-pub none_taken : (g : Graph) (history : List Entry) → AcceptsAll g history → ((number : ℕ) → IsGone g number) → total (λ e. e.taken) history ≡ 0
-none_taken = none_done (λ e. e.taken) takes_none
+pub gone_take_none : (g : Graph) (history : List Entry) → AcceptsAll g history → ((number : ℕ) → IsGone g number) → total (λ e. e.taken) history ≡ 0
+gone_take_none = none_done (λ e. e.taken) takes_none
 
-pub none_made : (g : Graph) (history : List Entry) → AcceptsAll g history → ((number : ℕ) → IsGone g number) → total (λ e. e.words) history ≡ 0
-none_made = none_done (λ e. e.words) grants_none
+pub gone_make_no_words : (g : Graph) (history : List Entry) → AcceptsAll g history → ((number : ℕ) → IsGone g number) → total (λ e. e.words) history ≡ 0
+gone_make_no_words = none_done (λ e. e.words) grants_none

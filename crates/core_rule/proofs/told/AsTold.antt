@@ -13,14 +13,14 @@ use Rattle.core_machine.specs.seat.FitsAccess.{IsGet}
 use Rattle.core_rule.specs.growth.OwnGraphs.{IsSeatsPart, EachOwnGraphIsPart}
 use Rattle.core_rule.specs.told.Told.{IsAsTold, EachSeatIsAsTold}
 use Rattle.core_rule.proofs.entries.AtRest.{seat_fits}
-use Rattle.core_rule.proofs.graph.SameValues.{held_value as value_held}
-use Rattle.core_rule.proofs.growth.OwnGraphs.{same_value, as_many, each_own_graph_is_part}
-use Rattle.core_rule.proofs.told.OwnLists.{TellsAlike, whole_tells, got_tells, total_of-filter}
+use Rattle.core_rule.proofs.graph.SameValues.{held_value_is_value as value_held}
+use Rattle.core_rule.proofs.growth.OwnGraphs.{same_register_values, as_many_objects_made, each_own_graph_is_part}
+use Rattle.core_rule.proofs.told.OwnLists.{TellsAlike, tells_alike_where_whole, tells_alike_but_target, total_of_own_entries}
 
 -- the graph of the seat's entries in the history is its part of the whole
-pub own_part : (heap : Heap) (history : List Entry) (number : ℕ) → IsSeatsPart number (graph_of heap (filter (is_of number) history)) (graph_of heap history)
+pub own_entries_are_seats_part : (heap : Heap) (history : List Entry) (number : ℕ) → IsSeatsPart number (graph_of heap (filter (is_of number) history)) (graph_of heap history)
 unfolding EachOwnGraphIsPart
-own_part heap history number = each_own_graph_is_part heap history number
+own_entries_are_seats_part heap history number = each_own_graph_is_part heap history number
 
 module _ (heap : Heap) (state : State) (book : Book) (number : ℕ) (rule : Rule heap state book) (here : number < heap.seats) where
   abbrev seat : Seat
@@ -42,33 +42,33 @@ module _ (heap : Heap) (state : State) (book : Book) (number : ℕ) (rule : Rule
   named : (command : Command) (value : Value) (stamp : ℕ) (more : List Entry) → IsGet command → more ≡ Said number command (Got value stamp) ∷ []
       → TellsAlike heap number (λ x. x ≡ target_of command) seat.mine (seat.mine ++ more)
   named (commands.Get d r i) value stamp more get is =
-      subst (λ (l : List Entry). TellsAlike heap number (λ x. x ≡ d) seat.mine (seat.mine ++ l)) (sym is) (got_tells heap number d r i stamp value seat.mine)
+      subst (λ (l : List Entry). TellsAlike heap number (λ x. x ≡ d) seat.mine (seat.mine ++ l)) (sym is) (tells_alike_but_target heap number d r i stamp value seat.mine)
   named command value stamp more get is = absurd get
 
   alike_at : (place : Place) → FitsWay seat place → Awaits whole book.made book.owner book.fragments number seat place list.awaited
       → TellsAlike heap number (IsAwaited place (target_of seat.command)) seat.mine (seat.mine ++ list.awaited)
   alike_at (places.Access Naming) fits awaits = named seat.command (values.Object awaits.id) (stamp_of seat.loaded) list.awaited fits.0.1 awaits.told
-  alike_at place fits awaits = whole_tells heap number (IsAwaited place (target_of seat.command)) seat.mine (seat.mine ++ list.awaited) (sym (append-nil seat.mine) ∙ ap (λ (l : List Entry). seat.mine ++ l) (sym awaits))
+  alike_at place fits awaits = tells_alike_where_whole heap number (IsAwaited place (target_of seat.command)) seat.mine (seat.mine ++ list.awaited) (sym (append-nil seat.mine) ∙ ap (λ (l : List Entry). seat.mine ++ l) (sym awaits))
 
   -- its own list tells of it what the history does
   alike : TellsAlike heap number awaited seat.mine part
   alike = subst (TellsAlike heap number awaited seat.mine) list.own (alike_at seat.place (seat_fits rule number here).way_at_place list.awaits)
 
   own_total : (count : Effect → ℕ) → count no_effect ≡ 0 → total_of number count seat.mine ≡ total_of number count book.history
-  own_total count none = alike.totals count none ∙ total_of-filter number count book.history
+  own_total count none = alike.totals count none ∙ total_of_own_entries number count book.history
 
   is_part : IsSeatsPart number (graph_of heap part) whole
-  is_part = own_part heap book.history number
+  is_part = own_entries_are_seats_part heap book.history number
 
-  pub as_told : IsAsTold heap number seat
-  as_told =
+  pub seat_is_as_told : IsAsTold heap number seat
+  seat_is_as_told =
       let told = (rule.seats_stand number here).told in
       let answers = (rule.seats_stand number here).cycle.answers_told in
       record {
         registers = λ r free.
             sym (value_held book.made book.owner book.fragments (register_in seat.registers r) (register_value whole number r) ((rule.seats_stand number here).names.registers r free))
-            ∙ sym (same_value number (graph_of heap part) whole is_part.agrees r) ∙ sym (alike.registers r free);
-        made = told.counts.numbered ∙ sym (as_many number (graph_of heap part) whole is_part.agrees) ∙ sym (ap (λ (l : List Node). length l) alike.objects);
+            ∙ sym (same_register_values number (graph_of heap part) whole is_part.agrees r) ∙ sym (alike.registers r free);
+        made = told.counts.numbered ∙ sym (as_many_objects_made number (graph_of heap part) whole is_part.agrees) ∙ sym (ap (λ (l : List Node). length l) alike.objects);
         sets = told.counts.stamped ∙ sym is_part.agrees.seat.sets ∙ sym alike.sets;
         left = sym told.counts.leaves ∙ sym is_part.agrees.seat.left ∙ sym alike.left;
         answered = sym answers.told ∙ sym (own_total (λ e. e.answers) refl);
@@ -77,4 +77,4 @@ module _ (heap : Heap) (state : State) (book : Book) (number : ℕ) (rule : Rule
 
 pub each_seat_is_as_told : EachSeatIsAsTold
 unfolding EachSeatIsAsTold
-each_seat_is_as_told heap state book number rule here = as_told heap state book number rule here
+each_seat_is_as_told heap state book number rule here = seat_is_as_told heap state book number rule here

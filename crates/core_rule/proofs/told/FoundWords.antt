@@ -5,9 +5,9 @@ use Rattle.core_rule.proofs.Terms.{Heap, State, seat_at, found_by, due_step, Sea
 use Rattle.core_machine.specs.declared.step.Step.{Step}
 use Rattle.core_rule.specs.told.Found.{TellsWord, TellsFound, EachFoundIsTold}
 use Rattle.core_rule.specs.Stands.{Stands}
-use Rattle.core_rule.proofs.told.OwnMetas.{if_some}
-use Rattle.core_rule.proofs.told.ReachedFields.{reaches_in_book}
-use Rattle.core_rule.proofs.steps.Seats.{step_kind}
+use Rattle.core_rule.proofs.told.OwnMetas.{if_some_of_present}
+use Rattle.core_rule.proofs.told.ReachedFields.{due_word_reaches_in_book}
+use Rattle.core_rule.proofs.steps.Seats.{step_kind_of_each_place}
 
 module _ (heap : Heap) (state : State) (book : Book) (number : ℕ) (stands : Stands heap state book) (here : number < heap.seats) where
   abbrev seat : Seat
@@ -16,13 +16,13 @@ module _ (heap : Heap) (state : State) (book : Book) (number : ℕ) (stands : St
   found_told : (step : Step) → due_step heap number seat ≡ Some step → TellsFound heap number seat (found_by heap state step)
   found_told step due = record {
     word = rw due at_step;
-    reached = reaches_in_book heap state book number stands.rule here step due stands;
+    reached = due_word_reaches_in_book heap state book number stands.rule here step due stands;
   }
     where
       at_step : TellsWord heap number seat step (found_by heap state step)
-      at_step = subst (λ (o : Option Step). IfSome o (λ s. TellsWord heap number seat s (found_by heap state s))) due ((step_kind seat.place).found heap state book number stands here refl)
+      at_step = subst (λ (o : Option Step). IfSome o (λ s. TellsWord heap number seat s (found_by heap state s))) due ((step_kind_of_each_place seat.place).found heap state book number stands here refl)
 
 pub each_found_is_told : EachFoundIsTold
 unfolding EachFoundIsTold
 each_found_is_told heap state book number stands here =
-    if_some (λ step. TellsFound heap number (seat_at state number) (found_by heap state step)) (due_step heap number (seat_at state number)) (found_told heap state book number stands here)
+    if_some_of_present (λ step. TellsFound heap number (seat_at state number) (found_by heap state step)) (due_step heap number (seat_at state number)) (found_told heap state book number stands here)

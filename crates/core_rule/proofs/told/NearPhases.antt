@@ -26,12 +26,12 @@ module _ (heap : Heap) (state : State) (book : Book) (number : ℕ) (rule : Rule
   near = (rule.seats_stand number here).cycle.answers_told.near present
 
   -- the phase word is near to what it has answered
-  pub phase_told : IsAnsweredOrNext seat.answered (at heap state.words Phase)
-  phase_told = answered_or_next (at heap state.words Phase) (phase book.history) seat.answered rule.heap_stands.cycle.word near
+  pub phase_word_is_near_answer : IsAnsweredOrNext seat.answered (at heap state.words Phase)
+  phase_word_is_near_answer = answered_or_next (at heap state.words Phase) (phase book.history) seat.answered rule.heap_stands.cycle.word near
 
   -- another seat's word has its last answer, which is near to each phase that has begun just before
-  pub answer_told : (other : ℕ) → other < heap.seats → seat.looks.seen ≤ phase book.history → TellsAnswer seat (at heap state.words (Answer other))
-  answer_told other below begun = by (seat_at state other).left refl
+  pub answer_word_is_told : (other : ℕ) → other < heap.seats → seat.looks.seen ≤ phase book.history → TellsAnswer seat (at heap state.words (Answer other))
+  answer_word_is_told other below begun = by (seat_at state other).left refl
     where
       by : (left : Bool) → (seat_at state other).left ≡ left → TellsAnswer seat (at heap state.words (Answer other))
       by true is =

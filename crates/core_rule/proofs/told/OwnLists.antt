@@ -13,12 +13,12 @@ use Rattle.heap_model.specs.declared.id.Value.TheVariants as values
 use Rattle.heap_model.specs.declared.reply.Reply.TheVariants as replies
 use Rattle.heap_model.specs.graph.Graph.{GraphSeat}
 use Rattle.heap_model.proofs.Histories.{graph_after-more}
-use Rattle.core_rule.proofs.entries.OwnEntries.{total_of-own}
+use Rattle.core_rule.proofs.entries.OwnEntries.{total_of_grows_by_own}
 
 -- a count of the seat's own entries is that of its entries in the history
-pub total_of-filter : (number : ℕ) (part : Effect → ℕ) (history : List Entry) → total_of number part (filter (is_of number) history) ≡ total_of number part history
-total_of-filter number part [] = refl
-total_of-filter number part (entry ∷ history) = by (is_of number entry) refl (total_of-filter number part history)
+pub total_of_own_entries : (number : ℕ) (part : Effect → ℕ) (history : List Entry) → total_of number part (filter (is_of number) history) ≡ total_of number part history
+total_of_own_entries number part [] = refl
+total_of_own_entries number part (entry ∷ history) = by (is_of number entry) refl (total_of_own_entries number part history)
   where
     by : (own : Bool) → is_of number entry ≡ own → total_of number part (filter (is_of number) history) ≡ total_of number part history
         → total_of number part (cond own (entry ∷ filter (is_of number) history) (filter (is_of number) history)) ≡ total_of number part (entry ∷ history)
@@ -38,8 +38,8 @@ pub record TellsAlike (heap : Heap) (number : ℕ) (awaited : ℕ → Type 0) (m
   pub totals : (part : Effect → ℕ) → part no_effect ≡ 0 → total_of number part mine ≡ total_of number part all
 
 -- where nothing is awaited it is the same list
-pub whole_tells : (heap : Heap) (number : ℕ) (awaited : ℕ → Type 0) (mine all : List Entry) → mine ≡ all → TellsAlike heap number awaited mine all
-whole_tells heap number awaited mine all same = subst (TellsAlike heap number awaited mine) same
+pub tells_alike_where_whole : (heap : Heap) (number : ℕ) (awaited : ℕ → Type 0) (mine all : List Entry) → mine ≡ all → TellsAlike heap number awaited mine all
+tells_alike_where_whole heap number awaited mine all same = subst (TellsAlike heap number awaited mine) same
     record { objects = refl; sets = refl; left = refl; registers = λ r free. refl; totals = λ part none. refl }
 
 -- with another value in a register the seat is as it was, or has it there
@@ -53,16 +53,16 @@ put_cases P g number d value was has =
     ]
 
 -- the reply of a get changes the register that it is for, and nothing else
-pub got_tells : (heap : Heap) (number d r i stamp : ℕ) (value : Value) (mine : List Entry)
+pub tells_alike_but_target : (heap : Heap) (number d r i stamp : ℕ) (value : Value) (mine : List Entry)
     → TellsAlike heap number (λ x. x ≡ d) mine (mine ++ entries.Said number (commands.Get d r i) (replies.Got value stamp) ∷ [])
-got_tells heap number d r i stamp value mine = record {
+tells_alike_but_target heap number d r i stamp value mine = record {
   objects = put_cases (λ p. before.objects ≡ p.objects) (graph_of heap mine) number d value refl refl ∙ ap (λ (g : Graph). (graph_seat g number).objects) later;
   sets = put_cases (λ p. before.sets ≡ p.sets) (graph_of heap mine) number d value refl refl ∙ ap (λ (g : Graph). (graph_seat g number).sets) later;
   left = put_cases (λ p. before.left ≡ p.left) (graph_of heap mine) number d value refl refl ∙ ap (λ (g : Graph). (graph_seat g number).left) later;
   registers = λ x free.
       put_cases (λ p. get_or before.registers x values.Nil ≡ get_or p.registers x values.Nil) (graph_of heap mine) number d value refl
       (sym (get_or-set_other before.registers d x value values.Nil free)) ∙ ap (λ (g : Graph). register_value g number x) later;
-  totals = λ part none. let nothing : part (effect_of entry) ≡ 0 = none in omega (arith, total_of-own number part mine entry (eq-eqb number number refl), nothing);
+  totals = λ part none. let nothing : part (effect_of entry) ≡ 0 = none in omega (arith, total_of_grows_by_own number part mine entry (eq-eqb number number refl), nothing);
 }
   where
     entry : Entry

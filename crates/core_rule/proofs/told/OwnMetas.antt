@@ -11,11 +11,11 @@ use Rattle.heap_model.specs.declared.id.Value.TheVariants as values
 use Rattle.core_machine.specs.declared.seat.register.Register.TheVariants.{Nil, Number, Object}
 use Rattle.core_rule.specs.told.Found.{IsMetaOf, TellsMeta}
 use Rattle.core_rule.specs.growth.OwnGraphs.{Shape, shape_of, IsSeatsPart}
-use Rattle.core_rule.proofs.graph.Numbering.{id_at-number_of}
-use Rattle.core_rule.proofs.graph.SameValues.{held_value as value_held}
+use Rattle.core_rule.proofs.graph.Numbering.{id_at_own_number}
+use Rattle.core_rule.proofs.graph.SameValues.{held_value_is_value as value_held}
 use Rattle.core_rule.specs.told.Told.{own_state}
-use Rattle.core_rule.proofs.told.AsTold.{own_part, as_told}
-use Rattle.core_rule.proofs.ways.KeptWords.{length_found, array_length_found}
+use Rattle.core_rule.proofs.told.AsTold.{own_entries_are_seats_part, seat_is_as_told}
+use Rattle.core_rule.proofs.ways.KeptWords.{meta_tells_length, meta_tells_array_length}
 use Rattle.core_rule.proofs.graph.ToldGraph.{told_graph}
 
 -- an object that one list of objects has is one of that shape in each that is alike
@@ -40,9 +40,9 @@ own_shape number own whole part (Made maker count) object there = elim (cases_eq
 ]
 
 -- what is told of each object that there is
-pub if_some : {A : Type 0} (P : A → Type 0) (o : Option A) → ((x : A) → o ≡ Some x → P x) → IfSome o P
-if_some P None has = tt
-if_some P (Some x) has = has x refl
+pub if_some_of_present : {A : Type 0} (P : A → Type 0) (o : Option A) → ((x : A) → o ≡ Some x → P x) → IfSome o P
+if_some_of_present P None has = tt
+if_some_of_present P (Some x) has = has x refl
 
 module _ (heap : Heap) (state : State) (book : Book) (number : ℕ) (rule : Rule heap state book) (here : number < heap.seats) where
   abbrev seat : Seat
@@ -52,22 +52,22 @@ module _ (heap : Heap) (state : State) (book : Book) (number : ℕ) (rule : Rule
   meta_is : (index : ℕ) (object : Node) → index < length book.made → IsKept book.owner book.fragments index → shape_of (node_at (told_graph heap book) book.made index) ≡ shape_of object
       → IsMetaOf object (at heap state.words (Word (fragment_at (book.fragments index) 0) 0))
   meta_is index object below kept shape = record {
-    length_is = length_found heap state.words (told_graph heap book) book.made book.owner book.fragments rule.machine.limits rule.heap_stands.control_words rule.heap_stands.ids rule.heap_stands.objects index below kept
+    length_is = meta_tells_length heap state.words (told_graph heap book) book.made book.owner book.fragments rule.machine.limits rule.heap_stands.control_words rule.heap_stands.ids rule.heap_stands.objects index below kept
         ∙ ap (λ (x : Shape). x.cells) shape;
-    kind_is = array_length_found heap state.words (told_graph heap book) book.made book.owner book.fragments rule.machine.limits rule.heap_stands.control_words rule.heap_stands.ids rule.heap_stands.objects index below kept
+    kind_is = meta_tells_array_length heap state.words (told_graph heap book) book.made book.owner book.fragments rule.machine.limits rule.heap_stands.control_words rule.heap_stands.ids rule.heap_stands.objects index below kept
         ∙ ap (λ (x : Shape). if x.array then Some x.cells else None) shape;
   }
 
   -- while no reply of its own is awaited, the object of an id by the seat's own graph has the meta
   module _ (told : seat.mine ≡ filter (is_of number) book.history) where
     part : IsSeatsPart number (graph_of heap seat.mine) (told_graph heap book)
-    part = subst (λ (l : List Entry). IsSeatsPart number (graph_of heap l) (told_graph heap book)) (sym told) (own_part heap book.history number)
+    part = subst (λ (l : List Entry). IsSeatsPart number (graph_of heap l) (told_graph heap book)) (sym told) (own_entries_are_seats_part heap book.history number)
 
     named_meta : (id : Id) → NamesKept book.made book.owner book.fragments (values.Object id)
         → IfSome (node (graph_of heap seat.mine) id) (λ object. IsMetaOf object (at heap state.words (Word (object_head book.made book.fragments id) 0)))
-    named_meta id kept = if_some (λ object. IsMetaOf object (at heap state.words (Word (object_head book.made book.fragments id) 0))) (node (graph_of heap seat.mine) id)
+    named_meta id kept = if_some_of_present (λ object. IsMetaOf object (at heap state.words (Word (object_head book.made book.fragments id) 0))) (node (graph_of heap seat.mine) id)
         (λ object there. meta_is (object_number book.made id) object kept.0 kept.1
-        (ap (λ x. shape_of (node_in (node (told_graph heap book) x))) (id_at-number_of book.made id kept.0) ∙ own_shape number (graph_of heap seat.mine) (told_graph heap book) part id object there))
+        (ap (λ x. shape_of (node_in (node (told_graph heap book) x))) (id_at_own_number book.made id kept.0) ∙ own_shape number (graph_of heap seat.mine) (told_graph heap book) part id object there))
 
     -- of each register
     held_meta : (r fragment : ℕ) (held : Register) (value : Value) → HoldsValue book.made book.owner book.fragments held value → held_value (own_state heap number seat) r ≡ value
@@ -79,9 +79,9 @@ module _ (heap : Heap) (state : State) (book : Book) (number : ℕ) (rule : Rule
         subst (λ v. IfSome (target_node (graph_of heap seat.mine) v) (λ object. IsMetaOf object (at heap state.words (Word fragment 0)))) (sym (is ∙ holds.0))
         (subst (λ f. IfSome (node (graph_of heap seat.mine) id) (λ object. IsMetaOf object (at heap state.words (Word f 0)))) first (named_meta id holds.1))
 
-    pub metas_told : ((d r : ℕ) → ¬ IsAwaited seat.place d r) → (fragment : ℕ) → TellsMeta heap number seat fragment (at heap state.words (Word fragment 0))
-    metas_told free fragment r begins =
+    pub tells_meta_of_word : ((d r : ℕ) → ¬ IsAwaited seat.place d r) → (fragment : ℕ) → TellsMeta heap number seat fragment (at heap state.words (Word fragment 0))
+    tells_meta_of_word free fragment r begins =
         let none = free (target_of seat.command) r in
         let holds = (rule.seats_stand number here).names.registers r none in
         held_meta r fragment (register_in seat.registers r) (register_value (told_graph heap book) number r) holds
-        (sym ((as_told heap state book number rule here).registers r none) ∙ sym (value_held book.made book.owner book.fragments (register_in seat.registers r) (register_value (told_graph heap book) number r) holds)) begins
+        (sym ((seat_is_as_told heap state book number rule here).registers r none) ∙ sym (value_held book.made book.owner book.fragments (register_in seat.registers r) (register_value (told_graph heap book) number r) holds)) begins

@@ -15,10 +15,10 @@ use Rattle.core_machine.specs.seat.AccessMoves.{loaded_head_of}
 use Rattle.core_machine.specs.seat.FitsAccess.{FitsAccess}
 use Rattle.core_rule.specs.told.Reached.{IsOnObject, ReachesObject, ReachesArray, ReachesRow, IsFieldPlace, AwaitsName, ReachesOwn, EachReachesOwn, NamesReached, ReachesInBook}
 use Rattle.core_rule.specs.Stands.{Stands}
-use Rattle.core_rule.proofs.entries.AtRest.{seat_fits, none_awaited}
-use Rattle.core_rule.proofs.graph.Numbering.{id_at-number_of}
-use Rattle.core_rule.proofs.ways.AtObject.{way_object}
-use Rattle.core_rule.proofs.ways.KeptWords.{row_ahead, name_found}
+use Rattle.core_rule.proofs.entries.AtRest.{seat_fits, place_awaits_none}
+use Rattle.core_rule.proofs.graph.Numbering.{id_at_own_number}
+use Rattle.core_rule.proofs.ways.AtObject.{way_object_is_registers}
+use Rattle.core_rule.proofs.ways.KeptWords.{way_row_within_object, name_tells_id}
 use Rattle.core_rule.proofs.graph.ToldGraph.{told_graph}
 
 module _ (heap : Heap) (state : State) (book : Book) (number : ℕ) (rule : Rule heap state book) (here : number < heap.seats) where
@@ -34,7 +34,7 @@ module _ (heap : Heap) (state : State) (book : Book) (number : ℕ) (rule : Rule
   on_object place is free index row way owned = record {
     below = way.below;
     holds = way.holds;
-    held = way_object heap state book number rule here place is (λ d r. none_awaited seat.place (places.Access place) d r is (free d r)) index row way;
+    held = way_object_is_registers heap state book number rule here place is (λ d r. place_awaits_none seat.place (places.Access place) d r is (free d r)) index row way;
     owned = ap book.owner way.here ∙ owned;
     in_order = way.here;
   }
@@ -55,7 +55,7 @@ module _ (heap : Heap) (state : State) (book : Book) (number : ℕ) (rule : Rule
   -- a row before the field's, or that
   at_row : (place : Access) → seat.place ≡ places.Access place → ((d r : ℕ) → ¬ IsAwaited (places.Access place) d r) → Finds nodes book.made book.owner book.fragments seat → ReachesRow heap book number seat seat.links
   at_row place is free finds =
-      let ahead = row_ahead heap state.words (told_graph heap book) book.made book.owner book.fragments rule.machine.limits rule.heap_stands.control_words rule.heap_stands.ids rule.heap_stands.objects seat finds in
+      let ahead = way_row_within_object heap state.words (told_graph heap book) book.made book.owner book.fragments rule.machine.limits rule.heap_stands.control_words rule.heap_stands.ids rule.heap_stands.objects seat finds in
       record {
         object = finds.index;
         row = finds.row;
@@ -78,7 +78,7 @@ module _ (heap : Heap) (state : State) (book : Book) (number : ℕ) (rule : Rule
         below = awaits.kept.0;
         kept = awaits.kept.1;
         loads = awaits.loads;
-        held = awaits.held ∙ ap values.Object (sym (id_at-number_of book.made awaits.id awaits.kept.0));
+        held = awaits.held ∙ ap values.Object (sym (id_at_own_number book.made awaits.id awaits.kept.0));
       }
 
   reaches_in : (place : Access) → seat.place ≡ places.Access place → FitsAccess seat place → AccessStands nodes book.made book.owner book.fragments seat place → ReachesOwn heap book number seat place
@@ -109,7 +109,7 @@ module _ (heap : Heap) (state : State) (book : Book) (number : ℕ) (rule : Rule
   named_by : (awaits : AwaitsName heap book number seat) → id_of (at heap state.words (Word (loaded_head_of seat) 1)) ≡ id_at book.made awaits.object
   named_by awaits =
       ap (λ (o : Option ℕ). id_of (at heap state.words (Word (unwrap_or o 0) 1))) awaits.loads
-      ∙ name_found heap state.words (told_graph heap book) book.made book.owner book.fragments rule.machine.limits rule.heap_stands.control_words rule.heap_stands.ids rule.heap_stands.objects awaits.object awaits.below awaits.kept
+      ∙ name_tells_id heap state.words (told_graph heap book) book.made book.owner book.fragments rule.machine.limits rule.heap_stands.control_words rule.heap_stands.ids rule.heap_stands.objects awaits.object awaits.below awaits.kept
 
   module _ (step : Step) (due : due_step heap number seat ≡ Some step) where
     names_at : (place : Access) → seat.place ≡ places.Access place → (reaches : ReachesOwn heap book number seat place) → NamesReached heap book number seat (found_by heap state step) place reaches
@@ -119,8 +119,8 @@ module _ (heap : Heap) (state : State) (book : Book) (number : ℕ) (rule : Rule
     names_at _ is reaches = tt
 
     -- and by the book so it is where the seat's due step finds its word
-    pub reaches_in_book : Stands heap state book → WhileAccess (ReachesInBook heap number seat (found_by heap state step)) seat.place
-    reaches_in_book stands = reaches_so (ReachesInBook heap number seat (found_by heap state step)) (λ reaching is reaches. record {
+    pub due_word_reaches_in_book : Stands heap state book → WhileAccess (ReachesInBook heap number seat (found_by heap state step)) seat.place
+    due_word_reaches_in_book stands = reaches_so (ReachesInBook heap number seat (found_by heap state step)) (λ reaching is reaches. record {
       there = record { state = state; book = book; stands = stands; here = refl; reaches = reaches };
       finds = rw due refl;
       names = names_at reaching is reaches;

@@ -14,10 +14,10 @@ use Rattle.core_machine.specs.declared.step.TurningStep.TheVariants.{LookLoad}
 use Rattle.core_rule.specs.told.Found.{TellsWord}
 use Rattle.core_rule.specs.looks.Looks.{WhileCollecting, CollectingStands}
 use Rattle.core_rule.specs.Stands.{Stands}
-use Rattle.core_rule.proofs.entries.AtRest.{in_flight, none_awaited}
-use Rattle.core_rule.proofs.entries.SeatLists.{all_told}
-use Rattle.core_rule.proofs.told.NearPhases.{phase_told, answer_told}
-use Rattle.core_rule.proofs.told.OwnMetas.{metas_told}
+use Rattle.core_rule.proofs.entries.AtRest.{in_flight_has_not_left, place_awaits_none}
+use Rattle.core_rule.proofs.entries.SeatLists.{own_list_is_all_told}
+use Rattle.core_rule.proofs.told.NearPhases.{phase_word_is_near_answer, answer_word_is_told}
+use Rattle.core_rule.proofs.told.OwnMetas.{tells_meta_of_word}
 
 module _ (heap : Heap) (state : State) (book : Book) (number : ℕ) (stands : Stands heap state book) (here : number < heap.seats) where
   abbrev rule : Rule heap state book
@@ -31,27 +31,27 @@ module _ (heap : Heap) (state : State) (book : Book) (number : ℕ) (stands : St
   TellsAt step = TellsWord heap number seat step (found_by heap state step)
 
   module _ (busy : seat.place ≢ places.Idle) where
-    pub poll_finds : TellsAt steps.PollLoad
-    poll_finds = phase_told heap state book number rule here (in_flight rule number here busy)
+    pub tells_at_poll : TellsAt steps.PollLoad
+    tells_at_poll = phase_word_is_near_answer heap state book number rule here (in_flight_has_not_left rule number here busy)
 
-    pub refusal_finds : (command : Command) → TellsAt (refusal_step command (spine_need seat))
-    refusal_finds (commands.Array d cells) = tt
-    refusal_finds command = poll_finds
+    pub tells_at_refusal : (command : Command) → TellsAt (refusal_step command (spine_need seat))
+    tells_at_refusal (commands.Array d cells) = tt
+    tells_at_refusal command = tells_at_poll
 
-    pub birth_finds : (last : Bool) → TellsAt (if last then last_birth_move number seat else birth_move seat).step
-    birth_finds true = tt
-    birth_finds false = tt
+    pub tells_at_birth : (last : Bool) → TellsAt (if last then last_birth_move number seat else birth_move seat).step
+    tells_at_birth true = tt
+    tells_at_birth false = tt
 
-    pub comparing_finds : (other p : ℕ) → seat.place ≡ places.Collecting (collecting.Comparing other p) → TellsAt (steps.Turning (LookLoad other))
-    comparing_finds other p is =
+    pub tells_at_comparing : (other p : ℕ) → seat.place ≡ places.Collecting (collecting.Comparing other p) → TellsAt (steps.Turning (LookLoad other))
+    tells_at_comparing other p is =
         let looks = stands.looks number here in
         let asks : CollectingStands heap book.history number (collecting.Comparing other p) = subst (WhileCollecting (CollectingStands heap book.history number)) is looks.asks in
-        answer_told heap state book number rule here (in_flight rule number here busy) other asks.asked.below looks.seen
+        answer_word_is_told heap state book number rule here (in_flight_has_not_left rule number here busy) other asks.asked.below looks.seen
 
-    pub meta_finds : (place : Access) → seat.place ≡ places.Access place → (Awaits (graph_of heap book.history) book.made book.owner book.fragments number seat (places.Access place) (rule.seats_stand number here).told.list.awaited → (rule.seats_stand number here).told.list.awaited ≡ [])
+    pub tells_at_meta : (place : Access) → seat.place ≡ places.Access place → (Awaits (graph_of heap book.history) book.made book.owner book.fragments number seat (places.Access place) (rule.seats_stand number here).told.list.awaited → (rule.seats_stand number here).told.list.awaited ≡ [])
         → ((d r : ℕ) → ¬ IsAwaited (places.Access place) d r) → TellsAt (steps.Access (WalkLoad seat.reached))
-    meta_finds place is none free =
+    tells_at_meta place is none free =
         let list = (rule.seats_stand number here).told.list in
         let told : seat.mine ≡ filter (is_of number) book.history
-        = all_told list (none (subst (λ p. Awaits (graph_of heap book.history) book.made book.owner book.fragments number seat p list.awaited) is list.awaits)) in
-        metas_told heap state book number rule here told (λ d r. none_awaited seat.place (places.Access place) d r is (free d r)) seat.reached
+        = own_list_is_all_told list (none (subst (λ p. Awaits (graph_of heap book.history) book.made book.owner book.fragments number seat p list.awaited) is list.awaits)) in
+        tells_meta_of_word heap state book number rule here told (λ d r. place_awaits_none seat.place (places.Access place) d r is (free d r)) seat.reached

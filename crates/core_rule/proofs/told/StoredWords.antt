@@ -31,8 +31,8 @@ module _ (heap : Heap) (number : ℕ) (seat : Seat) (stored word : ℕ) where
     nowhere P (places.Access place) due = let same : (access_move heap number seat place).step ≡ step = cc due in absurd (no_access place (ap operation_of same ∙ stores))
     nowhere P place due = tt
 
-    pub store_tells : due_step heap number seat ≡ Some step → TellsFound heap number seat word
-    store_tells due = record {
+    pub store_tells_found : due_step heap number seat ≡ Some step → TellsFound heap number seat word
+    store_tells_found due = record {
       word = rw due (none_loaded step stores);
       reached = nowhere _ seat.place due;
     }

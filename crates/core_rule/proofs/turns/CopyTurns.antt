@@ -14,8 +14,8 @@ use Rattle.core_machine.specs.declared.collector.stage.SpineCopy.{SpineCopy}
 use Rattle.core_machine.specs.declared.collector.stage.Stage.TheVariants as stages
 use Rattle.core_machine.specs.declared.collector.stage.Visit.{Visit}
 use Rattle.core_rule.specs.turns.TurnsLeft.{visit_most, copy_most, visit_left, copying_left, stage_left}
-use Rattle.core_rule.proofs.turns.Lefts.{StageLeavesFewer, fewer_at}
-use Rattle.core_rule.proofs.turns.NextPlaces.{place_after, place_within}
+use Rattle.core_rule.proofs.turns.Lefts.{StageLeavesFewer, fewer_turns_left_at_stage}
+use Rattle.core_rule.proofs.turns.NextPlaces.{next_place_is_not_before, next_place_within_group}
 
 module _ (heap : Heap) (phase looked : ℕ) (words : List ℕ) where
   -- so many turns are left at a stage
@@ -40,7 +40,7 @@ module _ (heap : Heap) (phase looked : ℕ) (words : List ℕ) where
     visit_on_leaves : left_at (visit_on heap visit) + copy_most ≤ visit_left heap.groups visit
     visit_on_leaves =
         let next = seen_leaves visit.group visit.marked (visit.place + 1) (next_place_of visit.marked (visit.place + 1)) fits.group_within
-        (place_after visit.marked (visit.place + 1)) (place_within visit.marked (visit.place + 1)) in
+        (next_place_is_not_before visit.marked (visit.place + 1)) (next_place_within_group visit.marked (visit.place + 1)) in
         omega (arith, next, fits.place_within)
 
     inspected_leaves : (cells : Option ℕ) → left_at (after_inspected heap visit cells) < visit_left heap.groups visit
@@ -65,39 +65,39 @@ abbrev pub CopyingLeaves : Copying → Type 0
 CopyingLeaves stage = (heap : Heap) (phase looked : ℕ) (words : List ℕ) (found : ℕ) → FitsCopying heap stage → IsFewCopied stage
     → stage_left heap words phase looked (after_copying heap phase stage found) < copying_left heap.groups stage
 
-pub visiting_leaves : (group : ℕ) → CopyingLeaves (copying.Visiting group)
-visiting_leaves group heap phase looked words found fits few =
-    let next = seen_leaves heap phase looked words group (marked_bits_of found) 0 (next_place_of (marked_bits_of found) 0) fits (place_after (marked_bits_of found) 0) (place_within (marked_bits_of found) 0) in
+pub visiting_leaves_fewer : (group : ℕ) → CopyingLeaves (copying.Visiting group)
+visiting_leaves_fewer group heap phase looked words found fits few =
+    let next = seen_leaves heap phase looked words group (marked_bits_of found) 0 (next_place_of (marked_bits_of found) 0) fits (next_place_is_not_before (marked_bits_of found) 0) (next_place_within_group (marked_bits_of found) 0) in
     omega (arith, next, fits)
 
-pub inspecting_leaves : (visit : Visit) → CopyingLeaves (copying.Inspecting visit)
-inspecting_leaves visit heap phase looked words found fits few = inspected_leaves heap phase looked words visit fits (array_length_of found)
+pub inspecting_leaves_fewer : (visit : Visit) → CopyingLeaves (copying.Inspecting visit)
+inspecting_leaves_fewer visit heap phase looked words found fits few = inspected_leaves heap phase looked words visit fits (array_length_of found)
 
-pub naming_leaves : (visit : Visit) (n : ℕ) → CopyingLeaves (copying.Naming visit n)
-naming_leaves visit n heap phase looked words found fits few = omega (arith, fits.0.place_within)
+pub naming_leaves_fewer : (visit : Visit) (n : ℕ) → CopyingLeaves (copying.Naming visit n)
+naming_leaves_fewer visit n heap phase looked words found fits few = omega (arith, fits.0.place_within)
 
-pub locating_leaves : (array : ArrayAt) → CopyingLeaves (copying.Locating array)
-locating_leaves array heap phase looked words found fits few = located_leaves heap phase looked words array (spot_in found) fits.there
+pub locating_leaves_fewer : (array : ArrayAt) → CopyingLeaves (copying.Locating array)
+locating_leaves_fewer array heap phase looked words found fits few = located_leaves heap phase looked words array (spot_in found) fits.there
 
-pub claiming_leaves : (array : ArrayAt) (from : Spot) → CopyingLeaves (copying.Claiming array from)
-claiming_leaves array from heap phase looked words found fits few =
+pub claiming_leaves_fewer : (array : ArrayAt) (from : Spot) → CopyingLeaves (copying.Claiming array from)
+claiming_leaves_fewer array from heap phase looked words found fits few =
     rw (copy_leaves heap phase looked words (record { array = array; from = from; to = spot_in found; index = 0 })) (omega (arith, fits.0.there.place_within))
 
-pub loading_leaves : (copy : SpineCopy) → CopyingLeaves (copying.Loading copy)
-loading_leaves copy heap phase looked words found fits few = omega (arith, fits.0.array_fits.there.place_within, fits.1, few)
+pub loading_leaves_fewer : (copy : SpineCopy) → CopyingLeaves (copying.Loading copy)
+loading_leaves_fewer copy heap phase looked words found fits few = omega (arith, fits.0.array_fits.there.place_within, fits.1, few)
 
-pub storing_leaves : (copy : SpineCopy) (word : ℕ) → CopyingLeaves (copying.Storing copy word)
-storing_leaves copy word heap phase looked words found fits few =
+pub storing_leaves_fewer : (copy : SpineCopy) (word : ℕ) → CopyingLeaves (copying.Storing copy word)
+storing_leaves_fewer copy word heap phase looked words found fits few =
     rw (copy_leaves heap phase looked words (record copy { index = copy.index + 1 })) (omega (arith, fits.copies.array_fits.there.place_within, fits.more, few))
 
-pub swinging_leaves : (copy : SpineCopy) → CopyingLeaves (copying.Swinging copy)
-swinging_leaves copy heap phase looked words found fits few = omega (arith, visit_on_leaves heap phase looked words copy.array.visit fits.0.array_fits.there, fits.1, few)
+pub swinging_leaves_fewer : (copy : SpineCopy) → CopyingLeaves (copying.Swinging copy)
+swinging_leaves_fewer copy heap phase looked words found fits few = omega (arith, visit_on_leaves heap phase looked words copy.array.visit fits.0.array_fits.there, fits.1, few)
 
 -- so the turn leaves fewer
-pub copy_turn_leaves : (stage : Copying) → CopyingLeaves stage → IsFewCopied stage → StageLeavesFewer (stages.Copying stage)
-copy_turn_leaves stage leaves few heap state book rule copies stepped =
+pub copy_turn_leaves_fewer : (stage : Copying) → CopyingLeaves stage → IsFewCopied stage → StageLeavesFewer (stages.Copying stage)
+copy_turn_leaves_fewer stage leaves few heap state book rule copies stepped =
     let fits : IsCopying heap.seats state.collector.phase state.collector.looked × FitsCopying heap stage = rw copies at rule.machine.collector_fit.at_stage in
     let found : ℕ = found_by heap state (copying_step stage) in
     let now : List ℕ = put heap state.words (address_of (copying_step stage)) (word_after (copying_step stage) found) in
-    fewer_at heap state (stages.Copying stage) now state.collector.looked (after_copying heap state.collector.phase stage found) copies
+    fewer_turns_left_at_stage heap state (stages.Copying stage) now state.collector.looked (after_copying heap state.collector.phase stage found) copies
     (leaves heap state.collector.phase state.collector.looked now found fits.1 few)

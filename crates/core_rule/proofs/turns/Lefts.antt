@@ -14,8 +14,8 @@ beside : (a x y : ℕ) → x < y → a + x < a + y
 beside a x y less = omega (arith, less)
 
 -- a turn that stays in its phase, which has come to another stage
-pub fewer_at : (heap : Heap) (state : State) (stage : Stage) (now : List ℕ) (looked : ℕ) (next : Stage) → state.collector.stage ≡ stage
+pub fewer_turns_left_at_stage : (heap : Heap) (state : State) (stage : Stage) (now : List ℕ) (looked : ℕ) (next : Stage) → state.collector.stage ≡ stage
     → stage_left heap now state.collector.phase looked next < stage_left heap state.words state.collector.phase state.collector.looked stage
     → turns_left_at heap now state.collector.phase looked next < turns_left heap state
-fewer_at heap state stage now looked next here less =
+fewer_turns_left_at_stage heap state stage now looked next here less =
     rw here (beside ((6 - state.collector.phase % cycle_phases) * phase_most heap) (stage_left heap now state.collector.phase looked next) (stage_left heap state.words state.collector.phase state.collector.looked stage) less)

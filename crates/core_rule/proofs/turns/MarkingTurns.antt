@@ -9,15 +9,15 @@ use Rattle.core_machine.specs.collector.Copying.{next_half}
 use Rattle.core_machine.specs.declared.collector.stage.Scan.{Scan}
 use Rattle.core_machine.specs.declared.collector.stage.Stage.TheVariants as stages
 use Rattle.core_machine.specs.declared.table.address.Address.TheVariants.{Spot}
-use Rattle.core_machine.proofs.table_lemmas.Addresses.{put-at}
-use Rattle.core_machine.proofs.table_lemmas.Grey.{grey_within}
+use Rattle.core_machine.proofs.table_lemmas.Addresses.{put_of_read_changes_nothing}
+use Rattle.core_machine.proofs.table_lemmas.Grey.{grey_place_within_group}
 use Rattle.core_rule.specs.turns.TurnsLeft.{scanned_count, next_pass, marking_left, scanning_left, stage_left}
-use Rattle.core_rule.proofs.colours.BlackenColours.{with_scan, marks_blacken}
-use Rattle.core_rule.proofs.colours.ShadeColours.{with_mark, marks_shade}
+use Rattle.core_rule.proofs.colours.BlackenColours.{with_scan, marks_after_blackening}
+use Rattle.core_rule.proofs.colours.ShadeColours.{with_mark, marks_after_shade}
 use Rattle.core_rule.proofs.marking.GreyPlaces.{lowest_is_grey}
 use Rattle.core_rule.proofs.marking.Scans.{scan_cases}
-use Rattle.core_rule.proofs.turns.Lefts.{StageLeavesFewer, fewer_at}
-use Rattle.core_rule.proofs.turns.ScannedCounts.{scanned_black, black_same, black_more, black_fewer}
+use Rattle.core_rule.proofs.turns.Lefts.{StageLeavesFewer, fewer_turns_left_at_stage}
+use Rattle.core_rule.proofs.turns.ScannedCounts.{scanned_count_is_black_count, black_count_same_after_shade, black_count_grows_by_scan, grey_leaves_black_fewer}
 
 -- the flip comes after all of it
 and_flip : (less more : ℕ) → less < more → less + 1 < more + 1
@@ -70,20 +70,20 @@ module _ (heap : Heap) (phase looked : ℕ) (words : List ℕ) where
   ]
 
   -- a scan has made one step more
-  pub scan_goes_on : (scan : Scan) → scan.steps < 2051 → scanning_left heap words (scan_step scan) < scanning_left heap words scan
-  scan_goes_on scan few = and_flip _ _ (less_of_scan heap.groups (scanned_count heap words + 1) (2051 - scan.steps) (2051 - (scan.steps + 1)) (scan.fragment / 16) (heap.groups + 1) (omega (arith, few)))
+  pub scan_step_leaves_less : (scan : Scan) → scan.steps < 2051 → scanning_left heap words (scan_step scan) < scanning_left heap words scan
+  scan_step_leaves_less scan few = and_flip _ _ (less_of_scan heap.groups (scanned_count heap words + 1) (2051 - scan.steps) (2051 - (scan.steps + 1)) (scan.fragment / 16) (heap.groups + 1) (omega (arith, few)))
 
   scan_at_leaves : (scan : Scan) (part : ℕ) → scan.steps < 2051 → stage_left heap words phase looked (scan_at (scan_step scan) part) < scanning_left heap words scan
-  scan_at_leaves scan part few = scan_cases (λ stage. stage_left heap words phase looked stage < scanning_left heap words scan) (scan_step scan) part (scan_goes_on scan few) (λ behind. scan_goes_on scan few)
+  scan_at_leaves scan part few = scan_cases (λ stage. stage_left heap words phase looked stage < scanning_left heap words scan) (scan_step scan) part (scan_step_leaves_less scan few) (λ behind. scan_step_leaves_less scan few)
 
   scan_load_leaves : (scan : Scan) (next : ℕ) (found : Option ℕ) → scan.steps < 2051 → stage_left heap words phase looked (after_scan_load scan next found) < scanning_left heap words scan
   scan_load_leaves scan next None few = scan_at_leaves scan next few
-  scan_load_leaves scan next (Some target) few = scan_goes_on scan few
+  scan_load_leaves scan next (Some target) few = scan_step_leaves_less scan few
 
   first_load_leaves : (scan : Scan) (length : Option ℕ) (next : ℕ) (found : Option ℕ) → scan.steps < 2051
       → stage_left heap words phase looked (after_first_load scan length next found) < scanning_left heap words scan
   first_load_leaves scan None next found few = scan_load_leaves scan next found few
-  first_load_leaves scan (Some cells) next found few = scan_goes_on scan few
+  first_load_leaves scan (Some cells) next found few = scan_step_leaves_less scan few
 
 module _ (heap : Heap) (state : State) (book : Book) (rule : Rule heap state book) where
   abbrev phase : ℕ
@@ -97,66 +97,66 @@ module _ (heap : Heap) (state : State) (book : Book) (rule : Rule heap state boo
 
   -- a grey fragment isn't scanned
   seen_few : (f : ℕ) → f < 16 * heap.groups → book.colour f ≡ Grey → scanned_count heap state.words < 16 * heap.groups
-  seen_few f below grey = rw (scanned_black heap state.words book.colour marks) (black_fewer (16 * heap.groups) book.colour f below grey)
+  seen_few f below grey = rw (scanned_count_is_black_count heap state.words book.colour marks) (grey_leaves_black_fewer (16 * heap.groups) book.colour f below grey)
 
   module _ (group : ℕ) (found : Bool) (below : group < heap.groups) where
     pass_finds : (place : Option ℕ) → lowest_grey_of (at heap state.words (Control group)) ≡ place
         → stage_left heap state.words phase looked (after_pass heap group found place) < stage_left heap state.words phase looked (stages.Passing group found)
     pass_finds None is = group_leaves heap phase looked state.words group found below
     pass_finds (Some place) is =
-        let within = grey_within (at heap state.words (Control group)) place is in
+        let within = grey_place_within_group (at heap state.words (Control group)) place is in
         let here : (16 * group + place) / 16 ≡ group = omega (arith, within) in
         let grey = lowest_is_grey heap state.words book.colour group rule.machine.table below marks place is in
         rw here (and_flip _ _ (scan_begins heap.groups (scanned_count heap state.words) group (next_pass heap.groups found) (seen_few (16 * group + place) (omega (arith, within, below)) grey)))
 
   -- a shade scans nothing
-  pub shaded_count : (m : ℕ) → m < 16 * heap.groups
+  pub scanned_count_same_after_shade : (m : ℕ) → m < 16 * heap.groups
       → scanned_count heap (put heap state.words (Control (m / 16)) (bit_or (at heap state.words (Control (m / 16))) (shade_bit_of m))) ≡ scanned_count heap state.words
-  shaded_count m within =
-      scanned_black heap _ (with_mark book.colour m) (marks_shade heap state.words book.owner book.colour m rule.machine.table within marks)
-      ∙ black_same (16 * heap.groups) book.colour m ∙ sym (scanned_black heap state.words book.colour marks)
+  scanned_count_same_after_shade m within =
+      scanned_count_is_black_count heap _ (with_mark book.colour m) (marks_after_shade heap state.words book.owner book.colour m rule.machine.table within marks)
+      ∙ black_count_same_after_shade (16 * heap.groups) book.colour m ∙ sym (scanned_count_is_black_count heap state.words book.colour marks)
 
   -- a blacken scans one
   blackened_count : (f : ℕ) → f < 16 * heap.groups → book.colour f ≡ Grey
       → scanned_count heap (put heap state.words (Control (f / 16)) (bit_or (at heap state.words (Control (f / 16))) (blacken_bit_of f))) ≡ scanned_count heap state.words + 1
   blackened_count f within grey =
-      scanned_black heap _ (with_scan book.colour f) (marks_blacken heap state.words book.owner book.colour f rule.machine.table within grey marks)
-      ∙ black_more (16 * heap.groups) book.colour f within grey ∙ ap (λ n. n + 1) (sym (scanned_black heap state.words book.colour marks))
+      scanned_count_is_black_count heap _ (with_scan book.colour f) (marks_after_blackening heap state.words book.owner book.colour f rule.machine.table within grey marks)
+      ∙ black_count_grows_by_scan (16 * heap.groups) book.colour f within grey ∙ ap (λ n. n + 1) (sym (scanned_count_is_black_count heap state.words book.colour marks))
 
-pub pass_leaves : (group : ℕ) (found : Bool) → StageLeavesFewer (stages.Passing group found)
-pass_leaves group found heap state book rule passing stepped =
+pub pass_leaves_fewer : (group : ℕ) (found : Bool) → StageLeavesFewer (stages.Passing group found)
+pass_leaves_fewer group found heap state book rule passing stepped =
     let fits : IsPassing heap state.collector.phase state.collector.looked group = rw passing at rule.machine.collector_fit.at_stage in
     let to : Stage = after_pass heap group found (lowest_grey_of (at heap state.words (Control group))) in
-    rw (put-at heap state.words (Control group))
-    (fewer_at heap state (stages.Passing group found) state.words state.collector.looked to passing
+    rw (put_of_read_changes_nothing heap state.words (Control group))
+    (fewer_turns_left_at_stage heap state (stages.Passing group found) state.words state.collector.looked to passing
     (pass_finds heap state book rule group found fits.group_within (lowest_grey_of (at heap state.words (Control group))) refl))
 
-pub scan_leaves : (scan : Scan) → StageLeavesFewer (stages.Scanning scan)
-scan_leaves scan heap state book rule scanning stepped =
+pub scan_leaves_fewer : (scan : Scan) → StageLeavesFewer (stages.Scanning scan)
+scan_leaves_fewer scan heap state book rule scanning stepped =
     let fits : IsScanning heap state.collector.phase state.collector.looked scan = rw scanning at rule.machine.collector_fit.at_stage in
     let word : ℕ = at heap state.words (Word scan.fragment scan.part) in
-    rw (put-at heap state.words (Word scan.fragment scan.part))
-    (fewer_at heap state (stages.Scanning scan) state.words state.collector.looked (after_first_load scan (array_at scan.part word) (part_after scan.part word) (pointer_in scan.part word)) scanning
+    rw (put_of_read_changes_nothing heap state.words (Word scan.fragment scan.part))
+    (fewer_turns_left_at_stage heap state (stages.Scanning scan) state.words state.collector.looked (after_first_load scan (array_at scan.part word) (part_after scan.part word) (pointer_in scan.part word)) scanning
     (first_load_leaves heap state.collector.phase state.collector.looked state.words scan (array_at scan.part word) (part_after scan.part word) (pointer_in scan.part word) (omega (arith, fits.few_steps, fits.part_within))))
 
-pub shade_leaves : (scan : Scan) (target next : ℕ) → StageLeavesFewer (stages.Shading scan target next)
-shade_leaves scan target next heap state book rule shading stepped =
+pub shade_leaves_fewer : (scan : Scan) (target next : ℕ) → StageLeavesFewer (stages.Shading scan target next)
+shade_leaves_fewer scan target next heap state book rule shading stepped =
     let fits : IsShading heap state.collector.phase state.collector.looked scan target next = rw shading at rule.machine.collector_fit.at_stage in
     let now : List ℕ = put heap state.words (Control (target / 16)) (bit_or (at heap state.words (Control (target / 16))) (shade_bit_of target)) in
-    fewer_at heap state (stages.Shading scan target next) now state.collector.looked (scan_at (scan_step scan) next) shading
+    fewer_turns_left_at_stage heap state (stages.Shading scan target next) now state.collector.looked (scan_at (scan_step scan) next) shading
     (subst (λ n. stage_left heap now state.collector.phase state.collector.looked (scan_at (scan_step scan) next) < marking_left heap.groups (n + 1) (2051 - scan.steps) (scan.fragment / 16) (heap.groups + 1) + 1)
-    (shaded_count heap state book rule target fits.target_within)
+    (scanned_count_same_after_shade heap state book rule target fits.target_within)
     (scan_at_leaves heap state.collector.phase state.collector.looked now scan next (omega (arith, fits.few_steps, fits.part_within))))
 
-pub blacken_leaves : (scan : Scan) → IsFewWords (stages.Blackening scan) → StageLeavesFewer (stages.Blackening scan)
-blacken_leaves scan few heap state book rule blackening stepped =
+pub blacken_leaves_fewer : (scan : Scan) → IsFewWords (stages.Blackening scan) → StageLeavesFewer (stages.Blackening scan)
+blacken_leaves_fewer scan few heap state book rule blackening stepped =
     let fits : IsBlackening heap state.collector.phase state.collector.looked scan = rw blackening at rule.machine.collector_fit.at_stage in
     let seen : IsSeenWhole heap state.words book.colour scan.fragment = rw blackening at rule.marks_stand.heap_marks.scan in
     let now : List ℕ = put heap state.words (Control (scan.fragment / 16)) (bit_or (at heap state.words (Control (scan.fragment / 16))) (blacken_bit_of scan.fragment)) in
-    fewer_at heap state (stages.Blackening scan) now state.collector.looked (stages.Passing (scan.fragment / 16) true) blackening
+    fewer_turns_left_at_stage heap state (stages.Blackening scan) now state.collector.looked (stages.Passing (scan.fragment / 16) true) blackening
     (rw (blackened_count heap state book rule scan.fragment fits.fragment_within seen.grey)
     (and_flip _ _ (less_of_scan heap.groups (scanned_count heap state.words + 1) (2051 - scan.steps) 0 (scan.fragment / 16) (heap.groups + 1) (omega (arith, few)))))
 
-pub flip_leaves : StageLeavesFewer stages.Flipping
-flip_leaves heap state book rule flipping stepped =
-    fewer_at heap state stages.Flipping (put heap state.words Spot (spot_word (record { half = next_half state.collector.phase; offset = 0 }))) state.collector.looked stages.Advancing flipping (omega arith)
+pub flip_leaves_fewer : StageLeavesFewer stages.Flipping
+flip_leaves_fewer heap state book rule flipping stepped =
+    fewer_turns_left_at_stage heap state stages.Flipping (put heap state.words Spot (spot_word (record { half = next_half state.collector.phase; offset = 0 }))) state.collector.looked stages.Advancing flipping (omega arith)

@@ -4,13 +4,13 @@ use Rattle.std.specs.Int.{bit_at}
 use Rattle.std.specs.List.{find, range_with_len}
 use Rattle.std.proofs.Common.{zero, suc, ◌≡◌, ℕ, ◌+◌, ◌-◌, ◌==◌, ◌<◌, ◌≤◌, Bool, Option, Some, None, inl, inr, arith}
 use Rattle.heap_words.specs.Control.{next_place_of}
-use Rattle.core_machine.proofs.table_lemmas.Bits.{bool_tells}
-use Rattle.core_machine.proofs.table_lemmas.DeadBits.{place_stands}
+use Rattle.core_machine.proofs.table_lemmas.Bits.{true_or_false}
+use Rattle.core_machine.proofs.table_lemmas.DeadBits.{next_place_has_bit}
 
 -- what is found among numbers in a row is none before them
 found_after : (p : ℕ → Bool) (a n : ℕ) → IfSome (find p (range_with_len a n)) (λ i. a ≤ i)
 found_after p a zero = tt
-found_after p a (suc n) = elim (bool_tells (p a)) as (λ _. IfSome (find p (range_with_len a (suc n))) (λ i. a ≤ i)) [
+found_after p a (suc n) = elim (true_or_false (p a)) as (λ _. IfSome (find p (range_with_len a (suc n))) (λ i. a ≤ i)) [
   | inl yes_ ↦ rw yes_ (omega arith)
   | inr no_ ↦ rw no_ (on (find p (range_with_len (a + 1) n)) (found_after p (a + 1) n))
 ]
@@ -20,11 +20,11 @@ found_after p a (suc n) = elim (bool_tells (p a)) as (λ _. IfSome (find p (rang
     on (Some i) after = omega (arith, after)
 
 -- so the next place isn't either, and is one of the sixteen
-pub place_after : (bits from : ℕ) → IfSome (next_place_of bits from) (λ i. from ≤ i)
-place_after bits from = found_after (λ place. bit_at bits place == 1) from (16 - from)
+pub next_place_is_not_before : (bits from : ℕ) → IfSome (next_place_of bits from) (λ i. from ≤ i)
+next_place_is_not_before bits from = found_after (λ place. bit_at bits place == 1) from (16 - from)
 
-pub place_within : (bits from : ℕ) → IfSome (next_place_of bits from) (λ i. i < 16)
-place_within bits from = on (next_place_of bits from) (place_stands bits from)
+pub next_place_within_group : (bits from : ℕ) → IfSome (next_place_of bits from) (λ i. i < 16)
+next_place_within_group bits from = on (next_place_of bits from) (next_place_has_bit bits from)
   where
     on : (o : Option ℕ) → IfSome o (λ i. (i < 16) × (bit_at bits i ≡ 1)) → IfSome o (λ i. i < 16)
     on None is = tt

@@ -10,8 +10,8 @@ use Rattle.core_machine.specs.declared.step.CopyingStep.TheVariants.{BudgetRetur
 use Rattle.core_machine.specs.declared.step.Step.TheVariants.{Copying}
 use Rattle.core_rule.specs.turns.TurnsLeft.{stage_left}
 use Rattle.core_rule.proofs.marking.SweepMarks.{after_swept_either, after_cleared_either}
-use Rattle.core_rule.proofs.turns.Lefts.{StageLeavesFewer, fewer_at}
-use Rattle.core_rule.proofs.turns.NextPlaces.{place_after, place_within}
+use Rattle.core_rule.proofs.turns.Lefts.{StageLeavesFewer, fewer_turns_left_at_stage}
+use Rattle.core_rule.proofs.turns.NextPlaces.{next_place_is_not_before, next_place_within_group}
 
 module _ (heap : Heap) (phase looked : ℕ) (words : List ℕ) (group : ℕ) (below : group < heap.groups) where
   -- behind a group that is swept less is left than before its last turn
@@ -34,47 +34,47 @@ module _ (heap : Heap) (phase looked : ℕ) (words : List ℕ) (group : ℕ) (be
     | inr some ↦ rw some.0 (omega (arith, below))
   ]
 
-pub sweep_leaves : (group : ℕ) → StageLeavesFewer (stages.Sweeping group)
-sweep_leaves group heap state book rule sweeping stepped =
+pub sweep_leaves_fewer : (group : ℕ) → StageLeavesFewer (stages.Sweeping group)
+sweep_leaves_fewer group heap state book rule sweeping stepped =
     let fits : IsSweeping heap state.collector.phase state.collector.looked group = rw sweeping at rule.machine.collector_fit.at_stage in
     let dead : ℕ = dead_bits_of (at heap state.words (Control group)) in
     let now : List ℕ = put heap state.words (Control group) (at heap state.words (Control group)) in
-    fewer_at heap state (stages.Sweeping group) now state.collector.looked (after_examined heap group dead 0 (next_place_of dead 0)) sweeping
+    fewer_turns_left_at_stage heap state (stages.Sweeping group) now state.collector.looked (after_examined heap group dead 0 (next_place_of dead 0)) sweeping
     (examined_leaves heap state.collector.phase state.collector.looked now group fits.group_within dead 0 0 (19 * (heap.groups - group)) (next_place_of dead 0)
-    (omega arith) (omega arith) (place_after dead 0) (place_within dead 0))
+    (omega arith) (omega arith) (next_place_is_not_before dead 0) (next_place_within_group dead 0))
 
-pub examine_leaves : (group dead place counted : ℕ) → StageLeavesFewer (stages.Examining group dead place counted)
-examine_leaves group dead place counted heap state book rule examining stepped =
+pub examine_leaves_fewer : (group dead place counted : ℕ) → StageLeavesFewer (stages.Examining group dead place counted)
+examine_leaves_fewer group dead place counted heap state book rule examining stepped =
     let fits : IsExamining heap state.collector.phase state.collector.looked group dead place counted = rw examining at rule.machine.collector_fit.at_stage in
     let word : ℕ = at heap state.words (Word (16 * group + place) 0) in
     let now : List ℕ = put heap state.words (Word (16 * group + place) 0) word in
-    fewer_at heap state (stages.Examining group dead place counted) now state.collector.looked (after_examined heap group dead (counted + spine_words_in word) (next_place_of dead (place + 1))) examining
+    fewer_turns_left_at_stage heap state (stages.Examining group dead place counted) now state.collector.looked (after_examined heap group dead (counted + spine_words_in word) (next_place_of dead (place + 1))) examining
     (examined_leaves heap state.collector.phase state.collector.looked now group fits.sweeps.group_within dead (counted + spine_words_in word) (place + 1) (19 * (heap.groups - group) - (place + 1))
-    (next_place_of dead (place + 1)) (omega (arith, fits.place_within, fits.sweeps.group_within)) (omega (arith, fits.place_within)) (place_after dead (place + 1)) (place_within dead (place + 1)))
+    (next_place_of dead (place + 1)) (omega (arith, fits.place_within, fits.sweeps.group_within)) (omega (arith, fits.place_within)) (next_place_is_not_before dead (place + 1)) (next_place_within_group dead (place + 1)))
 
-pub free_leaves : (group dead counted : ℕ) → StageLeavesFewer (stages.Freeing group dead counted)
-free_leaves group dead counted heap state book rule freeing stepped =
+pub free_leaves_fewer : (group dead counted : ℕ) → StageLeavesFewer (stages.Freeing group dead counted)
+free_leaves_fewer group dead counted heap state book rule freeing stepped =
     let fits : IsFreeing heap state.collector.phase state.collector.looked group dead counted = rw freeing at rule.machine.collector_fit.at_stage in
     let now : List ℕ = put heap state.words (Control group) (bit_and (at heap state.words (Control group)) (free_mask_of dead)) in
-    fewer_at heap state (stages.Freeing group dead counted) now state.collector.looked (after_freed heap group counted) freeing
+    fewer_turns_left_at_stage heap state (stages.Freeing group dead counted) now state.collector.looked (after_freed heap group counted) freeing
     (freed_leaves heap state.collector.phase state.collector.looked now group fits.sweeps.group_within counted)
 
-pub return_leaves : (group counted : ℕ) → StageLeavesFewer (stages.Returning group counted)
-return_leaves group counted heap state book rule returning stepped =
+pub return_leaves_fewer : (group counted : ℕ) → StageLeavesFewer (stages.Returning group counted)
+return_leaves_fewer group counted heap state book rule returning stepped =
     let fits : IsReturning heap state.collector.phase state.collector.looked group counted = rw returning at rule.machine.collector_fit.at_stage in
     let now : List ℕ = put heap state.words Budget (word_after (Copying (BudgetReturn counted)) (at heap state.words Budget)) in
-    fewer_at heap state (stages.Returning group counted) now state.collector.looked (after_swept heap group) returning
+    fewer_turns_left_at_stage heap state (stages.Returning group counted) now state.collector.looked (after_swept heap group) returning
     (swept_leaves heap state.collector.phase state.collector.looked now group fits.sweeps.group_within (19 * (heap.groups - group) - 16 - 2) (omega (arith, fits.sweeps.group_within)))
 
-pub clear_leaves : (group kept : ℕ) → StageLeavesFewer (stages.Clearing group kept)
-clear_leaves group kept heap state book rule clearing stepped =
+pub clear_leaves_fewer : (group kept : ℕ) → StageLeavesFewer (stages.Clearing group kept)
+clear_leaves_fewer group kept heap state book rule clearing stepped =
     let fits : IsClearing heap state.collector.phase state.collector.looked group kept = rw clearing at rule.machine.collector_fit.at_stage in
     let now : List ℕ = put heap state.words (Control group) (bit_and (at heap state.words (Control group)) marks_cleared) in
     let counted : ℕ = kept + taken_count_of (at heap state.words (Control group)) in
-    fewer_at heap state (stages.Clearing group kept) now state.collector.looked (after_cleared heap group counted) clearing
+    fewer_turns_left_at_stage heap state (stages.Clearing group kept) now state.collector.looked (after_cleared heap group counted) clearing
     (after_cleared_either (λ stage. stage_left heap now state.collector.phase state.collector.looked stage < heap.groups - group) heap group counted
     (omega (arith, fits.group_within)) (λ end. omega (arith, fits.group_within)))
 
 -- a turn that ends a cycle is no step
-pub end_leaves : (kept : ℕ) → StageLeavesFewer (stages.Ending kept)
-end_leaves kept heap state book rule ending stepped = absurd (cc stepped)
+pub end_leaves_fewer : (kept : ℕ) → StageLeavesFewer (stages.Ending kept)
+end_leaves_fewer kept heap state book rule ending stepped = absurd (cc stepped)

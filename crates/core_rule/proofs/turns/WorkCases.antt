@@ -16,10 +16,10 @@ use Rattle.core_machine.specs.declared.collector.stage.Visit.{Visit}
 use Rattle.core_rule.specs.turns.TurnsLeft.{fragment_most, visit_most, sweep_most, work_most}
 
 -- it marks, copies, sweeps, clears marks, or does nothing; a phase that is for nothing begins as phase 0 does
-pub work_either : (P : Stage → ℕ → Type 0) (groups phase : ℕ) → (phase % cycle_phases ≡ marking_phase → P (stages.Passing 0 false) (16 * groups * fragment_most groups + groups + 1))
+pub first_work_cases : (P : Stage → ℕ → Type 0) (groups phase : ℕ) → (phase % cycle_phases ≡ marking_phase → P (stages.Passing 0 false) (16 * groups * fragment_most groups + groups + 1))
     → (phase % cycle_phases ≡ copying_phase → P (stages.Copying (copying.Visiting 0)) (visit_most * groups)) → (phase % cycle_phases ≡ sweep_phase → P (stages.Sweeping 0) (sweep_most * groups))
     → (phase % cycle_phases ≡ clearing_phase → P (stages.Clearing 0 0) groups) → (IsForNothing phase → P (first_work 0) (work_most groups 0)) → P (first_work phase) (work_most groups phase)
-work_either P groups phase = work_cases P phase (stages.Passing 0 false) (stages.Copying (copying.Visiting 0)) (stages.Sweeping 0) (stages.Clearing 0 0) (first_work 0)
+first_work_cases P groups phase = work_cases P phase (stages.Passing 0 false) (stages.Copying (copying.Visiting 0)) (stages.Sweeping 0) (stages.Clearing 0 0) (first_work 0)
     (16 * groups * fragment_most groups + groups + 1) (visit_most * groups) (sweep_most * groups) groups (work_most groups 0)
 
 module _ (P : Stage → Type 0) (each : (stage : Copying) → P (stages.Copying stage)) (done : P stages.Advancing) (heap : Heap) where
@@ -31,23 +31,23 @@ module _ (P : Stage → Type 0) (each : (stage : Copying) → P (stages.Copying 
       by true = each (copying.Visiting (group + 1))
       by false = done
 
-  pub seen_on : (group marked : ℕ) (place : Option ℕ) → P (after_seen heap group marked place)
-  seen_on group marked None = visited_on group
-  seen_on group marked (Some place) = each _
+  pub after_seen_cases : (group marked : ℕ) (place : Option ℕ) → P (after_seen heap group marked place)
+  after_seen_cases group marked None = visited_on group
+  after_seen_cases group marked (Some place) = each _
 
-  pub located_on : (phase : ℕ) (array : ArrayAt) (from : Spot) → P (after_located heap phase array from)
-  located_on phase array from = by (from.half == left_half phase)
+  pub after_located_cases : (phase : ℕ) (array : ArrayAt) (from : Spot) → P (after_located heap phase array from)
+  after_located_cases phase array from = by (from.half == left_half phase)
     where
       by : (b : Bool) → P (if b then stages.Copying (copying.Claiming array from) else visit_on heap array.visit)
       by true = each _
-      by false = seen_on _ _ _
+      by false = after_seen_cases _ _ _
 
-  pub inspected_on : (visit : Visit) (cells : Option ℕ) → P (after_inspected heap visit cells)
-  inspected_on visit None = seen_on _ _ _
-  inspected_on visit (Some cells) = each _
+  pub after_inspected_cases : (visit : Visit) (cells : Option ℕ) → P (after_inspected heap visit cells)
+  after_inspected_cases visit None = after_seen_cases _ _ _
+  after_inspected_cases visit (Some cells) = each _
 
-  pub copy_on : (copy : SpineCopy) → P (copy_at copy)
-  copy_on copy = by (nat_lt copy.index copy.array.words)
+  pub copy_at_cases : (copy : SpineCopy) → P (copy_at copy)
+  copy_at_cases copy = by (nat_lt copy.index copy.array.words)
     where
       by : (b : Bool) → P (if b then stages.Copying (copying.Loading copy) else stages.Copying (copying.Swinging copy))
       by true = each _

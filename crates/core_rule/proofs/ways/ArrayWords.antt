@@ -29,8 +29,8 @@ pub length_in-array_meta : (cells : ℕ) → cells < 2 ^ 13 → length_of (array
 length_in-array_meta cells few = ap (λ (c : Cell). c.value % 2 ^ 13) (meta_cell cells few) ∙ omega (arith, few)
 
 -- as many spine words as an array of that length has
-pub words_in-meta : (cells : ℕ) → cells < 2 ^ 13 → spine_words_in (array_meta cells) ≡ array_words cells
-words_in-meta cells few = ap (λ o. option_map_or array_words o 0) (array_length_in-meta cells few)
+pub spine_words_in-meta : (cells : ℕ) → cells < 2 ^ 13 → spine_words_in (array_meta cells) ≡ array_words cells
+spine_words_in-meta cells few = ap (λ o. option_map_or array_words o 0) (array_length_in-meta cells few)
 
 -- it leads nowhere
 pub array_meta_nowhere : (cells : ℕ) → cells < 2 ^ 13 → pointer_in 0 (array_meta cells) ≡ None
@@ -52,19 +52,19 @@ pub payload_in-word : (fragment : ℕ) → fragment < 2 ^ 30 → payload_in (spi
 payload_in-word fragment small = ap (λ (c : Cell). c.value) (cell_of-cell_word kinds.Fixed fragment 0 small (omega arith))
 
 -- a fixed word that is no first one refers to nothing
-pub fixed_no_head : (value stamp : ℕ) → value < 2 ^ 30 → stamp < 2 ^ 32 → head_of (cell_word (fixed_cell value stamp)) ≡ None
-fixed_no_head value stamp small short = ap (λ (c : Cell). reference_of c.kind c.value) (cell_of-cell_word kinds.Fixed value stamp small short)
+pub fixed_word_has_no_head : (value stamp : ℕ) → value < 2 ^ 30 → stamp < 2 ^ 32 → head_of (cell_word (fixed_cell value stamp)) ≡ None
+fixed_word_has_no_head value stamp small short = ap (λ (c : Cell). reference_of c.kind c.value) (cell_of-cell_word kinds.Fixed value stamp small short)
 
 -- so no word of an array's first fragment leads anywhere
-pub sentinel_nowhere : (name : Name) (cells : ℕ) (spine : Spot) (part : ℕ) → name.owner < 2 ^ 30 → name.count < 2 ^ 32 → cells < 2 ^ 13 → FitsSpot spine
+pub sentinel_leads_nowhere : (name : Name) (cells : ℕ) (spine : Spot) (part : ℕ) → name.owner < 2 ^ 30 → name.count < 2 ^ 32 → cells < 2 ^ 13 → FitsSpot spine
     → pointer_in part (sentinel_word_of name cells spine part) ≡ None
-sentinel_nowhere name cells spine part owner count few fits = elim (eqb_tells part 0) as (λ _. pointer_in part (sentinel_word_of name cells spine part) ≡ None) [
+sentinel_leads_nowhere name cells spine part owner count few fits = elim (eqb_tells part 0) as (λ _. pointer_in part (sentinel_word_of name cells spine part) ≡ None) [
   | inl meta ↦ rw meta.0 (array_meta_nowhere cells few)
   | inr behind ↦ rw behind.0 (elim (eqb_tells part 1) as (λ _. head_of (cond (eqb part 1) (cell_word (fixed_cell name.owner name.count)) (cond (eqb part 2) (spot_word spine) (cell_word (fixed_cell 0 0)))) ≡ None) [
-    | inl named ↦ rw named.0 (fixed_no_head name.owner name.count owner count)
+    | inl named ↦ rw named.0 (fixed_word_has_no_head name.owner name.count owner count)
     | inr other ↦ rw other.0 (elim (eqb_tells part 2) as (λ _. head_of (cond (eqb part 2) (spot_word spine) (cell_word (fixed_cell 0 0))) ≡ None) [
-      | inl placed ↦ rw placed.0 (fixed_no_head spine.half spine.offset (omega (arith, fits.half_within)) (omega (arith, fits.offset_within)))
-      | inr rest ↦ rw rest.0 (fixed_no_head 0 0 (omega arith) (omega arith))
+      | inl placed ↦ rw placed.0 (fixed_word_has_no_head spine.half spine.offset (omega (arith, fits.half_within)) (omega (arith, fits.offset_within)))
+      | inr rest ↦ rw rest.0 (fixed_word_has_no_head 0 0 (omega arith) (omega arith))
     ])
   ])
 ]
@@ -76,14 +76,14 @@ plain_kind kinds.Number cell plain = refl
 plain_kind kinds.Reference cell plain = refl
 plain_kind kinds.Fixed cell plain = absurd (cc plain)
 
-pub plain_lead : (part word : ℕ) → is_meta word ≡ false → pointer_in part word ≡ head_of word
-plain_lead part word plain = elim (eqb_tells part 0) as (λ _. pointer_in part word ≡ head_of word) [
+pub plain_pointer_is_head : (part word : ℕ) → is_meta word ≡ false → pointer_in part word ≡ head_of word
+plain_pointer_is_head part word plain = elim (eqb_tells part 0) as (λ _. pointer_in part word ≡ head_of word) [
   | inl first ↦ rw first.0 (plain_kind (cell_of word).kind (cell_of word) plain)
   | inr later ↦ rw later.0 refl
 ]
 
 -- a cell's word isn't fixed
-pub value_plain : (head : Id → ℕ) (value : Value) (stamp : ℕ) → HasRoom head value → stamp < 2 ^ 32 → is_meta (value_word head value stamp) ≡ false
-value_plain head values.Nil stamp room small = ap (λ (c : Cell). is_fixed c.kind) (cell_of-cell_word kinds.Nil 0 stamp (omega arith) small)
-value_plain head (values.Number n) stamp room small = ap (λ (c : Cell). is_fixed c.kind) (cell_of-cell_word kinds.Number n stamp room small)
-value_plain head (values.Object id) stamp room small = ap (λ (c : Cell). is_fixed c.kind) (cell_of-cell_word kinds.Reference (head id) stamp room small)
+pub value_word_is_not_fixed : (head : Id → ℕ) (value : Value) (stamp : ℕ) → HasRoom head value → stamp < 2 ^ 32 → is_meta (value_word head value stamp) ≡ false
+value_word_is_not_fixed head values.Nil stamp room small = ap (λ (c : Cell). is_fixed c.kind) (cell_of-cell_word kinds.Nil 0 stamp (omega arith) small)
+value_word_is_not_fixed head (values.Number n) stamp room small = ap (λ (c : Cell). is_fixed c.kind) (cell_of-cell_word kinds.Number n stamp room small)
+value_word_is_not_fixed head (values.Object id) stamp room small = ap (λ (c : Cell). is_fixed c.kind) (cell_of-cell_word kinds.Reference (head id) stamp room small)

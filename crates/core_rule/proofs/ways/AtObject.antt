@@ -6,7 +6,7 @@ use Rattle.heap_model.specs.declared.id.Value.TheVariants as values
 use Rattle.core_machine.specs.declared.place.Place.TheVariants as places
 use Rattle.core_machine.specs.declared.place.Access.{Access}
 use Rattle.core_machine.specs.declared.seat.register.Register.TheVariants as registers
-use Rattle.core_rule.proofs.entries.AtRest.{seat_fits, in_flight}
+use Rattle.core_rule.proofs.entries.AtRest.{seat_fits, in_flight_has_not_left}
 
 -- the register holds the object of the graph's register
 held_object : (made : List Id) (owner : ℕ → Owner) (fragments : ℕ → List ℕ) (held : Register) (value : Value) (head : ℕ) (id : Id)
@@ -19,23 +19,23 @@ module _ (heap : Heap) (state : State) (book : Book) (number : ℕ) (rule : Rule
     (reaching : Access) (place : (seat_at state number).place ≡ places.Access reaching) where
   -- the seat hasn't left
   stays : (seat_at state number).left ≡ false
-  stays = in_flight rule number here (λ idle. absurd (cc (place, idle)))
+  stays = in_flight_has_not_left rule number here (λ idle. absurd (cc (place, idle)))
 
-  pub is_present : IsPresent (graph_of heap book.history) number
-  is_present = (rule.seats_stand number here).told.counts.leaves ∙ stays
+  pub seat_is_present : IsPresent (graph_of heap book.history) number
+  seat_is_present = (rule.seats_stand number here).told.counts.leaves ∙ stays
 
   -- its last answer is to the phase, or to the one before it
-  pub is_near : IsNear (phase book.history) (seat_at state number).answered
-  is_near = (rule.seats_stand number here).cycle.answers_told.near stays
+  pub answer_is_near_phase : IsNear (phase book.history) (seat_at state number).answered
+  answer_is_near_phase = (rule.seats_stand number here).cycle.answers_told.near stays
 
   -- it has nothing at hand
-  pub at_rest : IsAtRest (seat_at state number)
-  at_rest = rw place at (seat_fits rule number here).at_place
+  pub way_seat_is_at_rest : IsAtRest (seat_at state number)
+  way_seat_is_at_rest = rw place at (seat_fits rule number here).at_place
 
   -- its way's object is that of the graph's register
-  pub way_object : ((d r : ℕ) → ¬ IsAwaited (seat_at state number).place d r) → (index row : ℕ) → OnWay book.made book.owner book.fragments (seat_at state number) index row
+  pub way_object_is_registers : ((d r : ℕ) → ¬ IsAwaited (seat_at state number).place d r) → (index row : ℕ) → OnWay book.made book.owner book.fragments (seat_at state number) index row
       → register_value (graph_of heap book.history) number (object_of (seat_at state number).command) ≡ values.Object (id_at book.made index)
-  way_object free index row way =
+  way_object_is_registers free index row way =
       let seat : Seat = seat_at state number in
       let r : ℕ = object_of seat.command in
       held_object book.made book.owner book.fragments (slice_index_or seat.registers r registers.Nil) _ _ _ way.holds

@@ -9,52 +9,52 @@ use Rattle.core_rule.proofs.Terms.{node_at, Owner, SpineOwner, AddressStands, Fi
 use Rattle.heap_model.specs.Heap.{IsHeap}
 use Rattle.core_machine.specs.declared.place.Place.TheVariants as places
 use Rattle.core_machine.specs.declared.place.Access.{Access}
-use Rattle.core_machine.proofs.seat_lemmas.FieldPlaces.{field_cases}
-use Rattle.core_rule.proofs.ways.KeptWords.{link_ahead, payload_found}
-use Rattle.core_rule.proofs.ways.Rows.{array_word}
+use Rattle.core_machine.proofs.seat_lemmas.FieldPlaces.{field_place_cases}
+use Rattle.core_rule.proofs.ways.KeptWords.{link_tells_next_row, spine_word_tells_payload}
+use Rattle.core_rule.proofs.ways.Rows.{cell_word_within_spine}
 use Rattle.core_rule.proofs.cycle.Unwatched.{IsUnwatched}
-use Rattle.core_rule.proofs.ways.LoadedPlaces.{calls_head}
+use Rattle.core_rule.proofs.ways.LoadedPlaces.{calls_object_of_first}
 
 -- so the way leads to one of four places
-pub way_cases : (P : Access → Type 0) (seat : Seat) → P Walking → P Getting → (has_barrier_of seat ≡ true → P LoadingOld) → (has_barrier_of seat ≡ false → P Swapping)
+pub way_place_cases : (P : Access → Type 0) (seat : Seat) → P Walking → P Getting → (has_barrier_of seat ≡ true → P LoadingOld) → (has_barrier_of seat ≡ false → P Swapping)
     → P (way_place_of seat)
-way_cases P seat walks gets loads swaps = elim (eqb_tells seat.links 0) as (λ _. P (way_place_of seat)) [
-  | inl e ↦ rw e.0 (field_cases P seat seat.command gets loads swaps)
+way_place_cases P seat walks gets loads swaps = elim (eqb_tells seat.links 0) as (λ _. P (way_place_of seat)) [
+  | inl e ↦ rw e.0 (field_place_cases P seat seat.command gets loads swaps)
   | inr e ↦ rw e.0 walks
 ]
 
 -- none of which is watched
-pub way_unwatched : (seat : Seat) → IsUnwatched (has_barrier_of seat) (way_place_of seat)
-way_unwatched seat = way_cases (IsUnwatched (has_barrier_of seat)) seat tt tt (λ on. tt) (λ off. off)
+pub way_place_is_unwatched : (seat : Seat) → IsUnwatched (has_barrier_of seat) (way_place_of seat)
+way_place_is_unwatched seat = way_place_cases (IsUnwatched (has_barrier_of seat)) seat tt tt (λ on. tt) (λ off. off)
 
 -- what holds of a seat that stands at its field's fragment, and of one that follows a link, holds of the seat that goes on
-pub onward_cases : (P : Seat → Type 0) (seat : Seat) (found : ℕ) → (seat.links ≡ 0 → P (at_access seat (way_place_of seat)))
+pub after_walk_cases : (P : Seat → Type 0) (seat : Seat) (found : ℕ) → (seat.links ≡ 0 → P (at_access seat (way_place_of seat)))
     → (0 < seat.links → P (at_access (after_link seat found) (way_place_of (after_link seat found)))) → P (after_walk seat found)
-onward_cases P seat found arrived more =
+after_walk_cases P seat found arrived more =
     cond_both (eqb seat.links 0) _ _ P
     (λ e. arrived (eqb-true seat.links 0 e))
     (λ e. let some = eqb-false seat.links 0 e in more (omega (arith, some)))
 
 module _ (made : List Id) (owner : ℕ → Owner) (fragments : ℕ → List ℕ) (seat : Seat) where
   -- where nothing is loaded that refers to an object, there is no old value
-  pub none_old : head_of seat.loaded ≡ None → OldKept made owner fragments seat
-  none_old none some = absurd (false≢true (subst IsSome none some))
+  pub old_kept_where_none : head_of seat.loaded ≡ None → OldKept made owner fragments seat
+  old_kept_where_none none some = absurd (false≢true (subst IsSome none some))
 
   -- what is loaded is so wherever the call stands
-  pub loaded_at : (place : Access) (mine : List Entry) → LoadedKept made owner fragments seat
+  pub loaded_kept_at_place : (place : Access) (mine : List Entry) → LoadedKept made owner fragments seat
       → LoadedKept made owner fragments (record seat { place = places.Access place; mine = mine })
-  loaded_at place mine loaded = record { index = loaded.index; below = loaded.below; kept = loaded.kept; loads = loaded.loads }
+  loaded_kept_at_place place mine loaded = record { index = loaded.index; below = loaded.below; kept = loaded.kept; loads = loaded.loads }
 
 module _ (nodes : ℕ → Node) (made : List Id) (owner : ℕ → Owner) (fragments : ℕ → List ℕ) where
   -- a field that is found is found at the place that comes next
-  pub way_stands : (seat reached : Seat) → seat.loaded ≡ 0 → Finds nodes made owner fragments seat → AccessStands nodes made owner fragments seat (way_place_of reached)
-  way_stands seat reached unloaded finds =
-      way_cases (λ place. AccessStands nodes made owner fragments seat place) reached finds finds (λ on. finds) (λ off. (finds, none_old made owner fragments seat (ap head_of unloaded)))
+  pub access_stands_at_next : (seat reached : Seat) → seat.loaded ≡ 0 → Finds nodes made owner fragments seat → AccessStands nodes made owner fragments seat (way_place_of reached)
+  access_stands_at_next seat reached unloaded finds =
+      way_place_cases (λ place. AccessStands nodes made owner fragments seat place) reached finds finds (λ on. finds) (λ off. (finds, old_kept_where_none made owner fragments seat (ap head_of unloaded)))
 
   -- it is found wherever the call stands
-  pub finds_at : (seat : Seat) (loaded : ℕ) (place : Access) (mine : List Entry) → Finds nodes made owner fragments seat
+  pub finds_at_place : (seat : Seat) (loaded : ℕ) (place : Access) (mine : List Entry) → Finds nodes made owner fragments seat
       → Finds nodes made owner fragments (record seat { loaded = loaded; place = places.Access place; mine = mine })
-  finds_at seat loaded place mine finds = record {
+  finds_at_place seat loaded place mine finds = record {
     index = finds.index;
     row = finds.row;
     way = record { below = finds.way.below; kept = finds.way.kept; holds = finds.way.holds; here = finds.way.here };
@@ -62,9 +62,9 @@ module _ (nodes : ℕ → Node) (made : List Id) (owner : ℕ → Owner) (fragme
   }
 
   -- so is the way to an array's cell while it stands at the array's first fragment
-  pub locates_at : (seat : Seat) (address : Spot) (place : Access) (mine : List Entry) → Locates nodes made owner fragments seat
+  pub locates_at_place : (seat : Seat) (address : Spot) (place : Access) (mine : List Entry) → Locates nodes made owner fragments seat
       → Locates nodes made owner fragments (record seat { address = address; place = places.Access place; mine = mine })
-  locates_at seat address place mine locates = record {
+  locates_at_place seat address place mine locates = record {
     index = locates.index;
     way = record { below = locates.way.below; kept = locates.way.kept; holds = locates.way.holds; here = locates.way.here };
     an_array = locates.an_array;
@@ -75,17 +75,17 @@ module _ (nodes : ℕ → Node) (made : List Id) (owner : ℕ → Owner) (fragme
 module _ (heap : Heap) (words : List ℕ) (g : Graph) (made : List Id) (owner : ℕ → Owner) (fragments : ℕ → List ℕ) {spines : ℕ → Spot}
     (limits : IsHeap heap) (bits : Bits heap words owner) (ids : AreMade g made) (objects : Objects heap words g made owner fragments spines) where
   -- and after one link more
-  pub finds_on : (seat : Seat) (loaded : ℕ) (place : Access) (mine : List Entry) → 0 < seat.links → Finds (node_at g made) made owner fragments seat
+  pub finds_after_link : (seat : Seat) (loaded : ℕ) (place : Access) (mine : List Entry) → 0 < seat.links → Finds (node_at g made) made owner fragments seat
       → Finds (node_at g made) made owner fragments
       (record seat { reached = link_of (at heap words (Word seat.reached 0)); links = seat.links - 1; loaded = loaded; place = places.Access place; mine = mine })
-  finds_on seat loaded place mine more finds = record {
+  finds_after_link seat loaded place mine more finds = record {
     index = finds.index;
     row = finds.row + 1;
     way = record {
       below = finds.way.below;
       kept = finds.way.kept;
       holds = finds.way.holds;
-      here = link_ahead heap words g made owner fragments limits bits ids objects seat finds more;
+      here = link_tells_next_row heap words g made owner fragments limits bits ids objects seat finds more;
     };
     field = record {
       within = finds.field.within;
@@ -96,8 +96,8 @@ module _ (heap : Heap) (words : List ℕ) (g : Graph) (made : List Id) (owner : 
   }
 
   -- the array has the spine word that names its cell's fragment
-  pub word_ahead : (seat : Seat) (locates : Locates (node_at g made) made owner fragments seat) → field_of seat.command / 4 < spine_words_of (node_at g made locates.index)
-  word_ahead seat locates = array_word (node_at g made locates.index) (field_of seat.command) locates.an_array locates.within
+  pub field_word_within_spine : (seat : Seat) (locates : Locates (node_at g made) made owner fragments seat) → field_of seat.command / 4 < spine_words_of (node_at g made locates.index)
+  field_word_within_spine seat locates = cell_word_within_spine (node_at g made locates.index) (field_of seat.command) locates.an_array locates.within
 
   -- the word that a call is about to load names its cell's fragment
   abbrev pub NamesCell : (seat : Seat) → Locates (node_at g made) made owner fragments seat → Type 0
@@ -106,30 +106,30 @@ module _ (heap : Heap) (words : List ℕ) (g : Graph) (made : List Id) (owner : 
   -- so it is where the place that it loaded is the array's, or one that this has left
   pub names_cell : (spine_owner : ℕ → ℕ → SpineOwner) (seat : Seat) (locates : Locates (node_at g made) made owner fragments seat)
       → AddressStands heap words (node_at g made) owner fragments spines spine_owner seat (places.Access Indexing) → NamesCell seat locates
-  names_cell spine_owner seat locates reads = elim (reads locates.index (fragment_at (fragments locates.index) 0) (calls_head made owner fragments seat locates.index 0 locates.way) locates.way.kept locates.an_array) as (λ _. NamesCell seat locates) [
+  names_cell spine_owner seat locates reads = elim (reads locates.index (fragment_at (fragments locates.index) 0) (calls_object_of_first made owner fragments seat locates.index 0 locates.way) locates.way.kept locates.an_array) as (λ _. NamesCell seat locates) [
     | inl own ↦ ap (λ (s : Spot). at heap words (spine_place s (field_of seat.command / 4))) own
-        ∙ (objects.kept locates.index locates.way.below locates.way.kept).listed (field_of seat.command / 4) (word_ahead seat locates)
-    | inr left ↦ left.listed (field_of seat.command / 4) (word_ahead seat locates)
+        ∙ (objects.kept locates.index locates.way.below locates.way.kept).listed (field_of seat.command / 4) (field_word_within_spine seat locates)
+    | inr left ↦ left.listed (field_of seat.command / 4) (field_word_within_spine seat locates)
   ]
 
   -- by that word its fragment is found
-  pub payload_reached : (seat : Seat) (locates : Locates (node_at g made) made owner fragments seat) → NamesCell seat locates
+  pub located_word_is_payload : (seat : Seat) (locates : Locates (node_at g made) made owner fragments seat) → NamesCell seat locates
       → payload_in (at heap words (spine_place seat.address (field_of seat.command / 4))) ≡ fragment_at (fragments locates.index) (field_of seat.command / 4 + 1)
-  payload_reached seat locates its =
-      ap payload_in (its ∙ sym ((objects.kept locates.index locates.way.below locates.way.kept).listed (field_of seat.command / 4) (word_ahead seat locates)))
-      ∙ (payload_found heap words g made owner fragments limits bits ids objects locates.index locates.way.below locates.way.kept (field_of seat.command / 4) (word_ahead seat locates)).1
+  located_word_is_payload seat locates its =
+      ap payload_in (its ∙ sym ((objects.kept locates.index locates.way.below locates.way.kept).listed (field_of seat.command / 4) (field_word_within_spine seat locates)))
+      ∙ (spine_word_tells_payload heap words g made owner fragments limits bits ids objects locates.index locates.way.below locates.way.kept (field_of seat.command / 4) (field_word_within_spine seat locates)).1
 
-  pub finds_payload : (seat : Seat) (loaded : ℕ) (place : Access) (mine : List Entry) → seat.links ≡ 0 → (locates : Locates (node_at g made) made owner fragments seat) → NamesCell seat locates
+  pub finds_after_payload : (seat : Seat) (loaded : ℕ) (place : Access) (mine : List Entry) → seat.links ≡ 0 → (locates : Locates (node_at g made) made owner fragments seat) → NamesCell seat locates
       → Finds (node_at g made) made owner fragments
       (record seat { reached = payload_in (at heap words (spine_place seat.address (field_of seat.command / 4))); loaded = loaded; place = places.Access place; mine = mine })
-  finds_payload seat loaded place mine arrived locates its = record {
+  finds_after_payload seat loaded place mine arrived locates its = record {
     index = locates.index;
     row = field_of seat.command / 4 + 1;
     way = record {
       below = locates.way.below;
       kept = locates.way.kept;
       holds = locates.way.holds;
-      here = payload_reached seat locates its;
+      here = located_word_is_payload seat locates its;
     };
     field = record {
       within = locates.within;

@@ -61,14 +61,14 @@ module _ (nodes now_nodes : ℕ → Node) (made now_made : List Id) (owner now_o
       record { index = loaded.index; below = one.below; kept = one.kept; loads = rw one.fragments_stay loaded.loads }
 
   -- a seat's way stays at its place
-  pub ways_stay : (seat : Seat) (place : Place) → WayStands nodes made owner fragments seat place → WayStands now_nodes now_made now_owner now_fragments seat place
-  ways_stay seat (places.Access LoadingMeta) way = record { index = way.index; way = way_stays seat way.index 0 way.way }
-  ways_stay seat (places.Access Walking) way = finds_stays seat way
-  ways_stay seat (places.Access LoadingSpot) way = locates_stays seat way
-  ways_stay seat (places.Access Indexing) way = locates_stays seat way
-  ways_stay seat (places.Access Getting) way = finds_stays seat way
-  ways_stay seat (places.Access LoadingOld) way = finds_stays seat way
-  ways_stay seat (places.Access ShadingOld) way = (finds_stays seat way.0, loaded_stays seat way.1)
-  ways_stay seat (places.Access ShadingNew) way = (finds_stays seat way.0, λ some. loaded_stays seat (way.1 some))
-  ways_stay seat (places.Access Swapping) way = (finds_stays seat way.0, λ some. loaded_stays seat (way.1 some))
-  ways_stay seat _ way = way
+  pub way_stands_still : (seat : Seat) (place : Place) → WayStands nodes made owner fragments seat place → WayStands now_nodes now_made now_owner now_fragments seat place
+  way_stands_still seat (places.Access LoadingMeta) way = record { index = way.index; way = way_stays seat way.index 0 way.way }
+  way_stands_still seat (places.Access Walking) way = finds_stays seat way
+  way_stands_still seat (places.Access LoadingSpot) way = locates_stays seat way
+  way_stands_still seat (places.Access Indexing) way = locates_stays seat way
+  way_stands_still seat (places.Access Getting) way = finds_stays seat way
+  way_stands_still seat (places.Access LoadingOld) way = finds_stays seat way
+  way_stands_still seat (places.Access ShadingOld) way = (finds_stays seat way.0, loaded_stays seat way.1)
+  way_stands_still seat (places.Access ShadingNew) way = (finds_stays seat way.0, λ some. loaded_stays seat (way.1 some))
+  way_stands_still seat (places.Access Swapping) way = (finds_stays seat way.0, λ some. loaded_stays seat (way.1 some))
+  way_stands_still seat _ way = way

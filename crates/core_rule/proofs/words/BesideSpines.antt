@@ -10,6 +10,6 @@ IsBesideSpines (Spine half offset) = ⊥
 IsBesideSpines _ = Unit {0}
 
 -- so the table has it
-pub beside_there : (heap : Heap) (a : Address) → IsBesideSpines a → InTable heap a → HasWord heap a
-beside_there heap (Spine half offset) beside there = absurd beside
-beside_there heap _ beside there = there
+pub word_beside_is_there : (heap : Heap) (a : Address) → IsBesideSpines a → InTable heap a → HasWord heap a
+word_beside_is_there heap (Spine half offset) beside there = absurd beside
+word_beside_is_there heap _ beside there = there

@@ -6,9 +6,9 @@ use Rattle.std.proofs.lemmas.Bool.{cases_Bool}
 use Rattle.std.proofs.lemmas.Bool.Decides.{eqb_tells, leb_tells}
 use Rattle.std.proofs.lemmas.Nat.Bits.{bit_at-lt}
 use Rattle.core_rule.proofs.Terms.{taken_at, tally, is_clear, clear_in, clear_among, sum_upto, free_in, Owner, taken_bit, free_bit}
-use Rattle.core_machine.proofs.table_lemmas.Free.{sum_same}
-use Rattle.core_rule.proofs.owners.OwnerLemmas.{free_by_bit}
-use Rattle.core_rule.proofs.lists.Parts.{tally-filter_yes, tally-filter_no, tally-range, tally-range_below, tally-range_above, group_length}
+use Rattle.core_machine.proofs.table_lemmas.Free.{sum_of_same_functions}
+use Rattle.core_rule.proofs.owners.OwnerLemmas.{free_bit_is_untaken}
+use Rattle.core_rule.proofs.lists.Parts.{tally-filter_yes, tally-filter_no, tally-range, tally-range_below, tally-range_above, group_tallies_are_length}
 
 filter_none : (p : ℕ → Bool) (f : ℕ) (xs : List ℕ) → tally f xs ≡ 0 → tally f (filter p xs) ≡ 0
 filter_none p f xs none = elim (cases_Bool (p f)) as (λ _. tally f (filter p xs) ≡ 0) [
@@ -42,37 +42,37 @@ module _ (g word f n : ℕ) where
 
 module _ (g word f : ℕ) where
   -- a fragment of the group is among them where its taken bit isn't set
-  pub clear_here : f / 16 ≡ g → tally f (clear_in g word) ≡ 1 - bit_at word (taken_at f)
-  clear_here here = elim (eqb_tells (bit_at word (taken_at f)) 0) as (λ _. tally f (clear_in g word) ≡ 1 - bit_at word (taken_at f)) [
+  pub clear_tally_is_untaken_bit : f / 16 ≡ g → tally f (clear_in g word) ≡ 1 - bit_at word (taken_at f)
+  clear_tally_is_untaken_bit here = elim (eqb_tells (bit_at word (taken_at f)) 0) as (λ _. tally f (clear_in g word) ≡ 1 - bit_at word (taken_at f)) [
     | inl clear ↦ omega (arith, among_clear g word f 16 (omega (arith, here)) (omega (arith, here)) clear.1, clear.1)
     | inr taken ↦ omega (arith, among_taken g word f 16 taken.1, taken.1, bit_at-lt word (f % 16))
   ]
 
   -- no other is
-  pub clear_away : f / 16 ≢ g → tally f (clear_in g word) ≡ 0
-  clear_away away = among_away g word f 16 (outside g f away)
+  pub no_other_is_clear : f / 16 ≢ g → tally f (clear_in g word) ≡ 0
+  no_other_is_clear away = among_away g word f 16 (outside g f away)
 
   -- a clear fragment is of the group
-  pub clear_group : 1 ≤ tally f (clear_in g word) → f / 16 ≡ g
-  clear_group there = elim (eqb_tells (f / 16) g) as (λ _. f / 16 ≡ g) [
+  pub clear_is_in_group : 1 ≤ tally f (clear_in g word) → f / 16 ≡ g
+  clear_is_in_group there = elim (eqb_tells (f / 16) g) as (λ _. f / 16 ≡ g) [
     | inl same ↦ same.1
-    | inr apart ↦ absurd (omega (arith, clear_away apart.1, there))
+    | inr apart ↦ absurd (omega (arith, no_other_is_clear apart.1, there))
   ]
 
-  pub clear_once : tally f (clear_in g word) ≤ 1
-  clear_once = elim (eqb_tells (f / 16) g) as (λ _. tally f (clear_in g word) ≤ 1) [
-    | inl same ↦ omega (arith, clear_here same.1)
-    | inr apart ↦ omega (arith, clear_away apart.1)
+  pub clear_has_each_once : tally f (clear_in g word) ≤ 1
+  clear_has_each_once = elim (eqb_tells (f / 16) g) as (λ _. tally f (clear_in g word) ≤ 1) [
+    | inl same ↦ omega (arith, clear_tally_is_untaken_bit same.1)
+    | inr apart ↦ omega (arith, no_other_is_clear apart.1)
   ]
 
 -- the group's clear fragments are as many as are free in it
-pub length-clear : (g word : ℕ) (owner : ℕ → Owner) → ((j : ℕ) → j < 16 → bit_at word j ≡ taken_bit (owner (16 * g + j))) → length (clear_in g word) ≡ free_in owner g
-length-clear g word owner bits =
-    let counted : sum_upto 16 (λ j. tally (16 * g + j) (clear_in g word)) ≡ length (clear_in g word) = group_length g (clear_in g word) (λ f there. clear_group g word f there) in
-    sym counted ∙ sum_same 16 (λ j. tally (16 * g + j) (clear_in g word)) (λ j. free_bit (owner (16 * g + j))) (λ j below. each j below)
+pub clear_length_is_free_count : (g word : ℕ) (owner : ℕ → Owner) → ((j : ℕ) → j < 16 → bit_at word j ≡ taken_bit (owner (16 * g + j))) → length (clear_in g word) ≡ free_in owner g
+clear_length_is_free_count g word owner bits =
+    let counted : sum_upto 16 (λ j. tally (16 * g + j) (clear_in g word)) ≡ length (clear_in g word) = group_tallies_are_length g (clear_in g word) (λ f there. clear_is_in_group g word f there) in
+    sym counted ∙ sum_of_same_functions 16 (λ j. tally (16 * g + j) (clear_in g word)) (λ j. free_bit (owner (16 * g + j))) (λ j below. each j below)
   where
     each : (j : ℕ) → j < 16 → tally (16 * g + j) (clear_in g word) ≡ free_bit (owner (16 * g + j))
     each j below =
         let place : (16 * g + j) % 16 ≡ j = omega arith in
         let bit : bit_at word ((16 * g + j) % 16) ≡ taken_bit (owner (16 * g + j)) = rw place (bits j below) in
-        clear_here g word (16 * g + j) (omega arith) ∙ free_by_bit (owner (16 * g + j)) (bit_at word ((16 * g + j) % 16)) bit
+        clear_tally_is_untaken_bit g word (16 * g + j) (omega arith) ∙ free_bit_is_untaken (owner (16 * g + j)) (bit_at word ((16 * g + j) % 16)) bit

@@ -4,14 +4,14 @@ use Rattle.std.proofs.Common.{◌≡◌, ◌≢◌, ℕ, ◌+◌, ◌-◌, ◌*�
 use Rattle.std.proofs.lemmas.Nat.Bits.{bit_at-lt}
 use Rattle.core_rule.proofs.Terms.{born_at, taken_at, Heap, Control, part_in, mask_of, clear_in, tally, at, put, table_length, all_taken, word_without_taken, birth_bits_of, Bits}
 use Rattle.core_rule.proofs.Terms.{Owner, Free, Taken, Borne, taken_bit, born_bit, owner_after}
-use Rattle.core_machine.proofs.table_lemmas.Masks.{mask-lt}
-use Rattle.core_rule.proofs.words.ClearLemmas.{clear_here, clear_away, clear_once, clear_group}
-use Rattle.core_rule.proofs.words.ControlLemmas.{bits_after, found_taken, found_born}
-use Rattle.core_rule.proofs.owners.Handed.{handed_out, gains, loses, stays}
-use Rattle.core_rule.proofs.words.MaskLemmas.{mask_bit}
-use Rattle.core_rule.proofs.owners.OwnerLemmas.{is_free, born_once, one_owner}
-use Rattle.core_rule.proofs.lists.Parts.{part_in-here, part_in-away, parts_tally, not_there}
-use Rattle.core_rule.proofs.words.WordBits.{claim_taken, claim_born, untaken_taken, untaken_born, birth_taken, birth_born}
+use Rattle.core_machine.proofs.table_lemmas.Masks.{mask_is_small}
+use Rattle.core_rule.proofs.words.ClearLemmas.{clear_tally_is_untaken_bit, no_other_is_clear, clear_has_each_once, clear_is_in_group}
+use Rattle.core_rule.proofs.words.ControlLemmas.{bits_after_control_word, word_has_taken_bit, word_has_born_bit}
+use Rattle.core_rule.proofs.owners.Handed.{unhanded_keeps_owner, handed_gains_bit, handed_loses_bit, handed_bit_stays}
+use Rattle.core_rule.proofs.words.MaskLemmas.{mask_bit_is_tally}
+use Rattle.core_rule.proofs.owners.OwnerLemmas.{untaken_is_free, born_bit_within_one, free_is_no_seats}
+use Rattle.core_rule.proofs.lists.Parts.{part_in_has_own_group, part_in_has_no_other, part_tallies_make_whole, zero_where_not_positive}
+use Rattle.core_rule.proofs.words.WordBits.{claim_sets_taken_bits, claim_keeps_born_bits, giving_clears_taken_bits, giving_keeps_born_bits, birth_keeps_taken_bits, birth_sets_born_bits}
 
 all_set : (set now was more bit : ℕ) → now ≡ was + more → set ≡ 1 → more ≡ 1 - bit → bit ≡ was → bit < 2 → set ≡ now
 all_set set now was more bit grown one clear same small = omega arith
@@ -29,31 +29,31 @@ module _ (heap : Heap) (words : List ℕ) (owner : ℕ → Owner) (g : ℕ) (who
   -- what is clear in the word is nobody's
   pub clear_is_free : (f : ℕ) → 1 ≤ tally f (clear_in g found) → owner f ≡ Free
   clear_is_free f there =
-      let here : f / 16 ≡ g = clear_group g found f there in
-      is_free (owner f) (omega (arith, there, clear_here g found f here, found_taken heap words owner g whole below bits f here))
+      let here : f / 16 ≡ g = clear_is_in_group g found f there in
+      untaken_is_free (owner f) (omega (arith, there, clear_tally_is_untaken_bit g found f here, word_has_taken_bit heap words owner g whole below bits f here))
 
   module _ (number : ℕ) where
     claimed_taken : (f : ℕ) → f / 16 ≡ g → bit_at (bit_or found all_taken) (taken_at f) ≡ taken_bit (owner_after (Taken number) owner (clear_in g found) f)
     claimed_taken f here =
         let more : taken_bit (owner_after (Taken number) owner (clear_in g found) f) ≡ taken_bit (owner f) + tally f (clear_in g found)
-        = gains taken_bit (Taken number) owner (clear_in g found) (λ x. clear_once g found x) refl (λ x there. ap taken_bit (clear_is_free x there)) f in
-        let one : bit_at (bit_or found all_taken) (taken_at f) ≡ 1 = claim_taken found (f % 16) (omega arith) in
-        let clear : tally f (clear_in g found) ≡ 1 - bit_at found (taken_at f) = clear_here g found f here in
-        let bit : bit_at found (taken_at f) ≡ taken_bit (owner f) = found_taken heap words owner g whole below bits f here in
+        = handed_gains_bit taken_bit (Taken number) owner (clear_in g found) (λ x. clear_has_each_once g found x) refl (λ x there. ap taken_bit (clear_is_free x there)) f in
+        let one : bit_at (bit_or found all_taken) (taken_at f) ≡ 1 = claim_sets_taken_bits found (f % 16) (omega arith) in
+        let clear : tally f (clear_in g found) ≡ 1 - bit_at found (taken_at f) = clear_tally_is_untaken_bit g found f here in
+        let bit : bit_at found (taken_at f) ≡ taken_bit (owner f) = word_has_taken_bit heap words owner g whole below bits f here in
         let small : bit_at found (taken_at f) < 2 = bit_at-lt found (f % 16) in
         all_set (bit_at (bit_or found all_taken) (taken_at f)) (taken_bit (owner_after (Taken number) owner (clear_in g found) f)) (taken_bit (owner f)) (tally f (clear_in g found)) (bit_at found (taken_at f)) more one clear bit small
 
     claimed_born : (f : ℕ) → f / 16 ≡ g → bit_at (bit_or found all_taken) (born_at f) ≡ born_bit (owner_after (Taken number) owner (clear_in g found) f)
     claimed_born f here =
-        claim_born found (f % 16) (omega arith) ∙ found_born heap words owner g whole below bits f here
-        ∙ sym (stays born_bit (Taken number) owner (clear_in g found) (λ x there. ap born_bit (clear_is_free x there)) f)
+        claim_keeps_born_bits found (f % 16) (omega arith) ∙ word_has_born_bit heap words owner g whole below bits f here
+        ∙ sym (handed_bit_stays born_bit (Taken number) owner (clear_in g found) (λ x there. ap born_bit (clear_is_free x there)) f)
 
     claimed_away : (f : ℕ) → f / 16 ≢ g → owner_after (Taken number) owner (clear_in g found) f ≡ owner f
-    claimed_away f apart = handed_out (Taken number) owner (clear_in g found) f (clear_away g found f apart)
+    claimed_away f apart = unhanded_keeps_owner (Taken number) owner (clear_in g found) f (no_other_is_clear g found f apart)
 
     -- what is taken of the group: what is clear, and all else
-    pub claim_bits : Bits heap (put heap words (Control g) (bit_or found all_taken)) (owner_after (Taken number) owner (clear_in g found))
-    claim_bits = bits_after heap words owner (owner_after (Taken number) owner (clear_in g found)) g (bit_or found all_taken) whole below bits claimed_taken claimed_born
+    pub bits_after_claim : Bits heap (put heap words (Control g) (bit_or found all_taken)) (owner_after (Taken number) owner (clear_in g found))
+    bits_after_claim = bits_after_control_word heap words owner (owner_after (Taken number) owner (clear_in g found)) g (bit_or found all_taken) whole below bits claimed_taken claimed_born
         (λ f apart. ap taken_bit (claimed_away f apart))
         (λ f apart. ap born_bit (claimed_away f apart))
         (λ f above. claimed_away f (λ here. omega (arith, here, below, above)) ∙ bits.outside f above)
@@ -64,57 +64,57 @@ module _ (heap : Heap) (words : List ℕ) (owner : ℕ → Owner) (g : ℕ) (who
   word_found = at heap words (Control g)
 
   once_in : (f : ℕ) → tally f (part_in g fs) ≤ 1
-  once_in f = omega (arith, once f, parts_tally g f fs)
+  once_in f = omega (arith, once f, part_tallies_make_whole g f fs)
 
   held_in : (f : ℕ) → 1 ≤ tally f (part_in g fs) → owner f ≡ Taken number
-  held_in f there = held f (omega (arith, there, parts_tally g f fs))
+  held_in f there = held f (omega (arith, there, part_tallies_make_whole g f fs))
 
   -- the mask has the bits of the part
   masked : (f : ℕ) → f / 16 ≡ g → bit_at (mask_of (part_in g fs)) (taken_at f) ≡ tally f (part_in g fs)
   masked f here =
       let place : 16 * g + f % 16 ≡ f = omega (arith, here) in
       let bit : bit_at (mask_of (part_in g fs)) (taken_at f) ≡ tally f fs
-      = subst (λ x. bit_at (mask_of (part_in g fs)) (taken_at f) ≡ tally x fs) place (mask_bit g (f % 16) fs (omega arith) (subst (λ x. tally x fs ≤ 1) (sym place) (once f))) in
-      bit ∙ sym (part_in-here g f fs here)
+      = subst (λ x. bit_at (mask_of (part_in g fs)) (taken_at f) ≡ tally x fs) place (mask_bit_is_tally g (f % 16) fs (omega arith) (subst (λ x. tally x fs ≤ 1) (sym place) (once f))) in
+      bit ∙ sym (part_in_has_own_group g f fs here)
 
   returned_taken : (f : ℕ) → f / 16 ≡ g → bit_at (word_without_taken (mask_of (part_in g fs)) word_found) (taken_at f) ≡ taken_bit (owner_after Free owner (part_in g fs) f)
   returned_taken f here = less_set (bit_at (word_without_taken (mask_of (part_in g fs)) word_found) (taken_at f)) (bit_at word_found (taken_at f)) (bit_at (mask_of (part_in g fs)) (taken_at f))
       (taken_bit (owner f)) (taken_bit (owner_after Free owner (part_in g fs) f)) (tally f (part_in g fs))
-      (untaken_taken word_found (f % 16) (omega arith) (mask_of (part_in g fs)) (mask-lt (part_in g fs)))
+      (giving_clears_taken_bits word_found (f % 16) (omega arith) (mask_of (part_in g fs)) (mask_is_small (part_in g fs)))
       (masked f here)
-      (found_taken heap words owner g whole below bits f here)
-      (loses taken_bit Free owner (part_in g fs) once_in refl (λ x there. ap taken_bit (held_in x there)) f)
+      (word_has_taken_bit heap words owner g whole below bits f here)
+      (handed_loses_bit taken_bit Free owner (part_in g fs) once_in refl (λ x there. ap taken_bit (held_in x there)) f)
 
   returned_born : (f : ℕ) → f / 16 ≡ g → bit_at (word_without_taken (mask_of (part_in g fs)) word_found) (born_at f) ≡ born_bit (owner_after Free owner (part_in g fs) f)
-  returned_born f here = untaken_born word_found (f % 16) (omega arith) (mask_of (part_in g fs)) (mask-lt (part_in g fs)) ∙ found_born heap words owner g whole below bits f here
-      ∙ sym (stays born_bit Free owner (part_in g fs) (λ x there. ap born_bit (held_in x there)) f)
+  returned_born f here = giving_keeps_born_bits word_found (f % 16) (omega arith) (mask_of (part_in g fs)) (mask_is_small (part_in g fs)) ∙ word_has_born_bit heap words owner g whole below bits f here
+      ∙ sym (handed_bit_stays born_bit Free owner (part_in g fs) (λ x there. ap born_bit (held_in x there)) f)
 
   returned_away : (f : ℕ) → f / 16 ≢ g → owner_after Free owner (part_in g fs) f ≡ owner f
-  returned_away f apart = handed_out Free owner (part_in g fs) f (part_in-away g f fs apart)
+  returned_away f apart = unhanded_keeps_owner Free owner (part_in g fs) f (part_in_has_no_other g f fs apart)
 
   -- those of the list that are of the group are taken no longer
-  pub give_back_bits : Bits heap (put heap words (Control g) (word_without_taken (mask_of (part_in g fs)) word_found)) (owner_after Free owner (part_in g fs))
-  give_back_bits = bits_after heap words owner (owner_after Free owner (part_in g fs)) g (word_without_taken (mask_of (part_in g fs)) word_found) whole below bits returned_taken returned_born
+  pub bits_after_giving : Bits heap (put heap words (Control g) (word_without_taken (mask_of (part_in g fs)) word_found)) (owner_after Free owner (part_in g fs))
+  bits_after_giving = bits_after_control_word heap words owner (owner_after Free owner (part_in g fs)) g (word_without_taken (mask_of (part_in g fs)) word_found) whole below bits returned_taken returned_born
       (λ f apart. ap taken_bit (returned_away f apart))
       (λ f apart. ap born_bit (returned_away f apart))
       (λ f above. returned_away f (λ here. omega (arith, here, below, above)) ∙ bits.outside f above)
 
   -- they are born, whoever has them then
-  pub birth_word_bits : (black : Bool) (now : ℕ → Owner) → ((f : ℕ) → taken_bit (now f) ≡ taken_bit (owner f)) → ((f : ℕ) → born_bit (now f) ≡ born_bit (owner f) + tally f (part_in g fs))
+  pub bits_after_born_word : (black : Bool) (now : ℕ → Owner) → ((f : ℕ) → taken_bit (now f) ≡ taken_bit (owner f)) → ((f : ℕ) → born_bit (now f) ≡ born_bit (owner f) + tally f (part_in g fs))
       → ((f : ℕ) → 16 * heap.groups ≤ f → now f ≡ Free) → Bits heap (put heap words (Control g) (bit_or word_found (birth_bits_of black (mask_of (part_in g fs))))) now
-  birth_word_bits black now taken born outside =
-      bits_after heap words owner now g (bit_or word_found (birth_bits_of black (mask_of (part_in g fs)))) whole below bits
-      (λ f here. birth_taken word_found (f % 16) (omega arith) (mask_of (part_in g fs)) black ∙ found_taken heap words owner g whole below bits f here ∙ sym (taken f))
+  bits_after_born_word black now taken born outside =
+      bits_after_control_word heap words owner now g (bit_or word_found (birth_bits_of black (mask_of (part_in g fs)))) whole below bits
+      (λ f here. birth_keeps_taken_bits word_found (f % 16) (omega arith) (mask_of (part_in g fs)) black ∙ word_has_taken_bit heap words owner g whole below bits f here ∙ sym (taken f))
       (λ f here. more_set (bit_at (bit_or word_found (birth_bits_of black (mask_of (part_in g fs)))) (born_at f)) (bit_at word_found (born_at f)) (bit_at (mask_of (part_in g fs)) (taken_at f))
       (born_bit (owner f)) (born_bit (now f)) (tally f (part_in g fs))
-      (birth_born word_found (f % 16) (omega arith) (mask_of (part_in g fs)) black) (masked f here) (found_born heap words owner g whole below bits f here) (born f) (born_once (now f)))
+      (birth_sets_born_bits word_found (f % 16) (omega arith) (mask_of (part_in g fs)) black) (masked f here) (word_has_born_bit heap words owner g whole below bits f here) (born f) (born_bit_within_one (now f)))
       (λ f apart. taken f)
-      (λ f apart. omega (arith, born f, part_in-away g f fs apart))
+      (λ f apart. omega (arith, born f, part_in_has_no_other g f fs apart))
       outside
 
   -- so are those that the seat bears then
-  pub birth_bits_after : (black : Bool) → Bits heap (put heap words (Control g) (bit_or word_found (birth_bits_of black (mask_of (part_in g fs))))) (owner_after (Borne number) owner (part_in g fs))
-  birth_bits_after black = birth_word_bits black (owner_after (Borne number) owner (part_in g fs))
-      (stays taken_bit (Borne number) owner (part_in g fs) (λ x there. ap taken_bit (held_in x there)))
-      (gains born_bit (Borne number) owner (part_in g fs) once_in refl (λ x there. ap born_bit (held_in x there)))
-      (λ f above. handed_out (Borne number) owner (part_in g fs) f (not_there (tally f (part_in g fs)) (λ there. one_owner number (owner f) (bits.outside f above) (held_in f there))) ∙ bits.outside f above)
+  pub bits_after_birth : (black : Bool) → Bits heap (put heap words (Control g) (bit_or word_found (birth_bits_of black (mask_of (part_in g fs))))) (owner_after (Borne number) owner (part_in g fs))
+  bits_after_birth black = bits_after_born_word black (owner_after (Borne number) owner (part_in g fs))
+      (handed_bit_stays taken_bit (Borne number) owner (part_in g fs) (λ x there. ap taken_bit (held_in x there)))
+      (handed_gains_bit born_bit (Borne number) owner (part_in g fs) once_in refl (λ x there. ap born_bit (held_in x there)))
+      (λ f above. unhanded_keeps_owner (Borne number) owner (part_in g fs) f (zero_where_not_positive (tally f (part_in g fs)) (λ there. free_is_no_seats number (owner f) (bits.outside f above) (held_in f there))) ∙ bits.outside f above)

@@ -6,13 +6,13 @@ use Rattle.core_rule.proofs.Terms.{all_taken, word_without_taken, birth_bits_of}
 
 module _ (word : ℕ) where
   -- a claim changes no bit past the taken ones
-  pub claim_past : (j : ℕ) → 16 ≤ j → bit_at (bit_or word all_taken) j ≡ bit_at word j
-  claim_past j past = rw (bit_at_or word all_taken j, bit_at_ones_above 16 j past) (omega arith)
+  pub claim_keeps_higher_bits : (j : ℕ) → 16 ≤ j → bit_at (bit_or word all_taken) j ≡ bit_at word j
+  claim_keeps_higher_bits j past = rw (bit_at_or word all_taken j, bit_at_ones_above 16 j past) (omega arith)
 
   module _ (bits : ℕ) (small : bits < 2 ^ 16) where
     -- nor does a give back
-    pub untaken_past : (j : ℕ) → 16 ≤ j → j < 64 → bit_at (word_without_taken bits word) j ≡ bit_at word j
-    untaken_past j past within =
+    pub giving_keeps_higher_bits : (j : ℕ) → 16 ≤ j → j < 64 → bit_at (word_without_taken bits word) j ≡ bit_at word j
+    giving_keeps_higher_bits j past within =
         let wide : bits < 2 ^ 64 = omega (arith, small) in
         rw (bit_at_and word (2 ^ 64 - 1 - bits) j, bit_at_not w64 bits j wide within, bit_at_above bits 16 j small past) (omega (arith, bit_at-lt word j))
 
@@ -52,8 +52,8 @@ module _ (word : ℕ) where
           rw (at_place, e, shifted ((bits * 2 ^ 16 + bits) * 2 ^ 16 + bits) (16 + (16 + j)), high (bits * 2 ^ 16 + bits) (16 + j), high bits j) refl
 
       -- a black birth sets the marked and the scanned bits of the mask, a white one none
-      pub birth_marked : (black : Bool) → bit_at (bit_or word (birth_bits_of black bits)) (32 + j) ≡ max (bit_at word (32 + j)) (cond {A = ℕ} black (bit_at bits j) 0)
-      birth_marked black = rw (bit_at_or word (birth_bits_of black bits) (32 + j), third black) refl
+      pub birth_sets_marked_bits : (black : Bool) → bit_at (bit_or word (birth_bits_of black bits)) (32 + j) ≡ max (bit_at word (32 + j)) (cond {A = ℕ} black (bit_at bits j) 0)
+      birth_sets_marked_bits black = rw (bit_at_or word (birth_bits_of black bits) (32 + j), third black) refl
 
-      pub birth_scanned : (black : Bool) → bit_at (bit_or word (birth_bits_of black bits)) (48 + j) ≡ max (bit_at word (48 + j)) (cond {A = ℕ} black (bit_at bits j) 0)
-      birth_scanned black = rw (bit_at_or word (birth_bits_of black bits) (48 + j), fourth black) refl
+      pub birth_sets_scanned_bits : (black : Bool) → bit_at (bit_or word (birth_bits_of black bits)) (48 + j) ≡ max (bit_at word (48 + j)) (cond {A = ℕ} black (bit_at bits j) 0)
+      birth_sets_scanned_bits black = rw (bit_at_or word (birth_bits_of black bits) (48 + j), fourth black) refl

@@ -6,20 +6,20 @@ use Rattle.std.proofs.lemmas.Bool.{eqb-false}
 use Rattle.std.proofs.lemmas.Bool.Decides.{eqb_tells, leb_tells}
 use Rattle.std.proofs.lemmas.Nat.Bits.{bit_at-lt, bit_at_above}
 use Rattle.heap_words.specs.Control.{marked_bits_of, next_place_of}
-use Rattle.heap_words.proofs.Grey.{part_bit}
-use Rattle.core_machine.proofs.table_lemmas.Bits.{bool_tells}
+use Rattle.heap_words.proofs.Grey.{bit_of_part_is_words}
+use Rattle.core_machine.proofs.table_lemmas.Bits.{true_or_false}
 
 -- they are among sixteen
 pub marked_few : (word : ℕ) → marked_bits_of word < 2 ^ 16
 marked_few word = omega arith
 
 -- each has its bit
-pub marked_tells : (word place : ℕ) → place < 16 → bit_at (marked_bits_of word) place ≡ bit_at word (32 + place)
-marked_tells word place within = part_bit word 32 place within
+pub marked_bit_is_words_bit : (word place : ℕ) → place < 16 → bit_at (marked_bits_of word) place ≡ bit_at word (32 + place)
+marked_bit_is_words_bit word place within = bit_of_part_is_words word 32 place within
 
 -- a place whose bit is set is one of the sixteen
-pub marked_within : (word place : ℕ) → bit_at (marked_bits_of word) place ≡ 1 → place < 16
-marked_within word place one = elim (leb_tells (suc place) 16) as (λ _. place < 16) [
+pub marked_place_within_group : (word place : ℕ) → bit_at (marked_bits_of word) place ≡ 1 → place < 16
+marked_place_within_group word place one = elim (leb_tells (suc place) 16) as (λ _. place < 16) [
   | inl below ↦ omega (arith, below.1)
   | inr past ↦ absurd (omega (arith, one, bit_at_above (marked_bits_of word) 16 place (marked_few word) (omega (arith, past.1))))
 ]
@@ -27,7 +27,7 @@ marked_within word place one = elim (leb_tells (suc place) 16) as (λ _. place <
 -- none of the numbers before the one that is found passes
 found_first : (p : ℕ → Bool) (a n x i : ℕ) → find p (range_with_len a n) ≡ Some x → a ≤ i → i < x → p i ≡ false
 found_first p a zero x i is from before = absurd (cc is)
-found_first p a (suc n) x i is from before = elim (bool_tells (p a)) as (λ _. p i ≡ false) [
+found_first p a (suc n) x i is from before = elim (true_or_false (p a)) as (λ _. p i ≡ false) [
   | inl yes_ ↦ absurd (let e : ◌≡◌ {A = Option ℕ} (Some a) (Some x) = rw yes_ at is in let same : a ≡ x = cc in omega (arith, same, from, before))
   | inr no_ ↦ elim (eqb_tells a i) as (λ _. p i ≡ false) [
     | inl here ↦ subst (λ k. p k ≡ false) here.1 no_
@@ -36,7 +36,7 @@ found_first p a (suc n) x i is from before = elim (bool_tells (p a)) as (λ _. p
 ]
 
 -- no bit before the place that is found is set
-pub next_first : (bits from place i : ℕ) → next_place_of bits from ≡ Some place → from ≤ i → i < place → bit_at bits i ≡ 0
-next_first bits from place i is after before =
+pub none_marked_before_next : (bits from place i : ℕ) → next_place_of bits from ≡ Some place → from ≤ i → i < place → bit_at bits i ≡ 0
+none_marked_before_next bits from place i is after before =
     let unset = eqb-false (bit_at bits i) 1 (found_first (λ j. eqb (bit_at bits j) 1) from (16 - from) place i is after before) in
     omega (arith, unset, bit_at-lt bits i)

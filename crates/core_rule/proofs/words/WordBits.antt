@@ -6,21 +6,21 @@ use Rattle.core_rule.proofs.Terms.{all_taken, word_without_taken, birth_bits_of}
 
 module _ (word j : ℕ) (below : j < 16) where
   -- a claim sets each taken bit, and no born one
-  pub claim_taken : bit_at (bit_or word all_taken) j ≡ 1
-  claim_taken = rw (bit_at_or word all_taken j, bit_at_ones 16 j below) (omega (arith, bit_at-lt word j))
+  pub claim_sets_taken_bits : bit_at (bit_or word all_taken) j ≡ 1
+  claim_sets_taken_bits = rw (bit_at_or word all_taken j, bit_at_ones 16 j below) (omega (arith, bit_at-lt word j))
 
-  pub claim_born : bit_at (bit_or word all_taken) (16 + j) ≡ bit_at word (16 + j)
-  claim_born = rw (bit_at_or word all_taken (16 + j), bit_at_ones_above 16 (16 + j) (omega arith)) (omega arith)
+  pub claim_keeps_born_bits : bit_at (bit_or word all_taken) (16 + j) ≡ bit_at word (16 + j)
+  claim_keeps_born_bits = rw (bit_at_or word all_taken (16 + j), bit_at_ones_above 16 (16 + j) (omega arith)) (omega arith)
 
   module _ (bits : ℕ) where
     -- a give back clears the taken bits of the mask alone
-    pub untaken_taken : bits < 2 ^ 16 → bit_at (word_without_taken bits word) j ≡ bit_at word j - bit_at bits j
-    untaken_taken small =
+    pub giving_clears_taken_bits : bits < 2 ^ 16 → bit_at (word_without_taken bits word) j ≡ bit_at word j - bit_at bits j
+    giving_clears_taken_bits small =
         let wide : bits < 2 ^ 64 = omega (arith, small) in
         rw (bit_at_and word (2 ^ 64 - 1 - bits) j, bit_at_not w64 bits j wide (omega arith)) (omega (arith, bit_at-lt word j, bit_at-lt bits j))
 
-    pub untaken_born : bits < 2 ^ 16 → bit_at (word_without_taken bits word) (16 + j) ≡ bit_at word (16 + j)
-    untaken_born small =
+    pub giving_keeps_born_bits : bits < 2 ^ 16 → bit_at (word_without_taken bits word) (16 + j) ≡ bit_at word (16 + j)
+    giving_keeps_born_bits small =
         let wide : bits < 2 ^ 64 = omega (arith, small) in
         rw (bit_at_and word (2 ^ 64 - 1 - bits) (16 + j), bit_at_not w64 bits (16 + j) wide (omega arith), bit_at_above bits 16 (16 + j) small (omega arith)) (omega (arith, bit_at-lt word (16 + j)))
 
@@ -49,8 +49,8 @@ module _ (word j : ℕ) (below : j < 16) where
         rw (e, shifted_high (bits + bits * 2 ^ 16 + bits * 2 ^ 32), cat, bit_at_cat_low (bits + bits * 2 ^ 16) 16 bits j below) refl
 
     -- a birth sets the born bits of the mask, and no taken one
-    pub birth_taken : (black : Bool) → bit_at (bit_or word (birth_bits_of black bits)) j ≡ bit_at word j
-    birth_taken black = rw (bit_at_or word (birth_bits_of black bits) j, birth_low black) (omega arith)
+    pub birth_keeps_taken_bits : (black : Bool) → bit_at (bit_or word (birth_bits_of black bits)) j ≡ bit_at word j
+    birth_keeps_taken_bits black = rw (bit_at_or word (birth_bits_of black bits) j, birth_low black) (omega arith)
 
-    pub birth_born : (black : Bool) → bit_at (bit_or word (birth_bits_of black bits)) (16 + j) ≡ max (bit_at word (16 + j)) (bit_at bits j)
-    birth_born black = rw (bit_at_or word (birth_bits_of black bits) (16 + j), birth_high black) refl
+    pub birth_sets_born_bits : (black : Bool) → bit_at (bit_or word (birth_bits_of black bits)) (16 + j) ≡ max (bit_at word (16 + j)) (bit_at bits j)
+    birth_sets_born_bits black = rw (bit_at_or word (birth_bits_of black bits) (16 + j), birth_high black) refl

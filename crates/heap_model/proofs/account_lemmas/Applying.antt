@@ -29,9 +29,9 @@ use Rattle.heap_model.specs.account.Noting.{IsCounted, IsNoted}
 use Rattle.heap_model.specs.account.Preparing.{IsPrepared, IsBegun, brought_by}
 use Rattle.heap_model.proofs.Histories.{graph_after-more, total-more}
 use Rattle.heap_model.proofs.graph_lemmas.MadeLemmas.{made_counts-after}
-use Rattle.heap_model.proofs.account_lemmas.Windows.{up_to_last-yes, up_to_last-no, after_last-yes, after_last-no, sum-parts}
-use Rattle.heap_model.proofs.account_lemmas.Turns.{turn}
-use Rattle.heap_model.proofs.account_lemmas.Counting.{Counts, tells_seat, tells_more}
+use Rattle.heap_model.proofs.account_lemmas.Windows.{up_to_last-yes, up_to_last-no, after_last-yes, after_last-no, sum_of_window_parts}
+use Rattle.heap_model.proofs.account_lemmas.Turns.{entry_turn_cases}
+use Rattle.heap_model.proofs.account_lemmas.Counting.{Counts, tells_seat_with_entry, tells_all_with_entry}
 
 -- what was prepared and noted was counted
 counted : (old mid new : Books) (entry : Entry) → mid ≡ record old { cycle = mid.cycle; swung = mid.swung; made = mid.made } → IsCounted mid entry new → IsCounted old entry new
@@ -89,7 +89,7 @@ brings_is heap all seats number history told =
       told.own_then.born,
       told.solvent,
       told.richer,
-      sum-parts (is_reply_to number) (λ e. cond (is_of number e) (effect_of e).taken 0) history,
+      sum_of_window_parts (is_reply_to number) (λ e. cond (is_of number e) (effect_of e).taken 0) history,
     )
 
 -- a cycle that begins is told
@@ -112,7 +112,7 @@ begun-tells play old new history p c one cycle begun =
         let noted = c.counted.seats number lt in
         ap (λ (x : Effect). x.taken - ((account_at old.seats number).own_then.given + (account_at old.seats number).own_then.born)) (sym noted.own)
         ∙ ap (λ (x : Effect). (account_at new.seats number).own.taken - (x.given + x.born)) (sym noted.own_then)
-        ∙ sym (brings_is old.heap new.all new.seats number (history ++ entries.Advance p ∷ []) (tells_seat play old new history (entries.Advance p) c number lt))
+        ∙ sym (brings_is old.heap new.all new.seats number (history ++ entries.Advance p ∷ []) (tells_seat_with_entry play old new history (entries.Advance p) c number lt))
 
 -- what is told of a cycle stays so until the next begins
 cycle-stays : (heap : Heap) (cycle : Cycle) (history later : List Entry) → up_to_cycle later ≡ up_to_cycle history → TellsCycle heap cycle history → TellsCycle heap cycle later
@@ -131,10 +131,10 @@ advance_of (entries.Advance p) begins = (p, refl, eqb-true (p % cycle_phases) ba
 advance_of entry begins = cc begins
 
 -- the account tells the history with the entry
-pub applied : (play : Bool) (old mid new : Books) (history : List Entry) (entry : Entry) → Tells old history → KeepsSpace old.heap play history entry
+pub account_tells_entry : (play : Bool) (old mid new : Books) (history : List Entry) (entry : Entry) → Tells old history → KeepsSpace old.heap play history entry
     → IsPrepared old (graph_of old.heap history) entry mid → IsNoted mid entry new → Tells new (history ++ entry ∷ [])
-applied play old mid new history entry t keeps prepared noted =
-    tells_more play old new history entry c (swung-more history entry old.swung mid.swung new.swung noted.swung prepared.swung t.swung) (λ some. cycle some (cases_Bool (begins_cycle entry))) made
+account_tells_entry play old mid new history entry t keeps prepared noted =
+    tells_all_with_entry play old new history entry c (swung-more history entry old.swung mid.swung new.swung noted.swung prepared.swung t.swung) (λ some. cycle some (cases_Bool (begins_cycle entry))) made
   where
     c : Counts play old new history entry
     c = record { tells = t; keeps = keeps; counted = counted old mid new entry prepared.rest noted.counted }
@@ -146,7 +146,7 @@ applied play old mid new history entry t keeps prepared noted =
     begun entry c p is one b = subst (λ e. TellsCycle old.heap mid.cycle (history ++ e ∷ [])) (sym is) (begun-tells play old new history p (subst (λ e. Counts play old new history e) is c) one mid.cycle b)
 
     earlier : begins_cycle entry ≡ false → 1 ≤ new.all.phases → 1 ≤ old.all.phases
-    earlier fails some = elim (turn old.heap play history entry keeps) [
+    earlier fails some = elim (entry_turn_cases old.heap play history entry keeps) [
       | inl a ↦ (elim (cases_lt 0 old.all.phases) [
         | inl above ↦ above
         | inr none ↦ absurd (first a.to (omega (arith, a.next, t.all.phases, none)) (ap begins_cycle (sym a.is) ∙ fails))

@@ -23,44 +23,44 @@ cond_none true = refl
 cond_none false = refl
 
 -- each entry does one of these
-pub seat_step : (heap : Heap) (play : Bool) (history : List Entry) (entry : Entry) (number : ℕ) → KeepsSpace heap play history entry → number < heap.seats
+pub entry_is_seat_step : (heap : Heap) (play : Bool) (history : List Entry) (entry : Entry) (number : ℕ) → KeepsSpace heap play history entry → number < heap.seats
     → (left left_then : Option ℕ) (answers answers_then now then : ℕ) → is_some left ≡ has_left number history → answers ≡ last_answer number history → now ≡ phase history
     → left_then ≡ cond (is_leave_of number entry) (Some (unwrap_or left now)) left → answers_then ≡ answers + cond (is_of number entry) (effect_of entry).answers 0 → then ≡ now + (effect_of entry).phases
     → SeatStep left answers now left_then answers_then then
-seat_step heap play history (entries.Said q commands.Leave reply) number keeps lt left left_then answers answers_then now then has gave here l a p =
+entry_is_seat_step heap play history (entries.Said q commands.Leave reply) number keeps lt left left_then answers answers_then now then has gave here l a p =
     elim (cases_Bool (is_of number (entries.Said q commands.Leave reply))) [
       | inl own ↦ leaves (l ∙ cond-true _ _ _ own) (omega (arith, p))
       | inr other ↦ rests (l ∙ cond-false _ _ _ other) (omega (arith, a ∙ ap (λ n. answers + n) (cond-false {A = ℕ} _ 0 0 other))) (omega (arith, p))
     ]
-seat_step heap play history (entries.Answers q given) number keeps lt left left_then answers answers_then now then has gave here l a p =
+entry_is_seat_step heap play history (entries.Answers q given) number keeps lt left left_then answers answers_then now then has gave here l a p =
     elim (cases_Bool (is_of number (entries.Answers q given))) [
       | inl own ↦ (let same : q ≡ number = eqb-true q number own in
           let next : last_answer q history ≡ answers = ap (λ x. last_answer x history) same ∙ sym gave in
           answers_now l (a ∙ ap (λ n. answers + n) (cond-true {A = ℕ} _ 1 0 own)) (omega (arith, keeps.answers.0, keeps.answers.1, next, here)) (omega (arith, p)))
       | inr other ↦ rests l (omega (arith, a ∙ ap (λ n. answers + n) (cond-false {A = ℕ} _ 1 0 other))) (omega (arith, p))
     ]
-seat_step heap play history (entries.Advance q) number keeps lt left left_then answers answers_then now then has gave here l a p =
+entry_is_seat_step heap play history (entries.Advance q) number keeps lt left left_then answers answers_then now then has gave here l a p =
     begins l (omega (arith, a)) p (λ there. gave ∙ keeps.begins.2 number lt (sym has ∙ there) ∙ sym here)
-seat_step heap play history (entries.Ends cycle kept) number keeps lt left left_then answers answers_then now then has gave here l a p =
+entry_is_seat_step heap play history (entries.Ends cycle kept) number keeps lt left left_then answers answers_then now then has gave here l a p =
     begins l (omega (arith, a)) p (λ there. gave ∙ keeps.ends.0.1 number lt (sym has ∙ there) ∙ sym here)
-seat_step heap play history (entries.Said q command reply) number keeps lt left left_then answers answers_then now then has gave here l a p =
+entry_is_seat_step heap play history (entries.Said q command reply) number keeps lt left left_then answers answers_then now then has gave here l a p =
     rests l (omega (arith, a, cond_none (is_of number (entries.Said q command reply)))) (omega (arith, p))
-seat_step heap play history (entries.Takes q count) number keeps lt left left_then answers answers_then now then has gave here l a p =
+entry_is_seat_step heap play history (entries.Takes q count) number keeps lt left left_then answers answers_then now then has gave here l a p =
     rests l (omega (arith, a, cond_none (is_of number (entries.Takes q count)))) (omega (arith, p))
-seat_step heap play history (entries.GivesBack q count) number keeps lt left left_then answers answers_then now then has gave here l a p =
+entry_is_seat_step heap play history (entries.GivesBack q count) number keeps lt left left_then answers answers_then now then has gave here l a p =
     rests l (omega (arith, a, cond_none (is_of number (entries.GivesBack q count)))) (omega (arith, p))
-seat_step heap play history entry number keeps lt left left_then answers answers_then now then has gave here l a p = rests l (omega (arith, a)) (omega (arith, p))
+entry_is_seat_step heap play history entry number keeps lt left left_then answers answers_then now then has gave here l a p = rests l (omega (arith, a)) (omega (arith, p))
 
 -- behind by one, in numbers
 abbrev pub IsOneBehind : Option ℕ → ℕ → ℕ → ℕ → Type 0
 IsOneBehind left answers now answer = (is_some left ≡ false) × (answers ≡ answer) × (now ≡ answer + 1)
 
 -- since an earlier reply of the one who looks
-pub behind_by : {Was : Type 0} (left left_then : Option ℕ) (answers answers_then now then first answer : ℕ) → SeatStep left answers now left_then answers_then then → first ≤ now + 1
+pub behind_since_earlier_reply : {Was : Type 0} (left left_then : Option ℕ) (answers answers_then now then first answer : ℕ) → SeatStep left answers now left_then answers_then then → first ≤ now + 1
     → (Was → IsFrom first (unwrap_or left now) (answer + 1)) × (IsFrom first (unwrap_or left now) (answer + 1) → Was) → (IsOneBehind left answers now answer → Was)
     → (Was ⊎ IsOneBehind left_then answers_then then answer → IsFrom first (unwrap_or left_then then) (answer + 1))
     × (IsFrom first (unwrap_or left_then then) (answer + 1) → Was ⊎ IsOneBehind left_then answers_then then answer)
-behind_by None left_then answers answers_then now then first answer (begins l a p all) early told here = (
+behind_since_earlier_reply None left_then answers answers_then now then first answer (begins l a p all) early told here = (
   λ w. elim w [
     | inl was ↦ subst (λ o. IsFrom first (unwrap_or o then) (answer + 1)) (sym l) (let f = told.0 was in (f.0, omega (arith, f.1, p)))
     | inr is ↦ subst (λ o. IsFrom first (unwrap_or o then) (answer + 1)) (sym l) (omega (arith, is.2, p, early), omega (arith, is.2))
@@ -71,28 +71,28 @@ behind_by None left_then answers answers_then now then first answer (begins l a 
         | inr within ↦ inl (told.1 (g.0, within))
       ],
 )
-behind_by (Some x) left_then answers answers_then now then first answer (begins l a p all) early told here = (
+behind_since_earlier_reply (Some x) left_then answers answers_then now then first answer (begins l a p all) early told here = (
   λ w. elim w [
     | inl was ↦ subst (λ o. IsFrom first (unwrap_or o then) (answer + 1)) (sym l) (told.0 was)
     | inr is ↦ absurd (cc (ap is_some l, is.0))
   ],
   λ f. inl (told.1 (subst (λ o. IsFrom first (unwrap_or o then) (answer + 1)) l f)),
 )
-behind_by left left_then answers answers_then now then first answer (answers_now l a last p) early told here = (
+behind_since_earlier_reply left left_then answers answers_then now then first answer (answers_now l a last p) early told here = (
   λ w. elim w [
     | inl was ↦ subst (λ o. IsFrom first o (answer + 1)) (sym (ap (λ o. unwrap_or o then) l ∙ ap (unwrap_or left) p)) (told.0 was)
     | inr is ↦ absurd (omega (arith, is.1, is.2, a, last, p))
   ],
   λ f. inl (told.1 (subst (λ o. IsFrom first o (answer + 1)) (ap (λ o. unwrap_or o then) l ∙ ap (unwrap_or left) p) f)),
 )
-behind_by left left_then answers answers_then now then first answer (leaves l p) early told here = (
+behind_since_earlier_reply left left_then answers answers_then now then first answer (leaves l p) early told here = (
   λ w. elim w [
     | inl was ↦ subst (λ o. IsFrom first o (answer + 1)) (sym (ap (λ o. unwrap_or o then) l)) (told.0 was)
     | inr is ↦ absurd (cc (ap is_some l, is.0))
   ],
   λ f. inl (told.1 (subst (λ o. IsFrom first o (answer + 1)) (ap (λ o. unwrap_or o then) l) f)),
 )
-behind_by left left_then answers answers_then now then first answer (rests l a p) early told here = (
+behind_since_earlier_reply left left_then answers answers_then now then first answer (rests l a p) early told here = (
   λ w. elim w [
     | inl was ↦ subst (λ o. IsFrom first o (answer + 1)) (sym (ap (λ o. unwrap_or o then) l ∙ ap (unwrap_or left) p)) (told.0 was)
     | inr is ↦ subst (λ o. IsFrom first o (answer + 1)) (sym (ap (λ o. unwrap_or o then) l ∙ ap (unwrap_or left) p))
@@ -102,11 +102,11 @@ behind_by left left_then answers answers_then now then first answer (rests l a p
 )
 
 -- right after a reply of the one who looks
-pub behind_at : (left : Option ℕ) (answers now answer : ℕ) → (is_some left ≡ false → now ≤ answers + 1) → unwrap_or left now ≤ now
+pub behind_right_after_reply : (left : Option ℕ) (answers now answer : ℕ) → (is_some left ≡ false → now ≤ answers + 1) → unwrap_or left now ≤ now
     → (IsOneBehind left answers now answer → IsFrom (now + cond (cond (is_some left) false (nat_lt answers now)) 0 1) (unwrap_or left now) (answer + 1))
     × (IsFrom (now + cond (cond (is_some left) false (nat_lt answers now)) 0 1) (unwrap_or left now) (answer + 1) → IsOneBehind left answers now answer)
-behind_at (Some x) answers now answer up gone = (λ is. absurd (cc is.0), λ f. absurd (omega (arith, f.0, f.1, gone)))
-behind_at None answers now answer up gone =
+behind_right_after_reply (Some x) answers now answer up gone = (λ is. absurd (cc is.0), λ f. absurd (omega (arith, f.0, f.1, gone)))
+behind_right_after_reply None answers now answer up gone =
     elim (cases_Bool (nat_lt answers now)) [
       | inl behind ↦ (let less : answers < now = ltb-true answers now behind in
           let first : now + cond (nat_lt answers now) 0 1 ≡ now = omega (arith, cond-true {A = ℕ} (nat_lt answers now) 0 1 behind) in

@@ -15,9 +15,9 @@ use Rattle.heap_model.specs.account.Windows.{begins_cycle, up_to_cycle, since_cy
 use Rattle.heap_model.specs.account.Cycles.{graph_of, IsReachOfBoth, LeavesWithinBounds, KeepsReached}
 use Rattle.heap_model.specs.account.Books.{Books, Tells, TellsCycle}
 use Rattle.heap_model.specs.account.Preparing.{IsWithinBy}
-use Rattle.heap_model.proofs.account_lemmas.Windows.{sum-parts}
-use Rattle.heap_model.proofs.graph_lemmas.Among.{same_ids}
-use Rattle.heap_model.proofs.graph_lemmas.InOrder.{in_order}
+use Rattle.heap_model.proofs.account_lemmas.Windows.{sum_of_window_parts}
+use Rattle.heap_model.proofs.graph_lemmas.Among.{ordered_same_ids_equal}
+use Rattle.heap_model.proofs.graph_lemmas.InOrder.{ids_can_be_ordered}
 
 -- a sum over one more number
 sum-range-suc : (f : ℕ → ℕ) (a n : ℕ) → sum_by f (range_with_len a (suc n)) ≡ sum_by f (range_with_len a n) + f (a + n)
@@ -33,16 +33,16 @@ sum-range-more f n = ap (λ k. sum_by f (range_with_len 0 k)) (add-one n) ∙ su
 
 -- there is one list of the reached ids in their order
 same_reach : (g : Graph) (xs ys : List Id) → IsReach g xs → IsReach g ys → xs ≡ ys
-same_reach g xs ys x y = same_ids xs ys x.ordered y.ordered (λ id h. (y.reached id).1 ((x.reached id).0 h)) (λ id h. (x.reached id).1 ((y.reached id).0 h))
+same_reach g xs ys x y = ordered_same_ids_equal xs ys x.ordered y.ordered (λ id h. (y.reached id).1 ((x.reached id).0 h)) (λ id h. (x.reached id).1 ((y.reached id).0 h))
 
 same_both : (g h : Graph) (xs ys : List Id) → IsReachOfBoth g h xs → IsReachOfBoth g h ys → xs ≡ ys
-same_both g h xs ys x y = same_ids xs ys x.ordered y.ordered (λ id c. (y.reached id).1 ((x.reached id).0 c)) (λ id c. (x.reached id).1 ((y.reached id).0 c))
+same_both g h xs ys x y = ordered_same_ids_equal xs ys x.ordered y.ordered (λ id c. (y.reached id).1 ((x.reached id).0 c)) (λ id c. (x.reached id).1 ((y.reached id).0 c))
 
 -- ids that are each there once can be put in their order
 put_in_order : (ids : List Id) → AllPairs (λ id later. id ≢ later) ids
     → (ordered : List Id) × IsPermutation ids ordered × AllPairs IsBefore ordered × ((id : Id) → Contains ordered id ↔ Contains ids id)
 put_in_order ids once =
-    let put = in_order ids once in
+    let put = ids_can_be_ordered ids once in
     (put.0, put.1, put.2, λ id. (Contains-permutation put.0 ids id (IsPermutation-sym ids put.0 put.1), Contains-permutation ids put.0 id put.1))
 
 -- so can the reached ids
@@ -73,9 +73,9 @@ sum_of_both f g h reached both ordered are among reach =
     ap (sum_by f) (same_both g h ordered put.0 reach put.2) ∙ sum_by-IsPermutation f both put.0 put.1
 
 -- so little is in use and kept as by what the account keeps
-pub within_by : (books : Books) (history : List Entry) (kept : ℕ) → Tells books history → 1 ≤ books.all.phases
+pub within_bounds_by_books : (books : Books) (history : List Entry) (kept : ℕ) → Tells books history → 1 ≤ books.all.phases
     → (IsWithinBy books kept → LeavesWithinBounds books.heap history kept) × (LeavesWithinBounds books.heap history kept → IsWithinBy books kept)
-within_by books history kept t some = (to, from)
+within_bounds_by_books books history kept t some = (to, from)
   where
     told : TellsCycle books.heap books.cycle history
     told = t.cycle some
@@ -90,10 +90,10 @@ within_by books history kept t some = (to, from)
     spines begun reach = sum_of_reach (spine_words_at g) g books.cycle.reached.items begun told.reached reach ∙ sym told.words
 
     taken : total (λ e. e.taken) (since_cycle history) ≡ books.all.taken - books.cycle.taken_then
-    taken = omega (arith, sum-parts begins_cycle (λ e. (effect_of e).taken) history, told.taken, t.all.taken)
+    taken = omega (arith, sum_of_window_parts begins_cycle (λ e. (effect_of e).taken) history, told.taken, t.all.taken)
 
     words : words_granted (since_cycle history) ≡ books.all.words - books.cycle.words_then
-    words = omega (arith, sum-parts begins_cycle (λ e. (effect_of e).words) history, told.granted, t.all.words)
+    words = omega (arith, sum_of_window_parts begins_cycle (λ e. (effect_of e).words) history, told.granted, t.all.words)
 
     to : IsWithinBy books kept → LeavesWithinBounds books.heap history kept
     to within begun reach = record {
@@ -112,11 +112,11 @@ within_by books history kept t some = (to, from)
         )
 
 -- what is reached now among what was reached when the cycle began is what is reached at both
-pub reached_by : (books : Books) (history : List Entry) (kept : ℕ) (both : List Id) → Tells books history → 1 ≤ books.all.phases
+pub keeps_reached_by_both : (books : Books) (history : List Entry) (kept : ℕ) (both : List Id) → Tells books history → 1 ≤ books.all.phases
     → AreReachedAmong (graph_of books.heap history) books.cycle.reached.items both
     → (fragments_of_all (graph_of books.heap history) both ≤ kept → KeepsReached books.heap history kept)
     × (KeepsReached books.heap history kept → fragments_of_all (graph_of books.heap history) both ≤ kept)
-reached_by books history kept both t some among =
+keeps_reached_by_both books history kept both t some among =
     let g = graph_of books.heap (up_to_cycle history) in
     let h = graph_of books.heap history in
     let told : TellsCycle books.heap books.cycle history = t.cycle some in

@@ -27,18 +27,18 @@ not_leave : (number q : ℕ) (command : Command) (reply : Reply) → (q ≡ numb
 not_leave number q commands.Leave reply other = ne_eqb q number other
 not_leave number q command reply other = refl
 
-pub of_other : (number : ℕ) (entry : Entry) → (seat_of entry ≡ Some number → ⊥) → IsOfOther number entry
-of_other number (entries.Said q command reply) other =
+pub entry_is_of_other : (number : ℕ) (entry : Entry) → (seat_of entry ≡ Some number → ⊥) → IsOfOther number entry
+entry_is_of_other number (entries.Said q command reply) other =
     record { of = ne_eqb q number (λ e. other (ap Some e)); reply = ne_eqb q number (λ e. other (ap Some e)); leave = not_leave number q command reply (λ e. other (ap Some e)) }
-of_other number (entries.Takes q count) other = record { of = ne_eqb q number (λ e. other (ap Some e)); reply = refl; leave = refl }
-of_other number (entries.GivesBack q count) other = record { of = ne_eqb q number (λ e. other (ap Some e)); reply = refl; leave = refl }
-of_other number (entries.Answers q phase) other = record { of = ne_eqb q number (λ e. other (ap Some e)); reply = refl; leave = refl }
-of_other number entry other = record { of = refl; reply = refl; leave = refl }
+entry_is_of_other number (entries.Takes q count) other = record { of = ne_eqb q number (λ e. other (ap Some e)); reply = refl; leave = refl }
+entry_is_of_other number (entries.GivesBack q count) other = record { of = ne_eqb q number (λ e. other (ap Some e)); reply = refl; leave = refl }
+entry_is_of_other number (entries.Answers q phase) other = record { of = ne_eqb q number (λ e. other (ap Some e)); reply = refl; leave = refl }
+entry_is_of_other number entry other = record { of = refl; reply = refl; leave = refl }
 
 -- nothing changes for a seat that the entry isn't of
 pub noted_other : (heap : Heap) (all : Effect) (now : List SeatAccount) (entry : Entry) (number : ℕ) (seat : SeatAccount) → (seat_of entry ≡ Some number → ⊥) → IsNotedSeat heap all now number entry seat seat
 noted_other heap all now entry number seat other =
-    let none = of_other number entry other in
+    let none = entry_is_of_other number entry other in
     record {
       own = sym (cond-false _ _ _ none.of);
       own_then = sym (cond-false _ _ _ none.reply);
@@ -59,11 +59,11 @@ noted_put heap all now entry seats i noted is put here number =
     ]
 
 -- all is noted once the sums are and the seat is
-pub is_noted : (old mid new : Books) (entry : Entry) (all : Effect) (i : ℕ) (noted : SeatAccount)
+pub entry_is_noted : (old mid new : Books) (entry : Entry) (all : Effect) (i : ℕ) (noted : SeatAccount)
     → mid ≡ record old { entries = old.entries + 1; all = all; ended = ended_by entry; swung = cond (begins_phase entry) [] old.swung }
     → new ≡ record mid { seats = slice_set mid.seats i noted } → account_at new.seats i ≡ noted → all ≡ plus old.all (effect_of entry)
     → seat_of entry ≡ Some i → IsNotedSeat old.heap old.all old.seats i entry (account_at old.seats i) noted → IsNoted old entry new
-is_noted old mid new entry all i noted counts puts put sums is here =
+entry_is_noted old mid new entry all i noted counts puts put sums is here =
     let seats : new.seats ≡ slice_set old.seats i noted = ap (λ (b : Books). b.seats) puts ∙ ap (λ (b : Books). slice_set b.seats i noted) counts in
     record {
       counted = record {

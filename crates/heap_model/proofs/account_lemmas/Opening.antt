@@ -51,9 +51,9 @@ opening_tells heap seats number few all lt = record {
         omega (arith, g)
 
 -- nothing is told
-pub tells_nothing : (heap : Heap) (cycle : Cycle) (made : List ℕ) → IsHeap heap → made ≡ made_counts (opening heap)
+pub opening_tells_empty_history : (heap : Heap) (cycle : Cycle) (made : List ℕ) → IsHeap heap → made ≡ made_counts (opening heap)
     → Tells (record { heap = heap; entries = 0; all = no_effect; seats = replicate 16 opening_seat; cycle = cycle; swung = []; ended = None; made = made }) []
-tells_nothing heap cycle made fits none = record {
+opening_tells_empty_history heap cycle made fits none = record {
   entries = refl;
   all = record { taken = refl; given = refl; born = refl; freed = refl; words = refl; returned = refl; phases = refl; answers = refl };
   seats = λ number lt. let each : (other : ℕ) → other < 16 → account_at (replicate 16 opening_seat) other ≡ opening_seat = λ other below. get_or-replicate 16 other opening_seat no_seat below in

@@ -16,26 +16,26 @@ use Rattle.heap_model.specs.account.Phases.{IsBehind, WasBehind}
 use Rattle.heap_model.specs.account.PhaseCounts.{phase}
 use Rattle.heap_model.specs.account.Account.{MakesOfOwn}
 use Rattle.heap_model.proofs.Histories.{total_of-more}
-use Rattle.heap_model.proofs.account_lemmas.Windows.{parts, up_to_last-yes, up_to_last-no, after_last-yes, after_last-no}
-use Rattle.heap_model.proofs.account_lemmas.Snoc.{first_part}
+use Rattle.heap_model.proofs.account_lemmas.Windows.{window_parts_make_whole, up_to_last-yes, up_to_last-no, after_last-yes, after_last-no}
+use Rattle.heap_model.proofs.account_lemmas.Snoc.{front_of_snoc_cases}
 use Rattle.heap_model.proofs.account_lemmas.Turns.{Advances, Finishes, Stays}
 
 -- the phase in which the seat left
-pub left_by : (leaves had : Bool) (old new : Option ℕ) (now : ℕ) → new ≡ cond leaves (Some (unwrap_or old now)) old → is_some old ≡ had → is_some new ≡ (had || leaves)
-left_by true true old new now e h = ap is_some e
-left_by true false old new now e h = ap is_some e
-left_by false true old new now e h = ap is_some e ∙ h
-left_by false false old new now e h = ap is_some e ∙ h
+pub left_if_had_or_leaves : (leaves had : Bool) (old new : Option ℕ) (now : ℕ) → new ≡ cond leaves (Some (unwrap_or old now)) old → is_some old ≡ had → is_some new ≡ (had || leaves)
+left_if_had_or_leaves true true old new now e h = ap is_some e
+left_if_had_or_leaves true false old new now e h = ap is_some e
+left_if_had_or_leaves false true old new now e h = ap is_some e ∙ h
+left_if_had_or_leaves false false old new now e h = ap is_some e ∙ h
 
 -- its last phase stays at most the phase
-pub gone_by : (leaves : Bool) (old new : Option ℕ) (now then : ℕ) → new ≡ cond leaves (Some (unwrap_or old now)) old → now ≤ then → unwrap_or old now ≤ now → unwrap_or new then ≤ then
-gone_by true old new now then e later gone = subst (λ o. unwrap_or o then ≤ then) (sym e) (omega (arith, later, gone))
-gone_by false None new now then e later gone = subst (λ o. unwrap_or o then ≤ then) (sym e) (omega arith)
-gone_by false (Some x) new now then e later gone = subst (λ o. unwrap_or o then ≤ then) (sym e) (omega (arith, later, gone))
+pub gone_phase_within_phase : (leaves : Bool) (old new : Option ℕ) (now then : ℕ) → new ≡ cond leaves (Some (unwrap_or old now)) old → now ≤ then → unwrap_or old now ≤ now → unwrap_or new then ≤ then
+gone_phase_within_phase true old new now then e later gone = subst (λ o. unwrap_or o then ≤ then) (sym e) (omega (arith, later, gone))
+gone_phase_within_phase false None new now then e later gone = subst (λ o. unwrap_or o then ≤ then) (sym e) (omega arith)
+gone_phase_within_phase false (Some x) new now then e later gone = subst (λ o. unwrap_or o then ≤ then) (sym e) (omega (arith, later, gone))
 
 -- after a reply the seat has spent at most what it took
-pub spends : (number : ℕ) (history : List Entry) (entry : Entry) → is_reply_to number entry ≡ true → MakesOfOwn history entry → spent_of number (history ++ entry ∷ []) ≤ taken_of number (history ++ entry ∷ [])
-spends number history (entries.Said other command reply) replies makes =
+pub spent_within_taken : (number : ℕ) (history : List Entry) (entry : Entry) → is_reply_to number entry ≡ true → MakesOfOwn history entry → spent_of number (history ++ entry ∷ []) ≤ taken_of number (history ++ entry ∷ [])
+spent_within_taken number history (entries.Said other command reply) replies makes =
     let entry : Entry = entries.Said other command reply in
     let same : other ≡ number = eqb-true other number replies in
     let own : spent_of number history + made_by command reply ≤ taken_of number history = subst (λ x. spent_of x history + made_by command reply ≤ taken_of x history) same makes.0 in
@@ -43,15 +43,15 @@ spends number history (entries.Said other command reply) replies makes =
     let born = total_of-more number (λ e. e.born) history entry ∙ ap (λ n. total_of number (λ e. e.born) history + n) (cond-true (is_of number entry) (made_by command reply) 0 replies) in
     let taken = total_of-more number (λ e. e.taken) history entry ∙ ap (λ n. total_of number (λ e. e.taken) history + n) (cond-true (is_of number entry) 0 0 replies) in
     omega (arith, own, given, born, taken)
-spends number history entry replies makes = absurd (cc replies)
+spent_within_taken number history entry replies makes = absurd (cc replies)
 
 -- the phases that began since the seat's last reply
-pub began-more : (heap : Heap) (number : ℕ) (history : List Entry) (entry : Entry) → Advances heap history entry ⊎ (Finishes heap history entry ⊎ Stays entry) → (old_then new_then old new : ℕ)
+pub began_since_with_entry : (heap : Heap) (number : ℕ) (history : List Entry) (entry : Entry) → Advances heap history entry ⊎ (Finishes heap history entry ⊎ Stays entry) → (old_then new_then old new : ℕ)
     → old ≡ phase history → new ≡ old + (effect_of entry).phases → new_then ≡ cond (is_reply_to number entry) new old_then → old_then ≤ old
     → ((p : ℕ) → (Contains (since_reply number history) (entries.Advance p) → (old_then < p) × (p ≤ old) × (p % cycle_phases ≢ resting)) × ((old_then < p) × (p ≤ old) × (p % cycle_phases ≢ resting) → Contains (since_reply number history) (entries.Advance p)))
     → (p : ℕ) → (Contains (since_reply number (history ++ entry ∷ [])) (entries.Advance p) → (new_then < p) × (p ≤ new) × (p % cycle_phases ≢ resting))
     × ((new_then < p) × (p ≤ new) × (p % cycle_phases ≢ resting) → Contains (since_reply number (history ++ entry ∷ [])) (entries.Advance p))
-began-more heap number history entry turns old_then new_then old new here grows then earlier told p =
+began_since_with_entry heap number history entry turns old_then new_then old new here grows then earlier told p =
     elim (cases_Bool (is_reply_to number entry)) [
       | inl fits ↦ (let none : since_reply number (history ++ entry ∷ []) ≡ [] = after_last-yes (is_reply_to number) history entry fits in
           let now : new_then ≡ new = then ∙ cond-true _ new old_then fits in
@@ -91,9 +91,9 @@ began-more heap number history entry turns old_then new_then old new here grows 
     from same (inr (inr t)) h = past same (omega (arith, h.1, t.none, grows)) h
 
 -- another seat was behind since a reply if it is now
-pub was_behind-reply : (number other answer p : ℕ) (history : List Entry) (entry : Entry) → is_reply_to number entry ≡ true
+pub was_behind_at_reply : (number other answer p : ℕ) (history : List Entry) (entry : Entry) → is_reply_to number entry ≡ true
     → (WasBehind number other answer p (history ++ entry ∷ []) → IsBehind other answer p (history ++ entry ∷ [])) × (IsBehind other answer p (history ++ entry ∷ []) → WasBehind number other answer p (history ++ entry ∷ []))
-was_behind-reply number other answer p history entry fits = (to, from)
+was_behind_at_reply number other answer p history entry fits = (to, from)
   where
     none : since_reply number (history ++ entry ∷ []) ≡ []
     none = after_last-yes (is_reply_to number) history entry fits
@@ -112,10 +112,10 @@ was_behind-reply number other answer p history entry fits = (to, from)
     from b = ([], [], none, subst (λ h. IsBehind other answer p h) (sym (append-nil _ ∙ all)) b)
 
 -- or it was before, or is now
-pub was_behind-more : (number other answer p : ℕ) (history : List Entry) (entry : Entry) → is_reply_to number entry ≡ false
+pub was_behind_with_entry : (number other answer p : ℕ) (history : List Entry) (entry : Entry) → is_reply_to number entry ≡ false
     → (WasBehind number other answer p (history ++ entry ∷ []) → WasBehind number other answer p history ⊎ IsBehind other answer p (history ++ entry ∷ []))
     × (WasBehind number other answer p history ⊎ IsBehind other answer p (history ++ entry ∷ []) → WasBehind number other answer p (history ++ entry ∷ []))
-was_behind-more number other answer p history entry fails = (to, from)
+was_behind_with_entry number other answer p history entry fails = (to, from)
   where
     more : since_reply number (history ++ entry ∷ []) ≡ since_reply number history ++ entry ∷ []
     more = after_last-no (is_reply_to number) history entry fails
@@ -124,10 +124,10 @@ was_behind-more number other answer p history entry fails = (to, from)
     same = up_to_last-no (is_reply_to number) history entry fails
 
     whole : up_to_reply number (history ++ entry ∷ []) ++ (since_reply number history ++ entry ∷ []) ≡ history ++ entry ∷ []
-    whole = ap (λ es. up_to_reply number (history ++ entry ∷ []) ++ es) (sym more) ∙ parts (is_reply_to number) (history ++ entry ∷ [])
+    whole = ap (λ es. up_to_reply number (history ++ entry ∷ []) ++ es) (sym more) ∙ window_parts_make_whole (is_reply_to number) (history ++ entry ∷ [])
 
     to : WasBehind number other answer p (history ++ entry ∷ []) → WasBehind number other answer p history ⊎ IsBehind other answer p (history ++ entry ∷ [])
-    to w = elim (first_part w.0 w.1 (since_reply number history) entry (sym more ∙ w.2)) [
+    to w = elim (front_of_snoc_cases w.0 w.1 (since_reply number history) entry (sym more ∙ w.2)) [
       | inl all ↦ inr (subst (λ h. IsBehind other answer p h) (ap (λ es. up_to_reply number (history ++ entry ∷ []) ++ es) all ∙ whole) w.3)
       | inr fewer ↦ inl (w.0, fewer.0, fewer.1, subst (λ h. IsBehind other answer p (h ++ w.0)) same w.3)
     ]
@@ -137,6 +137,6 @@ was_behind-more number other answer p history entry fails = (to, from)
     from (inr b) = (since_reply number history ++ entry ∷ [], [], more ∙ sym (append-nil _), subst (λ h. IsBehind other answer p h) (sym whole) b)
 
 -- a seat that is behind at the end was so since the reply
-pub is_behind_was : (number other answer p : ℕ) (history : List Entry) → IsBehind other answer p history → WasBehind number other answer p history
-is_behind_was number other answer p history b =
-    (since_reply number history, [], sym (append-nil _), subst (λ h. IsBehind other answer p h) (sym (parts (is_reply_to number) history)) b)
+pub behind_at_end_was_behind : (number other answer p : ℕ) (history : List Entry) → IsBehind other answer p history → WasBehind number other answer p history
+behind_at_end_was_behind number other answer p history b =
+    (since_reply number history, [], sym (append-nil _), subst (λ h. IsBehind other answer p h) (sym (window_parts_make_whole (is_reply_to number) history)) b)

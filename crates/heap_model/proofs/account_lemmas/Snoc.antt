@@ -6,24 +6,24 @@ not_empty [] x e = cc
 not_empty (y ∷ xs) x e = cc
 
 -- the last elements of equal lists are equal
-pub same_last : {A : Type 0} (xs ys : List A) (x y : A) → xs ++ x ∷ [] ≡ ys ++ y ∷ [] → x ≡ y
-same_last [] [] x y e = cc
-same_last [] (b ∷ ys) x y e = absurd (not_empty ys y (cc))
-same_last (a ∷ xs) [] x y e = absurd (not_empty xs x (cc))
-same_last (a ∷ xs) (b ∷ ys) x y e = same_last xs ys x y (cc)
+pub equal_snocs_equal_last : {A : Type 0} (xs ys : List A) (x y : A) → xs ++ x ∷ [] ≡ ys ++ y ∷ [] → x ≡ y
+equal_snocs_equal_last [] [] x y e = cc
+equal_snocs_equal_last [] (b ∷ ys) x y e = absurd (not_empty ys y (cc))
+equal_snocs_equal_last (a ∷ xs) [] x y e = absurd (not_empty xs x (cc))
+equal_snocs_equal_last (a ∷ xs) (b ∷ ys) x y e = equal_snocs_equal_last xs ys x y (cc)
 
 -- a first part of a list with one more element is the whole list, or a first part of the list without that
-pub first_part : {A : Type 0} (part rest xs : List A) (x : A) → xs ++ x ∷ [] ≡ part ++ rest → (part ≡ xs ++ x ∷ []) ⊎ ((fewer : List A) × (xs ≡ part ++ fewer))
-first_part [] rest xs x e = inr (xs, refl)
-first_part (a ∷ []) rest [] x e = inl (cc)
-first_part (a ∷ b ∷ part) rest [] x e = absurd (no_two (cc))
+pub front_of_snoc_cases : {A : Type 0} (part rest xs : List A) (x : A) → xs ++ x ∷ [] ≡ part ++ rest → (part ≡ xs ++ x ∷ []) ⊎ ((fewer : List A) × (xs ≡ part ++ fewer))
+front_of_snoc_cases [] rest xs x e = inr (xs, refl)
+front_of_snoc_cases (a ∷ []) rest [] x e = inl (cc)
+front_of_snoc_cases (a ∷ b ∷ part) rest [] x e = absurd (no_two (cc))
   where
     no_two : [] ≡ b ∷ (part ++ rest) → ⊥
     no_two h = cc
-first_part (a ∷ part) rest (y ∷ xs) x e =
+front_of_snoc_cases (a ∷ part) rest (y ∷ xs) x e =
     let same : a ≡ y = cc in
     let tail : xs ++ x ∷ [] ≡ part ++ rest = cc in
-    elim (first_part part rest xs x tail) [
+    elim (front_of_snoc_cases part rest xs x tail) [
       | inl whole ↦ inl (cc)
       | inr fewer ↦ inr (fewer.0, cc)
     ]

@@ -22,26 +22,26 @@ use Rattle.heap_model.specs.graph.Graph.{Graph, opening}
 use Rattle.heap_model.specs.graph.Growth.{after_entry}
 use Rattle.heap_model.specs.graph.Legal.{AcceptsAll}
 use Rattle.heap_model.specs.graph.Sizes.{fragments_of_all}
-use Rattle.heap_model.proofs.account_lemmas.WithoutTurned.{same_after, contains_more, contains_still}
-use Rattle.heap_model.proofs.account_lemmas.TurnedCounts.{gained, lost, granted, returned, here, took, spent, answered, gone, graphs, graph_then, bounds, spine_bounds, turned_hold_nobody}
+use Rattle.heap_model.proofs.account_lemmas.WithoutTurned.{after_last_without_turned, contained_was_in_history, contained_stays_without_turned}
+use Rattle.heap_model.proofs.account_lemmas.TurnedCounts.{gained_without_turned, lost_without_turned, granted_without_turned, returned_without_turned, phase_without_turned, taken_without_turned, spent_without_turned, last_answer_without_turned, left_without_turned, graph_without_turned, cycle_graph_without_turned, bound_without_turned, spine_bound_without_turned, turned_hold_nobody}
 
 module _ (heap : Heap) (history : List Entry) where
   all_answered : AllAnswered heap (without_turned history) → AllAnswered heap history
-  all_answered all number below present = sym (answered history number) ∙ all number below (gone history number ∙ present) ∙ here history
+  all_answered all number below present = sym (last_answer_without_turned history number) ∙ all number below (left_without_turned history number ∙ present) ∙ phase_without_turned history
 
   ends_cycle : (entry : Entry) → EndsCycle heap (without_turned history) entry → EndsCycle heap history entry
   ends_cycle (entries.Ends cycle kept) ((at, all), leaves) = (
-    (sym (here history) ∙ at, all_answered all),
+    (sym (phase_without_turned history) ∙ at, all_answered all),
     record {
       within = λ begun reach.
-          let within = leaves.within begun (rw (graph_then heap history) reach) in
+          let within = leaves.within begun (rw (cycle_graph_without_turned heap history) reach) in
           record {
-            used = omega (arith, within.used, gained history, lost history, bounds heap history begun);
-            spine = omega (arith, within.spine, granted history, returned history, spine_bounds heap history begun);
-            at_most = omega (arith, within.at_most, bounds heap history begun);
+            used = omega (arith, within.used, gained_without_turned history, lost_without_turned history, bound_without_turned heap history begun);
+            spine = omega (arith, within.spine, granted_without_turned history, returned_without_turned history, spine_bound_without_turned heap history begun);
+            at_most = omega (arith, within.at_most, bound_without_turned heap history begun);
           };
       reached = λ both reach.
-          subst (λ g. fragments_of_all g both ≤ kept) (graphs history heap) (leaves.reached both (rw (graph_then heap history, graphs history heap) reach));
+          subst (λ g. fragments_of_all g both ≤ kept) (graph_without_turned history heap) (leaves.reached both (rw (cycle_graph_without_turned heap history, graph_without_turned history heap) reach));
     },
   )
   ends_cycle _ ends = tt
@@ -49,36 +49,36 @@ module _ (heap : Heap) (history : List Entry) where
   began_since : (number cycle : ℕ) → BeganSince number cycle (without_turned history) → BeganSince number cycle history
   began_since number cycle began =
       let begin : Entry = entries.Advance (7 * cycle + 1) in
-      contains_more (since_reply number history) begin (subst (λ es. Contains es begin) (same_after (is_reply_to number) (λ c r. refl) history) began)
+      contained_was_in_history (since_reply number history) begin (subst (λ es. Contains es begin) (after_last_without_turned (is_reply_to number) (λ c r. refl) history) began)
 
   shows_phases : (number : ℕ) (command : Command) (reply : Reply) → ShowsPhases heap true (without_turned history) number command reply → ShowsPhases heap true history number command reply
-  shows_phases number commands.Poll (replies.Phase p) (now, last) = (now ∙ here history, last ∙ answered history number)
+  shows_phases number commands.Poll (replies.Phase p) (now, last) = (now ∙ phase_without_turned history, last ∙ last_answer_without_turned history number)
   shows_phases number commands.Collect (replies.Cycle cycle) (ended, began) =
-      ((ended.0, contains_more history (entries.Ends cycle ended.0) ended.1), began_since number cycle began)
+      ((ended.0, contained_was_in_history history (entries.Ends cycle ended.0) ended.1), began_since number cycle began)
   shows_phases number commands.Collect (replies.Waits other answer p) (below, apart, less, is) = (below, apart, less, turned_hold_nobody other answer p history is)
   shows_phases number _ _ shows = tt
 
   shows_space : (number : ℕ) (command : Command) (reply : Reply) → ShowsSpace heap true (without_turned history) number command reply → ShowsSpace heap true history number command reply
   shows_space number command (replies.Full need found) (needed, less, finds) =
-      (needed, less, omega (arith, finds, gained history, lost history, took history number, spent history number))
+      (needed, less, omega (arith, finds, gained_without_turned history, lost_without_turned history, taken_without_turned history number, spent_without_turned history number))
   shows_space number command _ shows = tt
 
   shows_spine : (number : ℕ) (command : Command) (reply : Reply) → ShowsSpine heap true (without_turned history) number command reply → ShowsSpine heap true history number command reply
-  shows_spine number command (replies.SpineFull need shown) (needed, less, finds) = (needed, less, omega (arith, finds, granted history, returned history))
+  shows_spine number command (replies.SpineFull need shown) (needed, less, finds) = (needed, less, omega (arith, finds, granted_without_turned history, returned_without_turned history))
   shows_spine number command _ shows = tt
 
   swung_still : (id : Id) → HasSwung id history → HasSwung id (without_turned history)
   swung_still id has =
-      subst (λ es. Contains es (entries.Swings id)) (sym (same_after begins_phase (λ c r. refl) history)) (contains_still _ (entries.Swings id) refl has)
+      subst (λ es. Contains es (entries.Swings id)) (sym (after_last_without_turned begins_phase (λ c r. refl) history)) (contained_stays_without_turned _ (entries.Swings id) refl has)
 
   takes_still : (entry : Entry) → TakesAndGives heap (without_turned history) entry → TakesAndGives heap history entry
-  takes_still (entries.Takes number count) (some, enough) = (some, omega (arith, enough, gained history, lost history))
-  takes_still (entries.GivesBack number count) (some, enough) = (some, omega (arith, enough, took history number, spent history number))
+  takes_still (entries.Takes number count) (some, enough) = (some, omega (arith, enough, gained_without_turned history, lost_without_turned history))
+  takes_still (entries.GivesBack number count) (some, enough) = (some, omega (arith, enough, taken_without_turned history number, spent_without_turned history number))
   takes_still _ takes = tt
 
   makes_still : (entry : Entry) → MakesOfOwn (without_turned history) entry → MakesOfOwn history entry
   makes_still (entries.Said number command reply) (enough, little) =
-      (omega (arith, enough, took history number, spent history number), omega (arith, little, took history number, spent history number))
+      (omega (arith, enough, taken_without_turned history number, spent_without_turned history number), omega (arith, little, taken_without_turned history number, spent_without_turned history number))
   makes_still _ makes = tt
 
   refuses_still : (entry : Entry) → RefusesRightly heap true (without_turned history) entry → RefusesRightly heap true history entry
@@ -90,20 +90,20 @@ module _ (heap : Heap) (history : List Entry) where
   refuses_spine_still _ refuses = tt
 
   answers_still : (entry : Entry) → AnswersPhase (without_turned history) entry → AnswersPhase history entry
-  answers_still (entries.Answers number p) (now, next) = (now ∙ here history, next ∙ ap (λ n. n + 1) (answered history number))
+  answers_still (entries.Answers number p) (now, next) = (now ∙ phase_without_turned history, next ∙ ap (λ n. n + 1) (last_answer_without_turned history number))
   answers_still _ answers = tt
 
   begins_still : (entry : Entry) → BeginsPhase heap (without_turned history) entry → BeginsPhase heap history entry
-  begins_still (entries.Advance p) (next, no_rest, all) = (next ∙ ap (λ n. n + 1) (here history), no_rest, all_answered all)
+  begins_still (entries.Advance p) (next, no_rest, all) = (next ∙ ap (λ n. n + 1) (phase_without_turned history), no_rest, all_answered all)
   begins_still _ begins = tt
 
   sweeps_still : (entry : Entry) → Sweeps heap (without_turned history) entry → Sweeps heap history entry
   sweeps_still (entries.Frees count) (when, some, enough) =
-      (ap (λ n. n % cycle_phases) (sym (here history)) ∙ when, some, omega (arith, enough, gained history, lost history))
+      (ap (λ n. n % cycle_phases) (sym (phase_without_turned history)) ∙ when, some, omega (arith, enough, gained_without_turned history, lost_without_turned history))
   sweeps_still (entries.Returns count) (when, some, enough) =
-      (ap (λ n. n % cycle_phases) (sym (here history)) ∙ when, some, omega (arith, enough, granted history, returned history))
+      (ap (λ n. n % cycle_phases) (sym (phase_without_turned history)) ∙ when, some, omega (arith, enough, granted_without_turned history, returned_without_turned history))
   sweeps_still (entries.Swings id) (when, array, first) =
-      (ap (λ n. n % cycle_phases) (sym (here history)) ∙ when, subst (λ g. IsArray g id) (graphs history heap) array, λ has. first (swung_still id has))
+      (ap (λ n. n % cycle_phases) (sym (phase_without_turned history)) ∙ when, subst (λ g. IsArray g id) (graph_without_turned history heap) array, λ has. first (swung_still id has))
   sweeps_still _ sweeps = tt
 
   shows_still : (entry : Entry) → is_of_heap entry ≡ true → ShowsRightly heap true (without_turned history) entry → ShowsRightly heap true history entry

@@ -10,7 +10,7 @@ use Rattle.heap_model.specs.account.Effects.{effect_of}
 use Rattle.heap_model.specs.account.PhaseCounts.{phase, AllAnswered, HasEnded, JustEnded}
 use Rattle.heap_model.specs.account.Account.{KeepsSpace}
 use Rattle.heap_model.specs.account.Noting.{ended_by}
-use Rattle.heap_model.proofs.account_lemmas.Snoc.{same_last}
+use Rattle.heap_model.proofs.account_lemmas.Snoc.{equal_snocs_equal_last}
 
 -- the next phase begins, which is no multiple of seven
 pub record Advances (heap : Heap) (history : List Entry) (entry : Entry) : Type 0 where
@@ -37,18 +37,18 @@ pub record Stays (entry : Entry) : Type 0 where
   pub no_end : (cycle kept : ℕ) → entry ≡ entries.Ends cycle kept → ⊥
 
 -- each entry is one of these
-pub turn : (heap : Heap) (play : Bool) (history : List Entry) (entry : Entry) → KeepsSpace heap play history entry → Advances heap history entry ⊎ (Finishes heap history entry ⊎ Stays entry)
-turn heap play history (entries.Advance p) keeps =
+pub entry_turn_cases : (heap : Heap) (play : Bool) (history : List Entry) (entry : Entry) → KeepsSpace heap play history entry → Advances heap history entry ⊎ (Finishes heap history entry ⊎ Stays entry)
+entry_turn_cases heap play history (entries.Advance p) keeps =
     inl (record { to = p; is = refl; next = keeps.begins.0; not_seven = keeps.begins.1; all = keeps.begins.2; one = refl })
-turn heap play history (entries.Ends cycle kept) keeps =
+entry_turn_cases heap play history (entries.Ends cycle kept) keeps =
     inr (inl (record { cycle = cycle; kept = kept; is = refl; at = keeps.ends.0.0; all = keeps.ends.0.1; one = refl }))
-turn heap play history entry keeps = inr (inr (record { none = refl; no_advance = λ p e. cc e; no_end = λ cycle kept e. cc e }))
+entry_turn_cases heap play history entry keeps = inr (inr (record { none = refl; no_advance = λ p e. cc e; no_end = λ cycle kept e. cc e }))
 
 -- the cycles that have ended
-pub ended-more : (heap : Heap) (history : List Entry) (entry : Entry) → Advances heap history entry ⊎ (Finishes heap history entry ⊎ Stays entry) → (old new : ℕ) → old ≡ phase history
+pub ended_cycles_with_entry : (heap : Heap) (history : List Entry) (entry : Entry) → Advances heap history entry ⊎ (Finishes heap history entry ⊎ Stays entry) → (old new : ℕ) → old ≡ phase history
     → new ≡ old + (effect_of entry).phases → (cycle : ℕ) → (HasEnded cycle history → cycle < old / 7) × (cycle < old / 7 → HasEnded cycle history)
     → (HasEnded cycle (history ++ entry ∷ []) → cycle < new / 7) × (cycle < new / 7 → HasEnded cycle (history ++ entry ∷ []))
-ended-more heap history entry turns old new here then cycle told = (to, from turns)
+ended_cycles_with_entry heap history entry turns old new here then cycle told = (to, from turns)
   where
     earlier : HasEnded cycle history → HasEnded cycle (history ++ entry ∷ [])
     earlier ended = (ended.0, Contains-append_left history (entry ∷ []) (entries.Ends cycle ended.0) ended.1)
@@ -73,9 +73,9 @@ ended-more heap history entry turns old new here then cycle told = (to, from tur
     from (inr (inr s)) below = earlier (told.1 (omega (arith, below, s.none, then)))
 
 -- the cycle that has just ended
-pub just_ended-more : (history : List Entry) (entry : Entry) (cycle : ℕ) → (JustEnded cycle (history ++ entry ∷ []) → ended_by entry ≡ Some cycle) × (ended_by entry ≡ Some cycle → JustEnded cycle (history ++ entry ∷ []))
-just_ended-more history entry cycle =
-    (λ j. ap ended_by (same_last history j.0 entry (entries.Ends cycle j.1) j.2), from entry)
+pub just_ended_by_entry : (history : List Entry) (entry : Entry) (cycle : ℕ) → (JustEnded cycle (history ++ entry ∷ []) → ended_by entry ≡ Some cycle) × (ended_by entry ≡ Some cycle → JustEnded cycle (history ++ entry ∷ []))
+just_ended_by_entry history entry cycle =
+    (λ j. ap ended_by (equal_snocs_equal_last history j.0 entry (entries.Ends cycle j.1) j.2), from entry)
   where
     from : (entry : Entry) → ended_by entry ≡ Some cycle → JustEnded cycle (history ++ entry ∷ [])
     from (entries.Ends c kept) e = (history, kept, ap (λ n. history ++ entries.Ends n kept ∷ []) (cc e))

@@ -11,73 +11,73 @@ use Rattle.heap_model.specs.account.Effects.{effect_of, is_of}
 use Rattle.heap_model.specs.account.Windows.{is_reply_to, up_to_last, after_last, up_to_reply, since_reply}
 
 -- the two parts are the history
-pub parts : (test : Entry → Bool) (history : List Entry) → up_to_last test history ++ after_last test history ≡ history
-parts test [] = refl
-parts test (entry ∷ history) =
+pub window_parts_make_whole : (test : Entry → Bool) (history : List Entry) → up_to_last test history ++ after_last test history ≡ history
+window_parts_make_whole test [] = refl
+window_parts_make_whole test (entry ∷ history) =
     elim (list_any test (entry ∷ history)) as (λ b. (cond b (entry ∷ up_to_last test history) []) ++ (cond b (after_last test history) (entry ∷ history)) ≡ entry ∷ history)
-    [ true ↦ ap (λ es. entry ∷ es) (parts test history) | false ↦ refl ]
+    [ true ↦ ap (λ es. entry ∷ es) (window_parts_make_whole test history) | false ↦ refl ]
 
 -- a sum over the history is the sum over its two parts
-pub sum-parts : (test : Entry → Bool) (f : Entry → ℕ) (history : List Entry) → sum_by f history ≡ sum_by f (up_to_last test history) + sum_by f (after_last test history)
-sum-parts test f history = ap (sum_by f) (sym (parts test history)) ∙ sum_by-append f (up_to_last test history) (after_last test history)
+pub sum_of_window_parts : (test : Entry → Bool) (f : Entry → ℕ) (history : List Entry) → sum_by f history ≡ sum_by f (up_to_last test history) + sum_by f (after_last test history)
+sum_of_window_parts test f history = ap (sum_by f) (sym (window_parts_make_whole test history)) ∙ sum_by-append f (up_to_last test history) (after_last test history)
 
 -- all is the seat's and the others'
-pub total-split : (number : ℕ) (part : Effect → ℕ) (history : List Entry) → total part history ≡ total_of number part history + total_but number part history
-total-split number part [] = refl
-total-split number part (entry ∷ history) =
+pub total_is_own_and_others : (number : ℕ) (part : Effect → ℕ) (history : List Entry) → total part history ≡ total_of number part history + total_but number part history
+total_is_own_and_others number part [] = refl
+total_is_own_and_others number part (entry ∷ history) =
     let all = sum_by-cons (λ e. part (effect_of e)) entry history in
     let own = sum_by-cons (λ e. cond (is_of number e) (part (effect_of e)) 0) entry history in
     let others = sum_by-cons (λ e. cond (is_of number e) 0 (part (effect_of e))) entry history in
     let one : part (effect_of entry) ≡ cond (is_of number entry) (part (effect_of entry)) 0 + cond (is_of number entry) 0 (part (effect_of entry)) = one_split (is_of number entry) (part (effect_of entry)) in
-    omega (arith, all, own, others, one, total-split number part history)
+    omega (arith, all, own, others, one, total_is_own_and_others number part history)
   where
     one_split : (b : Bool) (n : ℕ) → n ≡ cond b n 0 + cond b 0 n
     one_split true n = omega arith
     one_split false n = omega arith
 
 -- what others did since a seat's last reply, by sums over what led there and over all
-pub others_since : (number : ℕ) (part : Effect → ℕ) (history : List Entry)
+pub others_total_since_reply : (number : ℕ) (part : Effect → ℕ) (history : List Entry)
     → total_but number part (since_reply number history) + total_of number part history + total part (up_to_reply number history) ≡ total part history + total_of number part (up_to_reply number history)
-others_since number part history =
-    let all = sum-parts (is_reply_to number) (λ e. part (effect_of e)) history in
-    let own = sum-parts (is_reply_to number) (λ e. cond (is_of number e) (part (effect_of e)) 0) history in
-    omega (arith, all, own, total-split number part (since_reply number history))
+others_total_since_reply number part history =
+    let all = sum_of_window_parts (is_reply_to number) (λ e. part (effect_of e)) history in
+    let own = sum_of_window_parts (is_reply_to number) (λ e. cond (is_of number e) (part (effect_of e)) 0) history in
+    omega (arith, all, own, total_is_own_and_others number part (since_reply number history))
 
 -- what all did since
-pub all_since : (number : ℕ) (part : Effect → ℕ) (history : List Entry) → total part (since_reply number history) + total part (up_to_reply number history) ≡ total part history
-all_since number part history = let all = sum-parts (is_reply_to number) (λ e. part (effect_of e)) history in omega (arith, all)
+pub total_since_reply : (number : ℕ) (part : Effect → ℕ) (history : List Entry) → total part (since_reply number history) + total part (up_to_reply number history) ≡ total part history
+total_since_reply number part history = let all = sum_of_window_parts (is_reply_to number) (λ e. part (effect_of e)) history in omega (arith, all)
 
 or-false : (b : Bool) → (b || false) ≡ b
 or-false true = refl
 or-false false = refl
 
 -- an entry of the history passes the test, or the one more does
-pub any-more : (test : Entry → Bool) (history : List Entry) (entry : Entry) → list_any test (history ++ entry ∷ []) ≡ (list_any test history || test entry)
-any-more test history entry = list_any-append test history (entry ∷ []) ∙ ap (λ b. list_any test history || b) (or-false (test entry))
+pub any_with_entry_more : (test : Entry → Bool) (history : List Entry) (entry : Entry) → list_any test (history ++ entry ∷ []) ≡ (list_any test history || test entry)
+any_with_entry_more test history entry = list_any-append test history (entry ∷ []) ∙ ap (λ b. list_any test history || b) (or-false (test entry))
 
 -- a history with one more entry, which passes the test
 pub up_to_last-yes : (test : Entry → Bool) (history : List Entry) (entry : Entry) → test entry ≡ true → up_to_last test (history ++ entry ∷ []) ≡ history ++ entry ∷ []
-up_to_last-yes test [] entry fits = cond-true (list_any test (entry ∷ [])) (entry ∷ []) [] (any-more test [] entry ∙ fits)
+up_to_last-yes test [] entry fits = cond-true (list_any test (entry ∷ [])) (entry ∷ []) [] (any_with_entry_more test [] entry ∙ fits)
 up_to_last-yes test (first ∷ history) entry fits =
-    cond-true _ _ [] (any-more test (first ∷ history) entry ∙ or_right _ _ fits) ∙ ap (λ es. first ∷ es) (up_to_last-yes test history entry fits)
+    cond-true _ _ [] (any_with_entry_more test (first ∷ history) entry ∙ or_right _ _ fits) ∙ ap (λ es. first ∷ es) (up_to_last-yes test history entry fits)
 
 pub after_last-yes : (test : Entry → Bool) (history : List Entry) (entry : Entry) → test entry ≡ true → after_last test (history ++ entry ∷ []) ≡ []
-after_last-yes test [] entry fits = cond-true (list_any test (entry ∷ [])) [] (entry ∷ []) (any-more test [] entry ∙ fits)
+after_last-yes test [] entry fits = cond-true (list_any test (entry ∷ [])) [] (entry ∷ []) (any_with_entry_more test [] entry ∙ fits)
 after_last-yes test (first ∷ history) entry fits =
-    cond-true _ _ _ (any-more test (first ∷ history) entry ∙ or_right _ _ fits) ∙ after_last-yes test history entry fits
+    cond-true _ _ _ (any_with_entry_more test (first ∷ history) entry ∙ or_right _ _ fits) ∙ after_last-yes test history entry fits
 
 -- one that doesn't
 pub up_to_last-no : (test : Entry → Bool) (history : List Entry) (entry : Entry) → test entry ≡ false → up_to_last test (history ++ entry ∷ []) ≡ up_to_last test history
-up_to_last-no test [] entry fails = cond-false (list_any test (entry ∷ [])) (entry ∷ []) [] (any-more test [] entry ∙ fails)
+up_to_last-no test [] entry fails = cond-false (list_any test (entry ∷ [])) (entry ∷ []) [] (any_with_entry_more test [] entry ∙ fails)
 up_to_last-no test (first ∷ history) entry fails =
     ap (λ es. cond (list_any test (first ∷ history ++ entry ∷ [])) (first ∷ es) []) (up_to_last-no test history entry fails)
-    ∙ ap (λ b. cond b (first ∷ up_to_last test history) []) (any-more test (first ∷ history) entry ∙ ap (λ b. list_any test (first ∷ history) || b) fails ∙ or-false _)
+    ∙ ap (λ b. cond b (first ∷ up_to_last test history) []) (any_with_entry_more test (first ∷ history) entry ∙ ap (λ b. list_any test (first ∷ history) || b) fails ∙ or-false _)
 
 pub after_last-no : (test : Entry → Bool) (history : List Entry) (entry : Entry) → test entry ≡ false → after_last test (history ++ entry ∷ []) ≡ after_last test history ++ entry ∷ []
-after_last-no test [] entry fails = cond-false (list_any test (entry ∷ [])) [] (entry ∷ []) (any-more test [] entry ∙ fails)
+after_last-no test [] entry fails = cond-false (list_any test (entry ∷ [])) [] (entry ∷ []) (any_with_entry_more test [] entry ∙ fails)
 after_last-no test (first ∷ history) entry fails =
     ap (λ es. cond (list_any test (first ∷ history ++ entry ∷ [])) es (first ∷ history ++ entry ∷ [])) (after_last-no test history entry fails)
-    ∙ ap (λ b. cond b (after_last test history ++ entry ∷ []) (first ∷ history ++ entry ∷ [])) (any-more test (first ∷ history) entry ∙ ap (λ b. list_any test (first ∷ history) || b) fails ∙ or-false _)
+    ∙ ap (λ b. cond b (after_last test history ++ entry ∷ []) (first ∷ history ++ entry ∷ [])) (any_with_entry_more test (first ∷ history) entry ∙ ap (λ b. list_any test (first ∷ history) || b) fails ∙ or-false _)
     ∙ either (list_any test (first ∷ history))
   where
     either : (b : Bool) → cond b (after_last test history ++ entry ∷ []) (first ∷ history ++ entry ∷ []) ≡ cond b (after_last test history) (first ∷ history) ++ entry ∷ []

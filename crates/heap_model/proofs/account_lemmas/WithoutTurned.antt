@@ -13,24 +13,24 @@ use Rattle.heap_model.specs.graph.Graph.{Graph}
 use Rattle.heap_model.specs.graph.Growth.{after_entry, graph_after}
 
 -- a sum to which they add nothing
-pub same_sum : (f : Entry → ℕ) → ((command : TurnCommand) (reply : TurnReply) → f (entries.Turned command reply) ≡ 0) → (history : List Entry) → sum_by f (without_turned history) ≡ sum_by f history
-same_sum f none [] = refl
-same_sum f none (entries.Turned command reply ∷ history) =
-    omega (arith, same_sum f none history, none command reply, sum_by-cons f (entries.Turned command reply) history)
-same_sum f none (entry ∷ history) =
-    sum_by-cons f entry (without_turned history) ∙ ap (λ n. f entry + n) (same_sum f none history) ∙ sym (sum_by-cons f entry history)
+pub sum_without_turned : (f : Entry → ℕ) → ((command : TurnCommand) (reply : TurnReply) → f (entries.Turned command reply) ≡ 0) → (history : List Entry) → sum_by f (without_turned history) ≡ sum_by f history
+sum_without_turned f none [] = refl
+sum_without_turned f none (entries.Turned command reply ∷ history) =
+    omega (arith, sum_without_turned f none history, none command reply, sum_by-cons f (entries.Turned command reply) history)
+sum_without_turned f none (entry ∷ history) =
+    sum_by-cons f entry (without_turned history) ∙ ap (λ n. f entry + n) (sum_without_turned f none history) ∙ sym (sum_by-cons f entry history)
 
 module _ (test : Entry → Bool) (fails : (command : TurnCommand) (reply : TurnReply) → test (entries.Turned command reply) ≡ false) where
   -- a test that they fail
-  pub same_any : (history : List Entry) → list_any test (without_turned history) ≡ list_any test history
-  same_any [] = refl
-  same_any (entries.Turned command reply ∷ history) = same_any history ∙ ap (λ b. b || list_any test history) (sym (fails command reply))
-  same_any (entry ∷ history) = ap (λ b. test entry || b) (same_any history)
+  pub any_without_turned : (history : List Entry) → list_any test (without_turned history) ≡ list_any test history
+  any_without_turned [] = refl
+  any_without_turned (entries.Turned command reply ∷ history) = any_without_turned history ∙ ap (λ b. b || list_any test history) (sym (fails command reply))
+  any_without_turned (entry ∷ history) = ap (λ b. test entry || b) (any_without_turned history)
 
   -- the parts of a history
-  pub same_up_to : (history : List Entry) → up_to_last test (without_turned history) ≡ without_turned (up_to_last test history)
-  same_up_to [] = refl
-  same_up_to (entries.Turned command reply ∷ history) = rw (fails command reply) (by (list_any test history) refl (same_up_to history))
+  pub up_to_last_without_turned : (history : List Entry) → up_to_last test (without_turned history) ≡ without_turned (up_to_last test history)
+  up_to_last_without_turned [] = refl
+  up_to_last_without_turned (entries.Turned command reply ∷ history) = rw (fails command reply) (by (list_any test history) refl (up_to_last_without_turned history))
     where
       none : (history : List Entry) → list_any test history ≡ false → up_to_last test history ≡ []
       none [] fails_all = refl
@@ -39,16 +39,16 @@ module _ (test : Entry → Bool) (fails : (command : TurnCommand) (reply : TurnR
       by : (b : Bool) → list_any test history ≡ b → up_to_last test (without_turned history) ≡ without_turned (up_to_last test history)
           → up_to_last test (without_turned history) ≡ without_turned (cond b (entries.Turned command reply ∷ up_to_last test history) [])
       by true passes rest = rest
-      by false fails_all rest = none (without_turned history) (same_any history ∙ fails_all)
-  same_up_to (entry ∷ history) = rw (same_any history, same_up_to history) (by (test entry || list_any test history))
+      by false fails_all rest = none (without_turned history) (any_without_turned history ∙ fails_all)
+  up_to_last_without_turned (entry ∷ history) = rw (any_without_turned history, up_to_last_without_turned history) (by (test entry || list_any test history))
     where
       by : (b : Bool) → cond b (entry ∷ without_turned (up_to_last test history)) [] ≡ without_turned (cond b (entry ∷ up_to_last test history) [])
       by true = refl
       by false = refl
 
-  pub same_after : (history : List Entry) → after_last test (without_turned history) ≡ without_turned (after_last test history)
-  same_after [] = refl
-  same_after (entries.Turned command reply ∷ history) = rw (fails command reply) (by (list_any test history) refl (same_after history))
+  pub after_last_without_turned : (history : List Entry) → after_last test (without_turned history) ≡ without_turned (after_last test history)
+  after_last_without_turned [] = refl
+  after_last_without_turned (entries.Turned command reply ∷ history) = rw (fails command reply) (by (list_any test history) refl (after_last_without_turned history))
     where
       none : (history : List Entry) → list_any test history ≡ false → after_last test history ≡ history
       none [] fails_all = refl
@@ -57,31 +57,31 @@ module _ (test : Entry → Bool) (fails : (command : TurnCommand) (reply : TurnR
       by : (b : Bool) → list_any test history ≡ b → after_last test (without_turned history) ≡ without_turned (after_last test history)
           → after_last test (without_turned history) ≡ without_turned (cond b (after_last test history) (entries.Turned command reply ∷ history))
       by true passes rest = rest
-      by false fails_all rest = none (without_turned history) (same_any history ∙ fails_all)
-  same_after (entry ∷ history) = rw (same_any history, same_after history) (by (test entry || list_any test history))
+      by false fails_all rest = none (without_turned history) (any_without_turned history ∙ fails_all)
+  after_last_without_turned (entry ∷ history) = rw (any_without_turned history, after_last_without_turned history) (by (test entry || list_any test history))
     where
       by : (b : Bool) → cond b (without_turned (after_last test history)) (entry ∷ without_turned history) ≡ without_turned (cond b (after_last test history) (entry ∷ history))
       by true = refl
       by false = refl
 
 -- the graph
-pub same_graph : (g : Graph) (history : List Entry) → graph_after g (without_turned history) ≡ graph_after g history
-same_graph g [] = refl
-same_graph g (entries.Turned command reply ∷ history) = same_graph g history
-same_graph g (entry ∷ history) = same_graph (after_entry g entry) history
+pub graph_after_without_turned : (g : Graph) (history : List Entry) → graph_after g (without_turned history) ≡ graph_after g history
+graph_after_without_turned g [] = refl
+graph_after_without_turned g (entries.Turned command reply ∷ history) = graph_after_without_turned g history
+graph_after_without_turned g (entry ∷ history) = graph_after_without_turned (after_entry g entry) history
 
 -- no entry comes in
-pub contains_more : (history : List Entry) (entry : Entry) → Contains (without_turned history) entry → Contains history entry
-contains_more history entry has = All-contains (Contains history) (without_turned history) entry (All-filter is_of_heap (Contains history) history (All-contains_itself history)) has
+pub contained_was_in_history : (history : List Entry) (entry : Entry) → Contains (without_turned history) entry → Contains history entry
+contained_was_in_history history entry has = All-contains (Contains history) (without_turned history) entry (All-filter is_of_heap (Contains history) history (All-contains_itself history)) has
 
 -- and no other is lost
-pub contains_still : (history : List Entry) (entry : Entry) → is_of_heap entry ≡ true → Contains history entry → Contains (without_turned history) entry
-contains_still [] entry stays has = has
-contains_still (first ∷ history) entry stays has = subst (λ es. Contains es entry) (sym (filter-append is_of_heap (first ∷ []) history)) (elim (Contains-append_cases (first ∷ []) history entry has) [
+pub contained_stays_without_turned : (history : List Entry) (entry : Entry) → is_of_heap entry ≡ true → Contains history entry → Contains (without_turned history) entry
+contained_stays_without_turned [] entry stays has = has
+contained_stays_without_turned (first ∷ history) entry stays has = subst (λ es. Contains es entry) (sym (filter-append is_of_heap (first ∷ []) history)) (elim (Contains-append_cases (first ∷ []) history entry has) [
   | inl here ↦ Contains-append_left (without_turned (first ∷ [])) (without_turned history) entry (elim (Contains-push_cases [] first entry here) [
     | inl none ↦ absurd (let lt = none.1 in omega (arith, lt))
     | inr same ↦ subst (λ e. Contains (without_turned (e ∷ [])) entry) (sym same)
         (subst (λ b. Contains (cond b (entry ∷ []) []) entry) (sym stays) (Contains-push [] entry))
   ])
-  | inr later ↦ Contains-append_right (without_turned (first ∷ [])) (without_turned history) entry (contains_still history entry stays later)
+  | inr later ↦ Contains-append_right (without_turned (first ∷ [])) (without_turned history) entry (contained_stays_without_turned history entry stays later)
 ])

@@ -98,5 +98,5 @@ all_in_range : (g : Graph) (history : List Entry) → AcceptsAll g history → A
 all_in_range g [] accepts = All-nil IsInRange
 all_in_range g (entry ∷ history) accepts = All-cons IsInRange entry history (accepted_in_range g entry accepts.0) (all_in_range (after_entry g entry) history accepts.1)
 
-pub board_held : (heap : Heap) (history : List Entry) (number : ℕ) → IsObjectLegal heap history → (graph_seat (graph_of heap history) number).left ≡ false → register_value (graph_of heap history) number 0 ≡ Object Board
-board_held heap history number legal left = board_after_all (opening heap) number history (all_in_range (opening heap) history legal) (board_opens heap number) left
+pub first_register_holds_board : (heap : Heap) (history : List Entry) (number : ℕ) → IsObjectLegal heap history → (graph_seat (graph_of heap history) number).left ≡ false → register_value (graph_of heap history) number 0 ≡ Object Board
+first_register_holds_board heap history number legal left = board_after_all (opening heap) number history (all_in_range (opening heap) history legal) (board_opens heap number) left

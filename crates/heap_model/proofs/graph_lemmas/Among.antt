@@ -23,13 +23,13 @@ not_around (Made number n) (Made t m) (inr x) (inl y) = omega (arith, x.0, y)
 not_around (Made number n) (Made t m) (inr x) (inr y) = omega (arith, x.1, y.1)
 
 -- lists in order with the same ids are equal
-pub same_ids : (xs ys : List Id) → AllPairs IsBefore xs → AllPairs IsBefore ys → ((id : Id) → Contains xs id → Contains ys id) → ((id : Id) → Contains ys id → Contains xs id) → xs ≡ ys
-same_ids [] [] p other there back = refl
-same_ids [] (y ∷ ys) p other there back = absurd (let h = back y (contains_head y ys) in omega (arith, h.1))
-same_ids (x ∷ xs) [] p other there back = absurd (let h = there x (contains_head x xs) in omega (arith, h.1))
-same_ids (x ∷ xs) (y ∷ ys) p other there back =
+pub ordered_same_ids_equal : (xs ys : List Id) → AllPairs IsBefore xs → AllPairs IsBefore ys → ((id : Id) → Contains xs id → Contains ys id) → ((id : Id) → Contains ys id → Contains xs id) → xs ≡ ys
+ordered_same_ids_equal [] [] p other there back = refl
+ordered_same_ids_equal [] (y ∷ ys) p other there back = absurd (let h = back y (contains_head y ys) in omega (arith, h.1))
+ordered_same_ids_equal (x ∷ xs) [] p other there back = absurd (let h = there x (contains_head x xs) in omega (arith, h.1))
+ordered_same_ids_equal (x ∷ xs) (y ∷ ys) p other there back =
     let head : x ≡ y = heads (contains_cases y ys x (there x (contains_head x xs))) (contains_cases x xs y (back y (contains_head y ys))) in
-    let tail : xs ≡ ys = same_ids xs ys (pairs_tail IsBefore x xs p) (pairs_tail IsBefore y ys other)
+    let tail : xs ≡ ys = ordered_same_ids_equal xs ys (pairs_tail IsBefore x xs p) (pairs_tail IsBefore y ys other)
     (λ id h. onward id h (contains_cases y ys id (there id (contains_tail x xs id h))) head) (λ id h. backward id h (contains_cases x xs id (back id (contains_tail y ys id h))) head) in
     cc (head, tail)
   where
@@ -70,8 +70,8 @@ is_set None h = cc h
 is_set (Some b) h = ap Some h
 
 -- at the end of a search the marked ones of the ids are the reached ones
-pub among_marked : (g : Graph) (walk : Search) (ids : List Id) → IsSearch g walk → walk.waiting ≡ [] → AreReachedAmong g ids (filter (is_marked walk.marks) ids)
-among_marked g walk ids search none = record {
+pub marked_are_reached_among : (g : Graph) (walk : Search) (ids : List Id) → IsSearch g walk → walk.waiting ≡ [] → AreReachedAmong g ids (filter (is_marked walk.marks) ids)
+marked_are_reached_among g walk ids search none = record {
   once = AllPairs-filter (λ id later. id ≢ later) (is_marked walk.marks) ids;
   reached = λ id. (
     λ c. let kept = kept_passes (is_marked walk.marks) ids id c in (kept.0, search.reached id (is_set (mark_of walk.marks id) kept.1)),

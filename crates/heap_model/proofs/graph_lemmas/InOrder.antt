@@ -63,10 +63,10 @@ put_in x (y ∷ ys) ordered new = elim (order_cases x y) [
     behind after z (inl same) = subst (IsBefore y) same after
     behind after z (inr held) = pairs_head IsBefore y ys z ordered held
 
-pub in_order : (ids : List Id) → AllPairs (λ id later. id ≢ later) ids → (ordered : List Id) × IsPermutation ids ordered × AllPairs IsBefore ordered
-in_order [] once = ([], IsPermutation-refl [], λ i j d lt within. absurd (omega (arith, within)))
-in_order (x ∷ xs) once =
-    let rest = in_order xs (pairs_tail (λ id later. id ≢ later) x xs once) in
+pub ids_can_be_ordered : (ids : List Id) → AllPairs (λ id later. id ≢ later) ids → (ordered : List Id) × IsPermutation ids ordered × AllPairs IsBefore ordered
+ids_can_be_ordered [] once = ([], IsPermutation-refl [], λ i j d lt within. absurd (omega (arith, within)))
+ids_can_be_ordered (x ∷ xs) once =
+    let rest = ids_can_be_ordered xs (pairs_tail (λ id later. id ≢ later) x xs once) in
     let new : Contains rest.0 x → ⊥ = λ held. pairs_head (λ id later. id ≢ later) x xs x once (Contains-permutation rest.0 xs x (IsPermutation-sym xs rest.0 rest.1) held) refl in
     let put = put_in x rest.0 rest.2 new in
     (put.0, IsPermutation-trans (x ∷ xs) (x ∷ rest.0) put.0 (IsPermutation-cons x xs rest.0 rest.1) put.1, put.2)

@@ -98,15 +98,15 @@ there_by_length (x ∷ xs) (y ∷ ys) zero same = refl
 there_by_length (x ∷ xs) (y ∷ ys) (suc i) same = there_by_length xs ys i (omega (arith, same))
 
 -- marks that are as many stand at the same ids
-pub marks_by_counts : (old new : Marking) → mark_counts new ≡ mark_counts old → (id : Id) → is_some (mark_of new id) ≡ is_some (mark_of old id)
-marks_by_counts old new same Board = refl
-marks_by_counts old new same (Made number count) =
+pub equal_counts_same_marks : (old new : Marking) → mark_counts new ≡ mark_counts old → (id : Id) → is_some (mark_of new id) ≡ is_some (mark_of old id)
+equal_counts_same_marks old new same Board = refl
+equal_counts_same_marks old new same (Made number count) =
     there_by_length (marks_of new number) (marks_of old number) count (sym (get_or-map length new.seats number []) ∙ ap (λ counts. get_or counts number 0) same ∙ get_or-map length old.seats number [])
 
 -- where there is a mark for each object, there is one for the object of each id
-pub marks_there : (g : Graph) (m : Marking) → HasMarks g m → (id : Id) → is_some (mark_of m id) ≡ is_some (node g id)
-marks_there g m same Board = refl
-marks_there g m same (Made number count) =
+pub mark_stands_where_node : (g : Graph) (m : Marking) → HasMarks g m → (id : Id) → is_some (mark_of m id) ≡ is_some (node g id)
+mark_stands_where_node g m same Board = refl
+mark_stands_where_node g m same (Made number count) =
     there_by_length (marks_of m number) (graph_seat g number).objects count
     (sym (get_or-map length m.seats number []) ∙ ap (λ counts. get_or counts number 0) same ∙ get_or-map (λ (seat : GraphSeat). length seat.objects) g.seats number absent_graph_seat)
 

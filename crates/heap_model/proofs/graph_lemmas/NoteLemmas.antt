@@ -24,26 +24,26 @@ pub record HasNoted {A : Type 0} (value : A → Value) (Leads : Id → Type 0) (
   pub found : All (λ x. IsFound now.marks (value x)) noted
 
 -- and so it has once the next one's value is noted
-pub notes_next : {A : Type 0} (value : A → Value) (Leads : Id → Type 0) (xs : List A) (i : ℕ) (d : A) {old now new : Search} → i < length xs → ((id : Id) → value (get_or xs i d) ≡ Object id → Leads id)
+pub has_noted_next : {A : Type 0} (value : A → Value) (Leads : Id → Type 0) (xs : List A) (i : ℕ) (d : A) {old now new : Search} → i < length xs → ((id : Id) → value (get_or xs i d) ≡ Object id → Leads id)
     → HasNoted value Leads old now (take i xs) → GoesOn (λ id. value (get_or xs i d) ≡ Object id) now new → IsFound new.marks (value (get_or xs i d)) → HasNoted value Leads old new (take (i + 1) xs)
-notes_next value Leads xs i d {old} {now} {new} within leads before on here = record {
+has_noted_next value Leads xs i d {old} {now} {new} within leads before on here = record {
   goes_on = GoesOn-trans before.goes_on (GoesOn-weaker leads on);
   found = All-more (λ x. IsFound new.marks (value x)) xs i d within
       (All-weaker (λ x. IsFound now.marks (value x)) (λ x. IsFound new.marks (value x)) (λ x. IsFound-stays on (value x)) (take i xs) before.found) here;
 }
 
 -- a register holds what it leads to, and so does a cell
-pub register_leads : (seat : GraphSeat) (values : List Value) (i : ℕ) (d : Value) → values ≡ seat.registers → i < length values → (id : Id) → get_or values i d ≡ Object id → IsRegistered seat id
-register_leads seat values i d same within id is = subst (λ xs. Contains xs (Object id)) same (subst (Contains values) is (Contains-get_or values i d within))
+pub register_lead_is_registered : (seat : GraphSeat) (values : List Value) (i : ℕ) (d : Value) → values ≡ seat.registers → i < length values → (id : Id) → get_or values i d ≡ Object id → IsRegistered seat id
+register_lead_is_registered seat values i d same within id is = subst (λ xs. Contains xs (Object id)) same (subst (Contains values) is (Contains-get_or values i d within))
 
-pub cell_leads : (object : Node) (cells : List Cell) (i : ℕ) (d : Cell) → cells ≡ object.cells → i < length cells → (id : Id) → (get_or cells i d).value ≡ Object id → PointsTo object id
-cell_leads object cells i d same within id is = subst (Any (λ cell. cell.value ≡ Object id)) same (Any-get_or (λ cell. cell.value ≡ Object id) cells i d within is)
+pub cell_lead_is_pointed_to : (object : Node) (cells : List Cell) (i : ℕ) (d : Cell) → cells ≡ object.cells → i < length cells → (id : Id) → (get_or cells i d).value ≡ Object id → PointsTo object id
+cell_lead_is_pointed_to object cells i d same within id is = subst (Any (λ cell. cell.value ≡ Object id)) same (Any-get_or (λ cell. cell.value ≡ Object id) cells i d within is)
 
 pub GoesOn-seat : (g : Graph) (i : ℕ) (seat : GraphSeat) {a b c : Search} → i < length g.seats → seat ≡ get_or g.seats i seat → GoesOn (IsRoot g) a b → GoesOn (IsRegistered seat) b c → GoesOn (IsRoot g) a c
 GoesOn-seat g i seat within is before on =
     GoesOn-trans before (GoesOn-weaker (λ id held. Any-get_or (λ x. IsRegistered x id) g.seats i seat within (subst (λ x. IsRegistered x id) is held)) on)
 
-pub found_seat : {P : Id → Type 0} (seats : List GraphSeat) (i : ℕ) (seat : GraphSeat) {b c : Search} → i < length seats → seat ≡ get_or seats i seat → GoesOn P b c → All (FoundFromSeat b.marks) (take i seats) → FoundFromSeat c.marks seat → All (FoundFromSeat c.marks) (take (i + 1) seats)
-found_seat seats i seat {b} {c} within is on before here =
+pub found_from_seats : {P : Id → Type 0} (seats : List GraphSeat) (i : ℕ) (seat : GraphSeat) {b c : Search} → i < length seats → seat ≡ get_or seats i seat → GoesOn P b c → All (FoundFromSeat b.marks) (take i seats) → FoundFromSeat c.marks seat → All (FoundFromSeat c.marks) (take (i + 1) seats)
+found_from_seats seats i seat {b} {c} within is on before here =
     All-more (FoundFromSeat c.marks) seats i seat within
     (All-weaker (FoundFromSeat b.marks) (FoundFromSeat c.marks) (FoundFromSeat-stays on) (take i seats) before) (subst (FoundFromSeat c.marks) is here)

@@ -10,7 +10,7 @@ use Rattle.heap_model.specs.graph.Objects.{graph_seat}
 use Rattle.heap_model.specs.graph.Graph.{Graph}
 use Rattle.heap_model.specs.graph.Reach.{IsBefore}
 use Rattle.heap_model.specs.graph.Marking.{Marking, HasMark, HasMarks, IsListed}
-use Rattle.heap_model.proofs.graph_lemmas.MarkLemmas.{marks_there}
+use Rattle.heap_model.proofs.graph_lemmas.MarkLemmas.{mark_stands_where_node}
 
 -- the next place after this one, in its seat
 abbrev pub next_place : Id → Id
@@ -93,7 +93,7 @@ IsListed-seat g m number ids objects listed = record {
     within : (t count : ℕ) → t ≡ number → HasMark m (Made t count) → count < end
     within t count here marked = elim (cases_lt count end) [
       | inl inside ↦ inside
-      | inr past ↦ absurd (false-true (ap is_some (sym (slice_get_past (graph_seat g number).objects count past)) ∙ subst (λ x. is_some (slice_get (graph_seat g x).objects count) ≡ true) here (sym (marks_there g m objects (Made t count)) ∙ ap is_some marked)))
+      | inr past ↦ absurd (false-true (ap is_some (sym (slice_get_past (graph_seat g number).objects count past)) ∙ subst (λ x. is_some (slice_get (graph_seat g x).objects count) ≡ true) here (sym (mark_stands_where_node g m objects (Made t count)) ∙ ap is_some marked)))
     ]
 
     earlier : (id : Id) → HasMark m id → IsBefore id (Made (number + 1) 0) → IsBefore id (Made number end)

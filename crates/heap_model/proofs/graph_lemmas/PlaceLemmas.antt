@@ -10,8 +10,8 @@ use Rattle.heap_model.proofs.graph_lemmas.FoundLemmas.{added}
 use Rattle.heap_model.proofs.graph_lemmas.MarkLemmas.{unmarked-with_mark, mark_counts-with_mark}
 
 -- a place is left for an object that is marked now
-pub place_left : (m : Marking) (id : Id) (waiting places capacity : ℕ) → mark_of m id ≡ Some false → HasPlaces m waiting places capacity → waiting < capacity
-place_left m id waiting places capacity fresh has = omega (arith, unmarked-with_mark m id fresh, has.left, has.room)
+pub marking_leaves_a_place : (m : Marking) (id : Id) (waiting places capacity : ℕ) → mark_of m id ≡ Some false → HasPlaces m waiting places capacity → waiting < capacity
+marking_leaves_a_place m id waiting places capacity fresh has = omega (arith, unmarked-with_mark m id fresh, has.left, has.room)
 
 -- there are as many marks as the counts say
 all_by_counts : (old new : Marking) → mark_counts new ≡ mark_counts old → all_marks new ≡ all_marks old

@@ -14,7 +14,7 @@ use Rattle.heap_model.specs.graph.Reach.{IsRoot, IsRegistered, PointsTo, Points,
 use Rattle.heap_model.specs.graph.Search.{Search, GoesOn, FoundFromSeat, FoundFromObject, IsSearch}
 use Rattle.heap_model.specs.graph.Marking.{Marking, mark_of, with_mark, HasMark, IsFound, HasMarks, IsListed, no_marks}
 use Rattle.heap_model.proofs.graph_lemmas.Heads.{contains_cases, contains_head, contains_tail}
-use Rattle.heap_model.proofs.graph_lemmas.MarkLemmas.{with_mark-here, with_mark-other, unmarked-with_mark, mark_counts-with_mark, mark_counts-no_marks, marks_by_counts, marks_there, IsMarked-no_marks}
+use Rattle.heap_model.proofs.graph_lemmas.MarkLemmas.{with_mark-here, with_mark-other, unmarked-with_mark, mark_counts-with_mark, mark_counts-no_marks, equal_counts_same_marks, mark_stands_where_node, IsMarked-no_marks}
 
 pub GoesOn-trans : {P : Id → Type 0} {a b c : Search} → GoesOn P a b → GoesOn P b c → GoesOn P a c
 GoesOn-trans {P} {a} {b} {c} first then = record {
@@ -78,7 +78,7 @@ IsFound-note m {new} {value} id is fresh noting =
 pub IsFound-stays : {P : Id → Type 0} {a b : Search} → GoesOn P a b → (value : Value) → IsFound a.marks value → IsFound b.marks value
 IsFound-stays on Nil found = tt
 IsFound-stays on (Number n) found = tt
-IsFound-stays {P} {a} {b} on (Object id) found = λ there. on.marked_stay id (found (sym (marks_by_counts a.marks b.marks on.marks_stay id) ∙ there))
+IsFound-stays {P} {a} {b} on (Object id) found = λ there. on.marked_stay id (found (sym (equal_counts_same_marks a.marks b.marks on.marks_stay id) ∙ there))
 
 pub FoundFromSeat-stays : {P : Id → Type 0} {a b : Search} → GoesOn P a b → (seat : GraphSeat) → FoundFromSeat a.marks seat → FoundFromSeat b.marks seat
 FoundFromSeat-stays {P} {a} {b} on seat found = All-weaker (IsFound a.marks) (IsFound b.marks) (IsFound-stays on) seat.registers found
@@ -89,7 +89,7 @@ FoundFromObject-stays {P} {a} {b} on object found =
 
 -- an object whose mark is there was made
 made_of_marked : (g : Graph) (m : Marking) (id : Id) → HasMarks g m → HasMark m id → IsSome (node g id)
-made_of_marked g m id objects marked = sym (marks_there g m objects id) ∙ ap is_some marked
+made_of_marked g m id objects marked = sym (mark_stands_where_node g m objects id) ∙ ap is_some marked
 
 -- a search that went on from the seats alone
 pub IsSearch-start : (g : Graph) (walk : Search) → GoesOn (IsRoot g) (record { marks = no_marks (made_counts g); waiting = [] }) walk → All (FoundFromSeat walk.marks) g.seats → IsSearch g walk
@@ -148,7 +148,7 @@ pub IsMarked-reached : (g : Graph) (walk : Search) → IsSearch g walk → walk.
 IsMarked-reached g walk is none _ (from_register id made root) =
     let seat = Any-All (λ seat. IsRegistered seat id) (FoundFromSeat walk.marks) g.seats root is.from_seats in
     let held = seat.1 in
-    subst (IsFound walk.marks) held.2 (seat.2 held.0 (Object id) held.1) (marks_there g walk.marks is.objects id ∙ made)
+    subst (IsFound walk.marks) held.2 (seat.2 held.0 (Object id) held.1) (mark_stands_where_node g walk.marks is.objects id ∙ made)
 IsMarked-reached g walk is none _ (from_cell id made holder reached points) =
     let marked = IsMarked-reached g walk is none holder reached in
     elim (is.from_objects holder marked) [
@@ -160,7 +160,7 @@ IsMarked-reached g walk is none _ (from_cell id made holder reached points) =
     pointed_at None some all = absurd some
     pointed_at (Some object) some all =
         let cell = Any-All (λ cell. cell.value ≡ Object id) (λ cell. IsFound walk.marks cell.value) object.cells some all in
-        found_object walk.marks cell.0.value id cell.1 cell.2 (marks_there g walk.marks is.objects id ∙ made)
+        found_object walk.marks cell.0.value id cell.1 cell.2 (mark_stands_where_node g walk.marks is.objects id ∙ made)
 
 -- a made object is before all those of a seat past the last
 before_end : (g : Graph) (id : Id) → IsSome (node g id) → IsBefore id (Made (length g.seats) 0)

@@ -26,8 +26,8 @@ counts_by walk [] = refl
 counts_by walk (row ∷ rows) = cc (length-map row (λ n. eqb n walk), counts_by walk rows)
 
 -- so none is set on the next walk
-pub none_on_next : (walk mark : ℕ) (rows : List (List ℕ)) → AreOfWalks walk mark rows → marking_by (walk + 1) mark rows ≡ no_marks (mark_counts (marking_by walk mark rows))
-none_on_next walk mark rows are = cc (
+pub next_walk_has_no_marks : (walk mark : ℕ) (rows : List (List ℕ)) → AreOfWalks walk mark rows → marking_by (walk + 1) mark rows ≡ no_marks (mark_counts (marking_by walk mark rows))
+next_walk_has_no_marks walk mark rows are = cc (
   ne_eqb mark (walk + 1) (λ h. omega (arith, h, are.board)),
   rows_unset walk (walk + 1) rows (omega arith) (recursion_from_All (All (λ n. n ≤ walk)) rows are.seats),
   counts_by walk rows,
@@ -58,11 +58,11 @@ rows_of_zeros f [] = refl
 rows_of_zeros f (x ∷ xs) = cc (row_of_zeros (f x), rows_of_zeros f xs)
 
 -- and none of them is set
-pub none_of_zeros : {A : Type 0} (f : A → ℕ) (xs : List A) → marking_by 1 0 (map (λ x. replicate (f x) 0) xs) ≡ no_marks (map f xs)
-none_of_zeros f xs = ap (λ rows. record { board = false; seats = rows }) (rows_of_zeros f xs)
+pub zeros_are_no_marks : {A : Type 0} (f : A → ℕ) (xs : List A) → marking_by 1 0 (map (λ x. replicate (f x) 0) xs) ≡ no_marks (map f xs)
+zeros_are_no_marks f xs = ap (λ rows. record { board = false; seats = rows }) (rows_of_zeros f xs)
 
-pub none_set_anew : (walk mark : ℕ) (rows : List (List ℕ)) → marking_by 1 0 (map zeros rows) ≡ no_marks (mark_counts (marking_by walk mark rows))
-none_set_anew walk mark rows = none_of_zeros length rows ∙ ap no_marks (sym (counts_by walk rows))
+pub anew_has_no_marks : (walk mark : ℕ) (rows : List (List ℕ)) → marking_by 1 0 (map zeros rows) ≡ no_marks (mark_counts (marking_by walk mark rows))
+anew_has_no_marks walk mark rows = zeros_are_no_marks length rows ∙ ap no_marks (sym (counts_by walk rows))
 
 -- one more mark of no walk is one more that isn't set
 pub marking_by-added : (walk mark : ℕ) (rows : List (List ℕ)) (number : ℕ) → 1 ≤ walk → marking_by walk mark (set rows number (get_or rows number [] ++ 0 ∷ [])) ≡ added (marking_by walk mark rows) number
@@ -75,8 +75,8 @@ marking_by-added walk mark rows number begun =
     )
 
 -- where there is no such seat, nothing is more
-pub added-past : (m : Marking) (number : ℕ) → length m.seats ≤ number → added m number ≡ m
-added-past m number past = ap (λ rows. record m { seats = rows }) (set_past m.seats number (marks_of m number ++ false ∷ []) past)
+pub added_past_seats_same : (m : Marking) (number : ℕ) → length m.seats ≤ number → added m number ≡ m
+added_past_seats_same m number past = ap (λ rows. record m { seats = rows }) (set_past m.seats number (marks_of m number ++ false ∷ []) past)
 
 -- a mark that this walk sets is set
 marking_by-marked : (walk mark : ℕ) (rows : List (List ℕ)) (number count : ℕ) → marking_by walk mark (set rows number (set (get_or rows number []) count walk)) ≡ with_mark (marking_by walk mark rows) (Made number count)

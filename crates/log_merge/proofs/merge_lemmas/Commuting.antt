@@ -11,7 +11,7 @@ use Rattle.heap_model.specs.graph.Objects.{graph_seat, absent_graph_seat}
 use Rattle.heap_model.specs.graph.Graph.{Node, GraphSeat, Graph, fresh}
 use Rattle.heap_model.specs.graph.Changes.{with_cell, with_object_cell, write}
 use Rattle.log_merge.proofs.merge_lemmas.Changes.{Change, grown, seat_changed, changed}
-use Rattle.log_merge.proofs.merge_lemmas.Places.{IsKnown, seat_there, IsKnown-seat_changed}
+use Rattle.log_merge.proofs.merge_lemmas.Places.{IsKnown, object_seat_is_there, IsKnown-seat_changed}
 
 -- the list with the element at a place put through a function
 abbrev updated : {A : Type 0} → List A → ℕ → A → (A → A) → List A
@@ -56,7 +56,7 @@ write-seat_changed g q c (Object (Made other count)) i cell known = elim (cases_
   | inr apart ↦ with_seats g _ _ (updated_apart g.seats q other absent_graph_seat (λ u. grown u c) (λ u. with_object_cell u count i cell) apart)
   | inl same ↦ (
       let P : ℕ → Type 0 = λ n. write (seat_changed g n c) (Object (Made other count)) i cell ≡ seat_changed (write g (Object (Made other count)) i cell) n c in
-      subst P (sym same) (with_seats g _ _ (updated_both g.seats other absent_graph_seat (λ u. grown u c) (λ u. with_object_cell u count i cell) (seat_there g other count known)
+      subst P (sym same) (with_seats g _ _ (updated_both g.seats other absent_graph_seat (λ u. grown u c) (λ u. with_object_cell u count i cell) (object_seat_is_there g other count known)
       (sym (grown-with_object_cell (graph_seat g other) count i cell c known)))))
 ]
 
@@ -94,14 +94,14 @@ write_comm g (Object (Made s m)) (Object (Made t n)) i j c d known apart = elim 
   | inl same ↦ (
       let P : ℕ → Type 0 = λ k. write (write g (Object (Made s m)) i c) (Object (Made k n)) j d ≡ write (write g (Object (Made k n)) j d) (Object (Made s m)) i c in
       let cells : m ≡ n → i ≡ j → ⊥ = λ counts indices. apart (Made s m) refl (ap (λ x. Object (Made x n)) (sym same) ∙ ap (λ x. Object (Made s x)) (sym counts)) indices in
-      subst P same (with_seats g _ _ (updated_both g.seats s absent_graph_seat (λ u. with_object_cell u m i c) (λ u. with_object_cell u n j d) (seat_there g s m known)
+      subst P same (with_seats g _ _ (updated_both g.seats s absent_graph_seat (λ u. with_object_cell u m i c) (λ u. with_object_cell u n j d) (object_seat_is_there g s m known)
       (with_object_cell_comm (graph_seat g s) m n i j c d known cells))))
 ]
 
 -- the two changes
-pub changed_comm : (g : Graph) (p q : ℕ) (c d : Change) → (p ≡ q → ⊥) → IsKnown g c.place → IsKnown g d.place
+pub changes_commute : (g : Graph) (p q : ℕ) (c d : Change) → (p ≡ q → ⊥) → IsKnown g c.place → IsKnown g d.place
     → ((id : Id) → c.place ≡ Object id → d.place ≡ Object id → c.index ≡ d.index → ⊥) → changed (changed g p c) q d ≡ changed (changed g q d) p c
-changed_comm g p q c d seats known others apart =
+changes_commute g p q c d seats known others apart =
     let g_p = seat_changed g p c in
     let g_q = seat_changed g q d in
     ap (λ h. write h d.place d.index d.cell) (sym (write-seat_changed g_p q d c.place c.index c.cell (IsKnown-seat_changed g p c c.place known)))

@@ -31,36 +31,36 @@ use Rattle.log_merge.specs.Merging.{part_of}
 use Rattle.log_merge.specs.PendingGets.{is_kind, kind_order}
 use Rattle.log_merge.specs.Registers.{registers_after, registers_of, get_of, gets_in}
 use Rattle.log_merge.proofs.merge_lemmas.Changes.{Own, own, change_of, after_reply-changed, own-changed}
-use Rattle.log_merge.proofs.merge_lemmas.Kinds.{tied_kinds, tied_itself}
-use Rattle.log_merge.proofs.merge_lemmas.Finding.{present_within, own-after_other}
+use Rattle.log_merge.proofs.merge_lemmas.Kinds.{tied_kinds_are_equal, kind_is_tied_with_itself}
+use Rattle.log_merge.proofs.merge_lemmas.Finding.{present_seat_is_there, own_seat_stays_by_other}
 use Rattle.log_merge.proofs.merge_lemmas.Parts.{filter-yes, filter-no, part_of-seat}
 use Rattle.log_merge.proofs.merge_lemmas.Rests.{not_of}
 
 -- sums that differ nowhere
-pub sums_same : (f h : ℕ → ℕ) (from count : ℕ) → ((n : ℕ) → from ≤ n → n < from + count → h n ≡ f n) → sum_by h (range_with_len from count) ≡ sum_by f (range_with_len from count)
-sums_same f h from zero same = refl
-sums_same f h from (suc count) same =
+pub sum_of_same_parts : (f h : ℕ → ℕ) (from count : ℕ) → ((n : ℕ) → from ≤ n → n < from + count → h n ≡ f n) → sum_by h (range_with_len from count) ≡ sum_by f (range_with_len from count)
+sum_of_same_parts f h from zero same = refl
+sum_of_same_parts f h from (suc count) same =
     let first : h from ≡ f from = same from (omega arith) (omega arith) in
-    let rest = sums_same f h (from + 1) count (λ n above within. same n (omega (arith, above)) (omega (arith, within))) in
+    let rest = sum_of_same_parts f h (from + 1) count (λ n above within. same n (omega (arith, above)) (omega (arith, within))) in
     let one = sum_by-cons f from (range_with_len (from + 1) count) in
     let other = sum_by-cons h from (range_with_len (from + 1) count) in
     omega (arith, first, rest, one, other)
 
 -- sums that differ at one place
-pub sum_one : (f h : ℕ → ℕ) (from count at more : ℕ) → ((n : ℕ) → n < from + count → (n ≡ at → ⊥) → h n ≡ f n) → h at ≡ f at + more → from ≤ at → at < from + count
+pub sum_grows_at_one : (f h : ℕ → ℕ) (from count at more : ℕ) → ((n : ℕ) → n < from + count → (n ≡ at → ⊥) → h n ≡ f n) → h at ≡ f at + more → from ≤ at → at < from + count
     → sum_by h (range_with_len from count) ≡ sum_by f (range_with_len from count) + more
-sum_one f h from zero at more same here above below = absurd (omega arith)
-sum_one f h from (suc count) at more same here above below =
+sum_grows_at_one f h from zero at more same here above below = absurd (omega arith)
+sum_grows_at_one f h from (suc count) at more same here above below =
     let one = sum_by-cons f from (range_with_len (from + 1) count) in
     let other = sum_by-cons h from (range_with_len (from + 1) count) in
     elim (cases_eq from at) [
       | inl equal ↦ (
           let first : h from ≡ f from + more = subst (λ n. h n ≡ f n + more) (sym equal) here in
-          let rest = sums_same f h (from + 1) count (λ n above within. same n (omega (arith, within)) (λ e. absurd (omega (arith, e, equal, above)))) in
+          let rest = sum_of_same_parts f h (from + 1) count (λ n above within. same n (omega (arith, within)) (λ e. absurd (omega (arith, e, equal, above)))) in
           omega (arith, first, rest, one, other))
       | inr apart ↦ (
           let first : h from ≡ f from = same from (omega arith) apart in
-          let rest = sum_one f h (from + 1) count at more (λ n within others. same n (omega (arith, within)) others) here (omega (arith, above, apart)) (omega (arith, below)) in
+          let rest = sum_grows_at_one f h (from + 1) count at more (λ n within others. same n (omega (arith, within)) others) here (omega (arith, above, apart)) (omega (arith, below)) in
           omega (arith, first, rest, one, other))
     ]
 
@@ -75,13 +75,13 @@ part-le-sum f from (suc count) at above below =
     ]
 
 -- a sum that isn't 0 has a part that isn't
-pub some_part : (f : ℕ → ℕ) (from count : ℕ) → 0 < sum_by f (range_with_len from count) → (at : ℕ) × (at < from + count) × (0 < f at)
-some_part f from zero more = absurd (omega (arith, more))
-some_part f from (suc count) more =
+pub positive_sum_has_part : (f : ℕ → ℕ) (from count : ℕ) → 0 < sum_by f (range_with_len from count) → (at : ℕ) × (at < from + count) × (0 < f at)
+positive_sum_has_part f from zero more = absurd (omega (arith, more))
+positive_sum_has_part f from (suc count) more =
     let one = sum_by-cons f from (range_with_len (from + 1) count) in
     elim (cases_lt 0 (f from)) [
       | inl here ↦ (from, omega arith, here)
-      | inr none ↦ (let rest = some_part f (from + 1) count (omega (arith, more, none, one)) in (rest.0, omega (arith, rest.1), rest.2))
+      | inr none ↦ (let rest = positive_sum_has_part f (from + 1) count (omega (arith, more, none, one)) in (rest.0, omega (arith, rest.1), rest.2))
     ]
 
 -- a log that has a get of a kind
@@ -102,44 +102,44 @@ HasKind-more held e es kind has = record {
 }
 
 -- a count of one more, or of none
-pub one_if : (b : Bool) → b ≡ true → let n : ℕ = cond b 1 0 in n ≡ 1
-one_if b is = ap (λ x. let n : ℕ = cond x 1 0 in n) is
+pub cond_true_is_one : (b : Bool) → b ≡ true → let n : ℕ = cond b 1 0 in n ≡ 1
+cond_true_is_one b is = ap (λ x. let n : ℕ = cond x 1 0 in n) is
 
-pub none_if : (b : Bool) → b ≡ false → let n : ℕ = cond b 1 0 in n ≡ 0
-none_if b is = ap (λ x. let n : ℕ = cond x 1 0 in n) is
+pub cond_false_is_none : (b : Bool) → b ≡ false → let n : ℕ = cond b 1 0 in n ≡ 0
+cond_false_is_none b is = ap (λ x. let n : ℕ = cond x 1 0 in n) is
 
-pub counted_first : (kind k : PendingGet) (rest : List PendingGet) → count_by (is_kind kind) (k ∷ rest) ≡ cond (is_kind kind k) 1 0 + count_by (is_kind kind) rest
-counted_first kind k rest = sum_by-cons (λ (x : PendingGet). cond (is_kind kind x) 1 0) k rest
+pub count_of_first_and_rest : (kind k : PendingGet) (rest : List PendingGet) → count_by (is_kind kind) (k ∷ rest) ≡ cond (is_kind kind k) 1 0 + count_by (is_kind kind) rest
+count_of_first_and_rest kind k rest = sum_by-cons (λ (x : PendingGet). cond (is_kind kind x) 1 0) k rest
 
 is_equal : (o : Ordering) → is_eq o ≡ true → o ≡ Equal
 is_equal Less is = absurd cc
 is_equal Equal is = refl
 is_equal Greater is = absurd cc
 
-pub same_kind : (a b : PendingGet) → is_kind a b ≡ true → a ≡ b
-same_kind a b tied = tied_kinds a b (is_equal (kind_order a b) tied)
+pub equal_kinds_are_same : (a b : PendingGet) → is_kind a b ≡ true → a ≡ b
+equal_kinds_are_same a b tied = tied_kinds_are_equal a b (is_equal (kind_order a b) tied)
 
 first_counted : (held : List Value) (e : Entry) (es : List Entry) (kind : PendingGet) (o : Option PendingGet) → get_of held e ≡ o
     → (0 < count_by (is_kind kind) (gets_in (registers_after held e) es) → HasKind (registers_after held e) es kind)
     → 0 < count_by (is_kind kind) (option_to_list o ++ gets_in (registers_after held e) es) → HasKind held (e ∷ es) kind
 first_counted held e es kind None is more some = HasKind-more held e es kind (more some)
 first_counted held e es kind (Some k) is more some =
-    let first = counted_first kind k (gets_in (registers_after held e) es) in
+    let first = count_of_first_and_rest kind k (gets_in (registers_after held e) es) in
     elim (cases_Bool (is_kind kind k)) [
-      | inl tied ↦ record { earlier = []; entry = e; later = es; parted = refl; is = is ∙ ap Some (sym (same_kind kind k tied)) }
-      | inr apart ↦ HasKind-more held e es kind (more (let none = none_if (is_kind kind k) apart in omega (arith, some, none, first)))
+      | inl tied ↦ record { earlier = []; entry = e; later = es; parted = refl; is = is ∙ ap Some (sym (equal_kinds_are_same kind k tied)) }
+      | inr apart ↦ HasKind-more held e es kind (more (let none = cond_false_is_none (is_kind kind k) apart in omega (arith, some, none, first)))
     ]
 
 pub HasKind-counted : (held : List Value) (es : List Entry) (kind : PendingGet) → 0 < count_by (is_kind kind) (gets_in held es) → HasKind held es kind
 HasKind-counted held [] kind some = absurd (omega (arith, some))
 HasKind-counted held (e ∷ es) kind some = first_counted held e es kind (get_of held e) refl (HasKind-counted (registers_after held e) es kind) some
 
-pub counted-HasKind : (held : List Value) (earlier later : List Entry) (e : Entry) (kind : PendingGet) → get_of (fold registers_after held earlier) e ≡ Some kind → 0 < count_by (is_kind kind) (gets_in held (earlier ++ e ∷ later))
-counted-HasKind held [] later e kind is =
+pub kept_kind_is_counted : (held : List Value) (earlier later : List Entry) (e : Entry) (kind : PendingGet) → get_of (fold registers_after held earlier) e ≡ Some kind → 0 < count_by (is_kind kind) (gets_in held (earlier ++ e ∷ later))
+kept_kind_is_counted held [] later e kind is =
     subst (λ o. 0 < count_by (is_kind kind) (option_to_list o ++ gets_in (registers_after held e) later)) (sym is)
-    (let one = one_if (is_kind kind kind) (tied_itself kind) in let first = counted_first kind kind (gets_in (registers_after held e) later) in omega (arith, one, first))
-counted-HasKind held (x ∷ earlier) later e kind is =
-    let rest = counted-HasKind (registers_after held x) earlier later e kind is in
+    (let one = cond_true_is_one (is_kind kind kind) (kind_is_tied_with_itself kind) in let first = count_of_first_and_rest kind kind (gets_in (registers_after held e) later) in omega (arith, one, first))
+kept_kind_is_counted held (x ∷ earlier) later e kind is =
+    let rest = kept_kind_is_counted (registers_after held x) earlier later e kind is in
     let all = sum_by-append (λ (k : PendingGet). cond (is_kind kind k) 1 0) (option_to_list (get_of held x)) (gets_in (registers_after held x) (earlier ++ e ∷ later)) in
     omega (arith, rest, all)
 
@@ -167,7 +167,7 @@ registers_step : (g : Graph) (e : Entry) (number : ℕ) → Accepts g e → is_o
 registers_step g (entries.Said other command reply) number accepts is =
     subst (λ n. (own (after_reply g other command reply) n).registers ≡ registers_after (own g n).registers (entries.Said other command reply)) (eqb-true other number is)
     (ap (λ h. (own h other).registers) (after_reply-changed g other command reply)
-    ∙ ap (λ (o : Own). o.registers) (own-changed g other (change_of (own g other) other command reply) (present_within g other accepts.0))
+    ∙ ap (λ (o : Own). o.registers) (own-changed g other (change_of (own g other) other command reply) (present_seat_is_there g other accepts.0))
     ∙ registers_said (own g other) other command reply (next_made g other command reply accepts.2))
 registers_step g _ number accepts is = refl
 
@@ -177,13 +177,13 @@ registers_history (e ∷ es) g number accepts = elim (cases_Bool (is_of number e
   | inl mine ↦ registers_history es (after_entry g e) number accepts.1 ∙ ap (λ held. fold registers_after held (filter (is_of number) es)) (registers_step g e number accepts.0 mine)
       ∙ ap (fold registers_after (own g number).registers) (sym (filter-yes (is_of number) e es mine))
   | inr other ↦ registers_history es (after_entry g e) number accepts.1
-      ∙ ap (λ (o : Own). fold registers_after o.registers (filter (is_of number) es)) (own-after_other g e number (not_of number e other))
+      ∙ ap (λ (o : Own). fold registers_after o.registers (filter (is_of number) es)) (own_seat_stays_by_other g e number (not_of number e other))
       ∙ ap (fold registers_after (own g number).registers) (sym (filter-no (is_of number) e es other))
 ]
 
 -- from the opening on
-pub registers_shown : (heap : Heap) (es : List Entry) (number : ℕ) → AcceptsAll (opening heap) es → number < heap.seats → (own (graph_of heap es) number).registers ≡ registers_of (part_of heap number es)
-registers_shown heap es number accepts within =
+pub own_registers_are_shown : (heap : Heap) (es : List Entry) (number : ℕ) → AcceptsAll (opening heap) es → number < heap.seats → (own (graph_of heap es) number).registers ≡ registers_of (part_of heap number es)
+own_registers_are_shown heap es number accepts within =
     registers_history es (opening heap) number accepts
     ∙ ap (λ held. fold registers_after held (filter (is_of number) es)) (ap (λ (s : GraphSeat). s.registers) (get_or-replicate heap.seats number opening_graph_seat absent_graph_seat within))
     ∙ ap registers_of (sym (part_of-seat heap number es within))

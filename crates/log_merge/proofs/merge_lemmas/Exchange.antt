@@ -18,10 +18,10 @@ use Rattle.heap_model.specs.graph.Replies.{Says, Makes, MakesArray, Gets, Sets, 
 use Rattle.heap_model.specs.graph.Legal.{Accepts, AcceptsAll, IsPresent}
 use Rattle.log_merge.proofs.merge_lemmas.Changes.{Own, own, change_of, changed, after_reply-changed, own-changed_other}
 use Rattle.log_merge.proofs.merge_lemmas.Places.{look, len, IsKnown, len-changed}
-use Rattle.log_merge.proofs.merge_lemmas.Commuting.{changed_comm}
+use Rattle.log_merge.proofs.merge_lemmas.Commuting.{changes_commute}
 use Rattle.log_merge.proofs.merge_lemmas.Sound.{IsSound}
-use Rattle.log_merge.proofs.merge_lemmas.SoundChanges.{sound_change}
-use Rattle.log_merge.proofs.merge_lemmas.Finding.{present_within, IsSound-after, own-after_other, Touches, Writes, Finds, NoGets, touches_written, written_place, look-after_other, written, IsGone, IsGone-after, IsGone-written, finds_none_gone, finds_touched}
+use Rattle.log_merge.proofs.merge_lemmas.SoundChanges.{call_changes_soundly}
+use Rattle.log_merge.proofs.merge_lemmas.Finding.{present_seat_is_there, IsSound-after, own_seat_stays_by_other, Touches, Writes, Finds, NoGets, set_cell_is_touched, changed_place_is_written, look_stays_by_other, changed_cell_is_written, IsGone, IsGone-after, IsGone-written, found_is_not_gone, touched_cell_is_found}
 
 -- the entries are of two seats, where both are of one
 abbrev pub AreApart : Entry → Entry → Type 0
@@ -75,7 +75,7 @@ abbrev DoesntDisturb : Graph → Entry → Entry → Type 0
 DoesntDisturb g a e = (value : Value) (j t : ℕ) → Writes g a value j t → Touches g e value j → ⊥
 
 others_own : (g : Graph) (a e : Entry) (number : ℕ) → AreApart e a → seat_of e ≡ Some number → own (after_entry g a) number ≡ own g number
-others_own g a e number apart is = own-after_other g a number (apart number is)
+others_own g a e number apart is = own_seat_stays_by_other g a number (apart number is)
 
 -- the other's may stand behind it as well
 accepts_after : (g : Graph) (a e : Entry) → IsSound g → Accepts g e → AreApart e a → DoesntDisturb g a e → Accepts (after_entry g a) e
@@ -84,7 +84,7 @@ accepts_after g a (entries.Said number command reply) sound accepts apart calm =
       present_same g (after_entry g a) number same accepts.0,
       accepts.1,
       says_same g (after_entry g a) number command reply same
-          (λ value j touches. look-after_other g a value j (touched_known g number command reply value j sound touches) (λ t writes. calm value j t writes touches))
+          (λ value j touches. look_stays_by_other g a value j (touched_known g number command reply value j sound touches) (λ t writes. calm value j t writes touches))
           (λ r. len-after g a (register_value g number r) (sound.registers number r)) accepts.2,
     )
   where
@@ -106,17 +106,17 @@ said_both g p q command reply other answer sound accepts others apart calm =
     let a = entries.Said q other answer in
     let c = change_of (own g p) p command reply in
     let d = change_of (own g q) q other answer in
-    let known : IsKnown g c.place = (sound_change g p command reply sound (present_within g p accepts.0) accepts.2).place in
-    let known_other : IsKnown g d.place = (sound_change g q other answer sound (present_within g q others.0) others.2).place in
+    let known : IsKnown g c.place = (call_changes_soundly g p command reply sound (present_seat_is_there g p accepts.0) accepts.2).place in
+    let known_other : IsKnown g d.place = (call_changes_soundly g q other answer sound (present_seat_is_there g q others.0) others.2).place in
     let cells : (id : Id) → d.place ≡ Object id → c.place ≡ Object id → d.index ≡ c.index → ⊥ = λ id there here index.
-    let set = written_place g q other answer id there in
-    let mine = written_place g p command reply id here in
+    let set = changed_place_is_written g q other answer id there in
+    let mine = changed_place_is_written g p command reply id here in
     let at_same : Writes g e d.place d.index mine.0 = subst (λ k. Writes g e d.place k mine.0) (sym index) (subst (λ v. Writes g e v c.index mine.0) (here ∙ sym there) mine.1) in
-    calm d.place d.index set.0 set.1 (touches_written g e d.place d.index mine.0 at_same) in
+    calm d.place d.index set.0 set.1 (set_cell_is_touched g e d.place d.index mine.0 at_same) in
     ap (λ h. after_reply h p command reply) (after_reply-changed g q other answer)
     ∙ after_reply-changed (changed g q d) p command reply
     ∙ ap (λ o. changed (changed g q d) p (change_of o p command reply)) (own-changed_other g q p d apart)
-    ∙ changed_comm g q p d c (λ e. apart (sym e)) known_other known cells
+    ∙ changes_commute g q p d c (λ e. apart (sym e)) known_other known cells
     ∙ ap (λ o. changed (changed g p c) q (change_of o q other answer)) (sym (own-changed_other g p q c (λ e. apart (sym e))))
     ∙ sym (after_reply-changed (changed g p c) q other answer)
     ∙ ap (λ h. after_reply h q other answer) (sym (after_reply-changed g p command reply))
@@ -155,36 +155,36 @@ finds_after g a _ value j t apart (inl gets) = absurd gets
 
 -- behind others' entries too, it finds nothing that is gone
 never : (g : Graph) (front back : List Entry) (e : Entry) (value : Value) (j t : ℕ) → IsSound g → IsGone g value j t → AcceptsAll g (front ++ e ∷ back) → AllApart e front → Finds g e value j t → ⊥
-never g [] back e value j t sound gone accepts apart finds = finds_none_gone g e value j t sound accepts.0 gone finds
+never g [] back e value j t sound gone accepts apart finds = found_is_not_gone g e value j t sound accepts.0 gone finds
 never g (a ∷ front) back e value j t sound gone accepts apart finds =
     never (after_entry g a) front back e value j t (IsSound-after g a sound accepts.0) (IsGone-after g a value j t sound accepts.0 gone) accepts.1 apart.1 (finds_after g a e value j t apart.0 finds)
 
 -- an entry that may stand first and last sets in no other's way, nor is one set in its own
 undisturbed : (g : Graph) (a : Entry) (front back : List Entry) (e : Entry) → IsSound g → Accepts g e → Accepts g a → AcceptsAll (after_entry g a) (front ++ e ∷ back) → AllApart e (a ∷ front) → DoesntDisturb g a e
 undisturbed g a front back e sound accepts others rest apart = λ value j t writes touches.
-    let is = written g a value j t sound others writes in
-    let finds : Finds g e value j t = subst (Finds g e value j) is.shown (finds_touched g e value j is.old accepts touches is.found) in
+    let is = changed_cell_is_written g a value j t sound others writes in
+    let finds : Finds g e value j t = subst (Finds g e value j) is.shown (touched_cell_is_found g e value j is.old accepts touches is.found) in
     never (after_entry g a) front back e value j t (IsSound-after g a sound others) (IsGone-written g a value j t sound others writes) rest apart.1 (finds_after g a e value j t apart.0 finds)
 
 disturbs_none : (g : Graph) (a e : Entry) (front : List Entry) → IsSound g → Accepts g e → Accepts g a → DoesntDisturb g a e → NoneIsDue g (a ∷ front) e → DoesntDisturb g e a
 disturbs_none g a e front sound accepts others calm due = λ value j t writes touches.
-    let is = written g e value j t sound accepts writes in
-    let finds : Finds g a value j t = subst (Finds g a value j) is.shown (finds_touched g a value j is.old others touches is.found) in
+    let is = changed_cell_is_written g e value j t sound accepts writes in
+    let finds : Finds g a value j t = subst (Finds g a value j) is.shown (touched_cell_is_found g a value j is.old others touches is.found) in
     elim finds [
       | inl gets ↦ (due value j t writes).0 gets
-      | inr sets ↦ calm value j t sets (touches_written g e value j t writes)
+      | inr sets ↦ calm value j t sets (set_cell_is_touched g e value j t writes)
     ]
 
 apart_too : (e a : Entry) → AreApart e a → AreApart a e
 apart_too e a apart = λ number is other. apart number other is
 
 -- so it may stand before them
-pub first_too : (g : Graph) (front back : List Entry) (e : Entry) → IsSound g → Accepts g e → NoneIsDue g front e → AllApart e front → AcceptsAll g (front ++ e ∷ back) → AcceptsAll (after_entry g e) (front ++ back)
-first_too g [] back e sound accepts due apart all = all.1
-first_too g (a ∷ front) back e sound accepts due apart all =
+pub accepts_all_after_first : (g : Graph) (front back : List Entry) (e : Entry) → IsSound g → Accepts g e → NoneIsDue g front e → AllApart e front → AcceptsAll g (front ++ e ∷ back) → AcceptsAll (after_entry g e) (front ++ back)
+accepts_all_after_first g [] back e sound accepts due apart all = all.1
+accepts_all_after_first g (a ∷ front) back e sound accepts due apart all =
     let h = after_entry g a in
     let calm = undisturbed g a front back e sound accepts all.0 all.1 apart in
     let quiet = disturbs_none g a e front sound accepts all.0 calm due in
-    let later = first_too h front back e (IsSound-after g a sound all.0) (accepts_after g a e sound accepts apart.0 calm)
+    let later = accepts_all_after_first h front back e (IsSound-after g a sound all.0) (accepts_after g a e sound accepts apart.0 calm)
     (λ value j t writes. (due value j t (writes_before g a e value j t apart.0 writes)).1) apart.1 all.1 in
     (accepts_after g e a sound all.0 (apart_too e a apart.0) quiet, subst (λ x. AcceptsAll x (front ++ back)) (same_graph g a e sound accepts all.0 apart.0 calm) later)

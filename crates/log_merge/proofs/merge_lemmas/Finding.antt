@@ -26,13 +26,13 @@ use Rattle.heap_model.specs.graph.Growth.{after_entry}
 use Rattle.heap_model.specs.graph.Replies.{Says, Gets, Sets}
 use Rattle.heap_model.specs.graph.Legal.{Accepts, AcceptsAll, IsPresent}
 use Rattle.log_merge.proofs.merge_lemmas.Changes.{own, change_of, after_reply-changed, own-changed_other}
-use Rattle.log_merge.proofs.merge_lemmas.Places.{look, IsKnown, look_known, same_value, look-changed_other, look-changed_same}
-use Rattle.log_merge.proofs.merge_lemmas.Sound.{IsOld, IsSoundCell, IsSound, AllOfSeat, AllCells-look, Grows, Grows-changed, holds_or, IsKnown-grows, IsOld-grows, set_found, get_found}
-use Rattle.log_merge.proofs.merge_lemmas.SoundChanges.{IsOld-none, sound_change, IsSound-changed}
+use Rattle.log_merge.proofs.merge_lemmas.Places.{look, IsKnown, found_look_is_known, values_equal_or_apart, look-changed_other, look-changed_same}
+use Rattle.log_merge.proofs.merge_lemmas.Sound.{IsOld, IsSoundCell, IsSound, AllOfSeat, AllCells-look, Grows, Grows-changed, all_holds_or_default, IsKnown-grows, IsOld-grows, set_stands_at_cell, get_finds_its_cell}
+use Rattle.log_merge.proofs.merge_lemmas.SoundChanges.{IsOld-none, call_changes_soundly, IsSound-changed}
 
 -- a seat that is present is there
-pub present_within : (g : Graph) (number : ℕ) → IsPresent g number → number < length g.seats
-present_within g number present = elim (cases_lt number (length g.seats)) [
+pub present_seat_is_there : (g : Graph) (number : ℕ) → IsPresent g number → number < length g.seats
+present_seat_is_there g number present = elim (cases_lt number (length g.seats)) [
   | inl within ↦ within
   | inr past ↦ absurd (let gone : (graph_seat g number).left ≡ true = ap (λ (s : GraphSeat). s.left) (get_or_past g.seats number absent_graph_seat past) in let no : true ≡ false = sym gone ∙ present in cc)
 ]
@@ -51,7 +51,7 @@ IsSound-opening heap = record {
 }
   where
     nil_or_board : (r : ℕ) → IsKnown (opening heap) (get_or (Object Board ∷ replicate last_register Nil) r Nil)
-    nil_or_board r = holds_or (IsKnown (opening heap)) (Object Board ∷ replicate last_register Nil) r Nil (All-cons (IsKnown (opening heap)) (Object Board) (replicate last_register Nil) tt (All-replicate (IsKnown (opening heap)) last_register Nil tt)) tt
+    nil_or_board r = all_holds_or_default (IsKnown (opening heap)) (Object Board ∷ replicate last_register Nil) r Nil (All-cons (IsKnown (opening heap)) (Object Board) (replicate last_register Nil) tt (All-replicate (IsKnown (opening heap)) last_register Nil tt)) tt
 
     first_known : (s : GraphSeat) (r : ℕ) → (s ≡ opening_graph_seat) ⊎ (s ≡ absent_graph_seat) → IsKnown (opening heap) (get_or s.registers r Nil)
     first_known s r (inl is) = subst (λ (x : GraphSeat). IsKnown (opening heap) (get_or x.registers r Nil)) (sym is) (nil_or_board r)
@@ -60,9 +60,9 @@ IsSound-opening heap = record {
 -- an accepted entry keeps the graph sound
 pub IsSound-after : (g : Graph) (e : Entry) → IsSound g → Accepts g e → IsSound (after_entry g e)
 IsSound-after g (entries.Said number command reply) sound accepts =
-    let within = present_within g number accepts.0 in
+    let within = present_seat_is_there g number accepts.0 in
     subst IsSound (sym (after_reply-changed g number command reply))
-    (IsSound-changed g number (change_of (own g number) number command reply) sound within (sound_change g number command reply sound within accepts.2))
+    (IsSound-changed g number (change_of (own g number) number command reply) sound within (call_changes_soundly g number command reply sound within accepts.2))
 IsSound-after g _ sound accepts = sound
 
 Grows-same : (g : Graph) → Grows g g
@@ -71,16 +71,16 @@ Grows-same g = record { made = λ seat. omega arith; sets = λ seat. omega arith
 -- and grows
 pub Grows-after : (g : Graph) (e : Entry) → IsSound g → Accepts g e → Grows g (after_entry g e)
 Grows-after g (entries.Said number command reply) sound accepts =
-    let within = present_within g number accepts.0 in
+    let within = present_seat_is_there g number accepts.0 in
     subst (Grows g) (sym (after_reply-changed g number command reply))
-    (Grows-changed g number (change_of (own g number) number command reply) within (sound_change g number command reply sound within accepts.2).sets)
+    (Grows-changed g number (change_of (own g number) number command reply) within (call_changes_soundly g number command reply sound within accepts.2).sets)
 Grows-after g _ sound accepts = Grows-same g
 
 -- it leaves other seats what they alone decide
-pub own-after_other : (g : Graph) (a : Entry) (number : ℕ) → (seat_of a ≡ Some number → ⊥) → own (after_entry g a) number ≡ own g number
-own-after_other g (entries.Said other command reply) number apart =
+pub own_seat_stays_by_other : (g : Graph) (a : Entry) (number : ℕ) → (seat_of a ≡ Some number → ⊥) → own (after_entry g a) number ≡ own g number
+own_seat_stays_by_other g (entries.Said other command reply) number apart =
     ap (λ h. own h number) (after_reply-changed g other command reply) ∙ own-changed_other g other number (change_of (own g other) other command reply) (λ e. apart (ap Some (sym e)))
-own-after_other g _ number apart = refl
+own_seat_stays_by_other g _ number apart = refl
 
 -- the entry is a get or set of this cell
 abbrev pub Touches : Graph → Entry → Value → ℕ → Type 0
@@ -107,35 +107,35 @@ NoGets g [] value j t = Unit {0}
 NoGets g (a ∷ rest) value j t = (IsGetOf g a value j t → ⊥) × NoGets (after_entry g a) rest value j t
 
 -- what is set is touched
-pub touches_written : (g : Graph) (e : Entry) (value : Value) (j t : ℕ) → Writes g e value j t → Touches g e value j
-touches_written g (entries.Said number (commands.Set r i v) (replies.Was stamp)) value j t writes = (writes.0, writes.1)
-touches_written g _ value j t writes = absurd writes
+pub set_cell_is_touched : (g : Graph) (e : Entry) (value : Value) (j t : ℕ) → Writes g e value j t → Touches g e value j
+set_cell_is_touched g (entries.Said number (commands.Set r i v) (replies.Was stamp)) value j t writes = (writes.0, writes.1)
+set_cell_is_touched g _ value j t writes = absurd writes
 
 -- where an object's cell changes, it was set
-pub written_place : (g : Graph) (number : ℕ) (command : Command) (reply : Reply) (id : Id) → (change_of (own g number) number command reply).place ≡ Object id
+pub changed_place_is_written : (g : Graph) (number : ℕ) (command : Command) (reply : Reply) (id : Id) → (change_of (own g number) number command reply).place ≡ Object id
     → (t : ℕ) × Writes g (entries.Said number command reply) (change_of (own g number) number command reply).place (change_of (own g number) number command reply).index t
-written_place g number (commands.Set r i v) (replies.Was stamp) id is = (stamp, (refl, refl, refl))
-written_place g number (commands.New d fields) (replies.Made other) id is = absurd cc
-written_place g number (commands.Array d cells) (replies.Made other) id is = absurd cc
-written_place g number (commands.Get d r i) (replies.Got value stamp) id is = absurd cc
-written_place g number _ reply id is = absurd cc
+changed_place_is_written g number (commands.Set r i v) (replies.Was stamp) id is = (stamp, (refl, refl, refl))
+changed_place_is_written g number (commands.New d fields) (replies.Made other) id is = absurd cc
+changed_place_is_written g number (commands.Array d cells) (replies.Made other) id is = absurd cc
+changed_place_is_written g number (commands.Get d r i) (replies.Got value stamp) id is = absurd cc
+changed_place_is_written g number _ reply id is = absurd cc
 
 -- it is set, or not
 set_or_not : (g : Graph) (e : Entry) (value : Value) (j : ℕ) → ((t : ℕ) × Writes g e value j t) ⊎ ((t : ℕ) → Writes g e value j t → ⊥)
-set_or_not g (entries.Said number (commands.Set r i v) (replies.Was stamp)) value j = elim (same_value (register_value g number r) value) [
+set_or_not g (entries.Said number (commands.Set r i v) (replies.Was stamp)) value j = elim (values_equal_or_apart (register_value g number r) value) [
   | inr apart ↦ inr (λ t writes. apart writes.0)
   | inl same ↦ elim (cases_eq i j) [ inl here ↦ inl (stamp, (same, here, refl)) | inr apart ↦ inr (λ t writes. apart writes.1) ]
 ]
 set_or_not g _ value j = inr (λ t writes. writes)
 
 -- what isn't set stays
-pub look-after_other : (g : Graph) (e : Entry) (value : Value) (j : ℕ) → IsKnown g value → ((t : ℕ) → Writes g e value j t → ⊥) → look (after_entry g e) value j ≡ look g value j
-look-after_other g (entries.Said number command reply) value j known apart =
+pub look_stays_by_other : (g : Graph) (e : Entry) (value : Value) (j : ℕ) → IsKnown g value → ((t : ℕ) → Writes g e value j t → ⊥) → look (after_entry g e) value j ≡ look g value j
+look_stays_by_other g (entries.Said number command reply) value j known apart =
     ap (λ h. look h value j) (after_reply-changed g number command reply)
     ∙ look-changed_other g number (change_of (own g number) number command reply) value j known (λ id is same here.
-    let set = written_place g number command reply id is in
+    let set = changed_place_is_written g number command reply id is in
     apart set.0 (subst (λ v. Writes g (entries.Said number command reply) v j set.0) (sym same) (subst (λ k. Writes g (entries.Said number command reply) (change_of (own g number) number command reply).place k set.0) (sym here) set.1)))
-look-after_other g _ value j known apart = refl
+look_stays_by_other g _ value j known apart = refl
 
 -- what a set finds and leaves
 pub record IsWritten (g : Graph) (e : Entry) (value : Value) (j t : ℕ) : Type 0 where
@@ -148,9 +148,9 @@ pub record IsWritten (g : Graph) (e : Entry) (value : Value) (j t : ℕ) : Type 
   pub few : (own g seat).sets + 1 < stamp_limit
   pub stamp : new.stamp ≡ set_stamp seat ((own g seat).sets + 1)
 
-pub written : (g : Graph) (e : Entry) (value : Value) (j t : ℕ) → IsSound g → Accepts g e → Writes g e value j t → IsWritten g e value j t
-written g (entries.Said number (commands.Set r i v) (replies.Was stamp)) value j t sound accepts writes =
-    let at = set_found g number r i v stamp accepts.2 in
+pub changed_cell_is_written : (g : Graph) (e : Entry) (value : Value) (j t : ℕ) → IsSound g → Accepts g e → Writes g e value j t → IsWritten g e value j t
+changed_cell_is_written g (entries.Said number (commands.Set r i v) (replies.Was stamp)) value j t sound accepts writes =
+    let at = set_stands_at_cell g number r i v stamp accepts.2 in
     let e = entries.Said number (commands.Set r i v) (replies.Was stamp) in
     let c = change_of (own g number) number (commands.Set r i v) (replies.Was stamp) in
     let place : IsWritten g e (register_value g number r) i stamp = record {
@@ -165,7 +165,7 @@ written g (entries.Said number (commands.Set r i v) (replies.Was stamp)) value j
       stamp = refl;
     } in
     subst (λ x. IsWritten g e x j t) writes.0 (subst (λ x. IsWritten g e (register_value g number r) x t) writes.1 (subst (λ x. IsWritten g e (register_value g number r) i x) writes.2 place))
-written g _ value j t sound accepts writes = absurd writes
+changed_cell_is_written g _ value j t sound accepts writes = absurd writes
 
 -- the cell is there, without this stamp, which no set will give again
 pub record IsGone (g : Graph) (value : Value) (j t : ℕ) : Type 0 where
@@ -190,39 +190,39 @@ IsGone-after g e value j t sound accepts gone =
       known = IsKnown-grows g (after_entry g e) value grows gone.known;
       old = IsOld-grows g (after_entry g e) t grows gone.old;
       apart = elim (set_or_not g e value j) [
-        | inl set ↦ fresh_apart g e value j set.0 t (written g e value j set.0 sound accepts set.1) gone.old
-        | inr none ↦ (λ cell found. gone.apart cell (sym (look-after_other g e value j gone.known none) ∙ found))
+        | inl set ↦ fresh_apart g e value j set.0 t (changed_cell_is_written g e value j set.0 sound accepts set.1) gone.old
+        | inr none ↦ (λ cell found. gone.apart cell (sym (look_stays_by_other g e value j gone.known none) ∙ found))
       ];
     }
 
 -- what a set replaces is gone
 pub IsGone-written : (g : Graph) (e : Entry) (value : Value) (j t : ℕ) → IsSound g → Accepts g e → Writes g e value j t → IsGone (after_entry g e) value j t
 IsGone-written g e value j t sound accepts writes =
-    let is = written g e value j t sound accepts writes in
+    let is = changed_cell_is_written g e value j t sound accepts writes in
     let grows = Grows-after g e sound accepts in
     let old : IsOld g t = subst (IsOld g) is.shown (AllCells-look (IsSoundCell g) g value j is.old sound.cells is.found).1 in
     record {
-      known = IsKnown-grows g (after_entry g e) value grows (look_known g value j is.old is.found);
+      known = IsKnown-grows g (after_entry g e) value grows (found_look_is_known g value j is.old is.found);
       old = IsOld-grows g (after_entry g e) t grows old;
       apart = fresh_apart g e value j t t is old;
     }
 
 -- what an accepted get or set finds is there
 finds_there : (g : Graph) (e : Entry) (value : Value) (j t : ℕ) → IsSound g → Accepts g e → Finds g e value j t → (cell : Cell) × (look g value j ≡ Ok cell) × (cell.stamp ≡ t)
-finds_there g e value j t sound accepts (inr writes) = (let is = written g e value j t sound accepts writes in (is.old, is.found, is.shown))
+finds_there g e value j t sound accepts (inr writes) = (let is = changed_cell_is_written g e value j t sound accepts writes in (is.old, is.found, is.shown))
 finds_there g (entries.Said number (commands.Get d r i) (replies.Got found stamp)) value j t sound accepts (inl gets) =
-    let got = get_found g number d r i found stamp accepts.2 in
+    let got = get_finds_its_cell g number d r i found stamp accepts.2 in
     (got.0, subst (λ x. look g x j ≡ Ok got.0) gets.0 (subst (λ x. look g (register_value g number r) x ≡ Ok got.0) gets.1 got.1), got.3 ∙ gets.2)
 finds_there g _ value j t sound accepts (inl gets) = absurd gets
 
 -- so it finds nothing that is gone
-pub finds_none_gone : (g : Graph) (e : Entry) (value : Value) (j t : ℕ) → IsSound g → Accepts g e → IsGone g value j t → Finds g e value j t → ⊥
-finds_none_gone g e value j t sound accepts gone finds = (let there = finds_there g e value j t sound accepts finds in gone.apart there.0 there.1 there.2)
+pub found_is_not_gone : (g : Graph) (e : Entry) (value : Value) (j t : ℕ) → IsSound g → Accepts g e → IsGone g value j t → Finds g e value j t → ⊥
+found_is_not_gone g e value j t sound accepts gone finds = (let there = finds_there g e value j t sound accepts finds in gone.apart there.0 there.1 there.2)
 
 pub NoGets-gone : (g : Graph) (rest : List Entry) (value : Value) (j t : ℕ) → IsSound g → AcceptsAll g rest → IsGone g value j t → NoGets g rest value j t
 NoGets-gone g [] value j t sound accepts gone = tt
 NoGets-gone g (a ∷ rest) value j t sound accepts gone = (
-  (λ gets. finds_none_gone g a value j t sound accepts.0 gone (inl gets)),
+  (λ gets. found_is_not_gone g a value j t sound accepts.0 gone (inl gets)),
   NoGets-gone (after_entry g a) rest value j t (IsSound-after g a sound accepts.0) accepts.1 (IsGone-after g a value j t sound accepts.0 gone),
 )
 
@@ -241,7 +241,7 @@ was_stamp g number r i v reply value j cell says here at found =
     let answer = subst (λ x. Sets (graph_seat g number).sets x reply) look_same says in
     subst (λ x. Writes g (entries.Said number (commands.Set r i v) x) value j cell.stamp) (sym answer.0) (here, at, refl)
 
-pub finds_touched : (g : Graph) (e : Entry) (value : Value) (j : ℕ) (cell : Cell) → Accepts g e → Touches g e value j → look g value j ≡ Ok cell → Finds g e value j cell.stamp
-finds_touched g (entries.Said number (commands.Get d r i) reply) value j cell accepts touches found = inl (got_stamp g number d r i reply value j cell accepts.2 touches.0 touches.1 found)
-finds_touched g (entries.Said number (commands.Set r i v) reply) value j cell accepts touches found = inr (was_stamp g number r i v reply value j cell accepts.2 touches.0 touches.1 found)
-finds_touched g _ value j cell accepts touches found = absurd touches
+pub touched_cell_is_found : (g : Graph) (e : Entry) (value : Value) (j : ℕ) (cell : Cell) → Accepts g e → Touches g e value j → look g value j ≡ Ok cell → Finds g e value j cell.stamp
+touched_cell_is_found g (entries.Said number (commands.Get d r i) reply) value j cell accepts touches found = inl (got_stamp g number d r i reply value j cell accepts.2 touches.0 touches.1 found)
+touched_cell_is_found g (entries.Said number (commands.Set r i v) reply) value j cell accepts touches found = inr (was_stamp g number r i v reply value j cell accepts.2 touches.0 touches.1 found)
+touched_cell_is_found g _ value j cell accepts touches found = absurd touches

@@ -29,8 +29,8 @@ tied_parts (Made p n) (Made q k) i j s t tied =
     let rest = tied_both (nat_cmp i j) (nat_cmp s t) all.1 in
     (ap (λ x. Made x n) (tied_numbers p q ids.0) ∙ ap (λ x. Made q x) (tied_numbers n k ids.1), tied_numbers i j rest.0, tied_numbers s t rest.1)
 
-pub tied_kinds : (a b : PendingGet) → kind_order a b ≡ Equal → a ≡ b
-tied_kinds a b tied =
+pub tied_kinds_are_equal : (a b : PendingGet) → kind_order a b ≡ Equal → a ≡ b
+tied_kinds_are_equal a b tied =
     let same = tied_parts a.object b.object a.index b.index a.stamp b.stamp tied in
     ap (λ x. let k : PendingGet = record { object = x; index = a.index; stamp = a.stamp } in k) same.0
     ∙ ap (λ x. let k : PendingGet = record { object = b.object; index = x; stamp = a.stamp } in k) same.1
@@ -42,8 +42,8 @@ not_tied Equal apart = absurd (apart refl)
 not_tied Greater apart = refl
 
 -- kinds that aren't equal are not tied
-pub untied : (a b : PendingGet) → (b ≡ a → ⊥) → is_eq (kind_order a b) ≡ false
-untied a b apart = not_tied (kind_order a b) (λ tied. apart (sym (tied_kinds a b tied)))
+pub unequal_kinds_are_untied : (a b : PendingGet) → (b ≡ a → ⊥) → is_eq (kind_order a b) ≡ false
+unequal_kinds_are_untied a b apart = not_tied (kind_order a b) (λ tied. apart (sym (tied_kinds_are_equal a b tied)))
 
 same_number : (n : ℕ) → nat_cmp n n ≡ Equal
 same_number n = elim (nat_cmp n n) as (λ o. MatchOrdering o (n < n) (n ≡ n) (n < n) → o ≡ Equal) [
@@ -61,5 +61,5 @@ same_parts (Made p n) i s =
     then_equal (ordering_then (nat_cmp p p) (nat_cmp n n)) (ordering_then (nat_cmp i i) (nat_cmp s s)) (then_equal (nat_cmp p p) (nat_cmp n n) (same_number p) (same_number n)) (then_equal (nat_cmp i i) (nat_cmp s s) (same_number i) (same_number s))
 
 -- a kind is tied with itself
-pub tied_itself : (a : PendingGet) → is_eq (kind_order a a) ≡ true
-tied_itself a = ap is_eq (same_parts a.object a.index a.stamp)
+pub kind_is_tied_with_itself : (a : PendingGet) → is_eq (kind_order a a) ≡ true
+kind_is_tied_with_itself a = ap is_eq (same_parts a.object a.index a.stamp)

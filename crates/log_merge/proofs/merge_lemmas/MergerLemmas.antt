@@ -22,13 +22,13 @@ use Rattle.log_merge.specs.Merging.{HasOrder, part_of, left_of, IsReady, IsNext,
 use Rattle.log_merge.specs.PendingGets.{is_kind, pending_count}
 use Rattle.log_merge.specs.Registers.{opening_registers, gets_in}
 use Rattle.log_merge.specs.Placing.{IsCompletion, IsMerging, IsStuck, AreStuck, count_left, left_count, replaced_by, got_by}
-use Rattle.log_merge.proofs.merge_lemmas.Kinds.{tied_itself}
-use Rattle.log_merge.proofs.merge_lemmas.Counting.{one_if, none_if, counted_first, same_kind}
+use Rattle.log_merge.proofs.merge_lemmas.Kinds.{kind_is_tied_with_itself}
+use Rattle.log_merge.proofs.merge_lemmas.Counting.{cond_true_is_one, cond_false_is_none, count_of_first_and_rest, equal_kinds_are_same}
 use Rattle.log_merge.proofs.merge_lemmas.Parts.{length-logs_of, no_more}
 use Rattle.log_merge.proofs.merge_lemmas.Rests.{AcceptsAll-parts}
-use Rattle.log_merge.proofs.merge_lemmas.Moving.{ready_first, completion-more}
-use Rattle.log_merge.proofs.merge_lemmas.Waiting.{not_ready, waits_for_none}
-use Rattle.log_merge.proofs.merge_lemmas.Merges.{next_in_log, part_of-placed, part_of-others, not_in, left_count-placed, count_left-placed, TakesFirstReady-more, none_left}
+use Rattle.log_merge.proofs.merge_lemmas.Moving.{ready_stands_first, completion_with_placed}
+use Rattle.log_merge.proofs.merge_lemmas.Waiting.{waiting_is_not_ready, waits_for_none}
+use Rattle.log_merge.proofs.merge_lemmas.Merges.{next_entry_is_in_log, part_of-placed, part_of-others, not_in_other_log, left_count_falls_by_placed, kind_count_falls_by_placed, TakesFirstReady-more, nothing_is_left}
 
 -- an entry that is read at the count of what is placed is next
 pub IsNext-read : (heap : Heap) (logs : List (List Entry)) (placed : List Entry) (number : ℕ) (log : List Entry) (count : ℕ) (x : Entry) → get_or logs number [] ≡ log → count ≡ length (part_of heap number placed) → slice_get log count ≡ Some x → IsNext heap logs placed number x
@@ -59,19 +59,19 @@ pub number_there : (logs : List (List Entry)) (m : Merger) (number : ℕ) → Is
 number_there logs m number merging within = omega (arith, within, ap length merging.completion.kept, length-logs_of m.heap (m.placed.items ++ merging.rest))
 
 -- a set of which gets are left is stuck
-pub stuck_by_gets : (logs : List (List Entry)) (m : Merger) (number : ℕ) (x : Entry) → IsMerging logs m → number < length logs → IsNext m.heap logs m.placed.items number x
+pub log_is_stuck_by_gets : (logs : List (List Entry)) (m : Merger) (number : ℕ) (x : Entry) → IsMerging logs m → number < length logs → IsNext m.heap logs m.placed.items number x
     → (Accepts m.graph x → IsSomeAnd (replaced_by m.graph x) (λ get. 0 < pending_count m.pending get)) → IsStuck logs m number
-stuck_by_gets logs m number x merging within next waits entry is ready =
+log_is_stuck_by_gets logs m number x merging within next waits entry is ready =
     let same = same_next m.heap logs m.placed.items number entry x is next in
     let here : IsReady m.heap logs m.placed.items number x = subst (IsReady m.heap logs m.placed.items number) same ready in
     let some = some_and (λ get. 0 < pending_count m.pending get) (replaced_by m.graph x) (waits (subst (λ g. Accepts g x) (sym merging.graph) here.accepted)) in
-    not_ready m.heap logs m.placed.items merging.rest number x some.0 merging.completion (number_there logs m number merging within) next
+    waiting_is_not_ready m.heap logs m.placed.items merging.rest number x some.0 merging.completion (number_there logs m number merging within) next
     (ap (λ g. replaced_by g x) (sym merging.graph) ∙ some.1) (let all = merging.pending some.0 in let more = some.2 in omega (arith, all, more)) here
 
 -- an entry that neither stops is ready
-pub ready_next : (logs : List (List Entry)) (m : Merger) (number : ℕ) (x : Entry) → IsMerging logs m → Accepts m.graph x
+pub next_entry_is_ready : (logs : List (List Entry)) (m : Merger) (number : ℕ) (x : Entry) → IsMerging logs m → Accepts m.graph x
     → (Accepts m.graph x → ForSome (replaced_by m.graph x) (λ get. 0 < pending_count m.pending get → ⊥)) → IsReady m.heap logs m.placed.items number x
-ready_next logs m number x merging accepts goes =
+next_entry_is_ready logs m number x merging accepts goes =
     let accepted = subst (λ g. Accepts g x) merging.graph accepts in
     record {
       accepted = accepted;
@@ -88,22 +88,22 @@ pub record IsPlacing (m new : Merger) (number : ℕ) (x : Entry) : Type 0 where
   pub placed : new.placed.items ≡ m.placed.items ++ x ∷ []
 
 -- a get that is taken away
-pub pending_taken : (old new : PendingGets) (get : PendingGet) (o : Option PendingGet) → o ≡ Some get → pending_count new get ≡ pending_count old get - 1 → ((other : PendingGet) → (other ≡ get → ⊥) → pending_count new other ≡ pending_count old other)
+pub pending_count_falls_by_get : (old new : PendingGets) (get : PendingGet) (o : Option PendingGet) → o ≡ Some get → pending_count new get ≡ pending_count old get - 1 → ((other : PendingGet) → (other ≡ get → ⊥) → pending_count new other ≡ pending_count old other)
     → (kind : PendingGet) → pending_count new kind ≡ pending_count old kind - count_by (is_kind kind) (option_to_list o)
-pending_taken old new get o is here others kind =
-    let first = counted_first kind get [] in
+pending_count_falls_by_get old new get o is here others kind =
+    let first = count_of_first_and_rest kind get [] in
     let counted = ap (λ x. count_by (is_kind kind) (option_to_list x)) is in
     elim (cases_Bool (is_kind kind get)) [
-      | inl tied ↦ (let one = one_if (is_kind kind get) tied in
-          let at : pending_count new kind ≡ pending_count old kind - 1 = subst (λ k. pending_count new k ≡ pending_count old k - 1) (sym (same_kind kind get tied)) here in
+      | inl tied ↦ (let one = cond_true_is_one (is_kind kind get) tied in
+          let at : pending_count new kind ≡ pending_count old kind - 1 = subst (λ k. pending_count new k ≡ pending_count old k - 1) (sym (equal_kinds_are_same kind get tied)) here in
           omega (arith, one, at, first, counted))
-      | inr apart ↦ (let none = none_if (is_kind kind get) apart in
-          let at = others kind (λ same. let clash : true ≡ false = sym (tied_itself kind) ∙ ap (is_kind kind) same ∙ apart in cc) in
+      | inr apart ↦ (let none = cond_false_is_none (is_kind kind get) apart in
+          let at = others kind (λ same. let clash : true ≡ false = sym (kind_is_tied_with_itself kind) ∙ ap (is_kind kind) same ∙ apart in cc) in
           omega (arith, none, at, first, counted))
     ]
 
-pub pending_kept : (old new : PendingGets) (o : Option PendingGet) → o ≡ None → new ≡ old → (kind : PendingGet) → pending_count new kind ≡ pending_count old kind - count_by (is_kind kind) (option_to_list o)
-pending_kept old new o is same kind =
+pub pending_count_falls_by_kept : (old new : PendingGets) (o : Option PendingGet) → o ≡ None → new ≡ old → (kind : PendingGet) → pending_count new kind ≡ pending_count old kind - count_by (is_kind kind) (option_to_list o)
+pending_count_falls_by_kept old new o is same kind =
     let counted = ap (λ x. count_by (is_kind kind) (option_to_list x)) is in
     let at = ap (λ p. pending_count p kind) same in
     omega (arith, counted, at)
@@ -138,8 +138,8 @@ IsMerging-placed logs m new number x merging within stuck next ready placing =
     let heap = m.heap in
     let placed = m.placed.items in
     let there = number_there logs m number merging within in
-    let inside = next_in_log heap logs placed merging.rest number x merging.completion there next in
-    let first = ready_first heap logs placed merging.rest number x merging.completion there next ready in
+    let inside = next_entry_is_in_log heap logs placed merging.rest number x merging.completion there next in
+    let first = ready_stands_first heap logs placed merging.rest number x merging.completion there next ready in
     let taken : IsFirstReady heap logs placed x = record { number = number; next = next; ready = ready; lowest = λ lower other below is. stuck lower below other is } in
     let long = length-logs_of heap (placed ++ merging.rest) in
     let count_kept = ap length merging.completion.kept in
@@ -153,18 +153,18 @@ IsMerging-placed logs m new number x merging within stuck next ready placing =
           ap (λ xs. get_or xs number 0) placing.counts ∙ get_or-set_same m.counts.items number (get_or m.counts.items number 0 + 1) 0 (let counted = merging.counted in omega (arith, counted, within)) in
           subst P (sym same) (omega (arith, old, more, sum, one)))
       | inr apart ↦ ap (λ xs. get_or xs n 0) placing.counts ∙ get_or-set_other m.counts.items number n (get_or m.counts.items number 0 + 1) 0 apart ∙ merging.counts n below
-          ∙ ap length (sym (part_of-others heap placed x n (not_in heap number n x there (omega (arith, below, count_kept, long)) inside apart)))
+          ∙ ap length (sym (part_of-others heap placed x n (not_in_other_log heap number n x there (omega (arith, below, count_kept, long)) inside apart)))
     ] in
-    let less = left_count-placed heap logs placed first.rest number x first.completion there inside in
+    let less = left_count_falls_by_placed heap logs placed first.rest number x first.completion there inside in
     let pending : (kind : PendingGet) → pending_count new.pending kind ≡ count_left heap logs (placed ++ x ∷ []) kind = λ kind.
     let now = placing.pending kind in
     let old = merging.pending kind in
-    let step = count_left-placed heap logs placed first.rest number x kind first.completion there inside in
+    let step = kind_count_falls_by_placed heap logs placed first.rest number x kind first.completion there inside in
     let got = ap (λ g. count_by (is_kind kind) (option_to_list (got_by g x))) merging.graph in
     omega (arith, now, old, step, got) in
     let all : IsAfter logs new heap (placed ++ x ∷ []) = record {
       rest = first.rest;
-      completion = completion-more heap logs placed first.rest x first.completion;
+      completion = completion_with_placed heap logs placed first.rest x first.completion;
       graph = placing.graph ∙ ap (λ g. after_entry g x) merging.graph ∙ sym (graph_after-more (opening heap) placed x);
       counted = ap length placing.counts ∙ length-set m.counts.items number (get_or m.counts.items number 0 + 1) ∙ merging.counted;
       counts = counts;
@@ -179,23 +179,23 @@ IsMerging-placed logs m new number x merging within stuck next ready placing =
     )
 
 -- the entry that is read, if there is one, is next; else nothing is
-pub read_next : (heap : Heap) (logs : List (List Entry)) (placed : List Entry) (number : ℕ) (log : List Entry) (count : ℕ) (o : Option Entry) → get_or logs number [] ≡ log → count ≡ length (part_of heap number placed) → o ≡ slice_get log count → IfSome o (IsNext heap logs placed number)
-read_next heap logs placed number log count None is counted read = tt
-read_next heap logs placed number log count (Some x) is counted read = IsNext-read heap logs placed number log count x is counted (sym read)
+pub read_entry_is_next : (heap : Heap) (logs : List (List Entry)) (placed : List Entry) (number : ℕ) (log : List Entry) (count : ℕ) (o : Option Entry) → get_or logs number [] ≡ log → count ≡ length (part_of heap number placed) → o ≡ slice_get log count → IfSome o (IsNext heap logs placed number)
+read_entry_is_next heap logs placed number log count None is counted read = tt
+read_entry_is_next heap logs placed number log count (Some x) is counted read = IsNext-read heap logs placed number log count x is counted (sym read)
 
-pub read_none : (logs : List (List Entry)) (m : Merger) (number : ℕ) (log : List Entry) (count : ℕ) (o : Option Entry) → get_or logs number [] ≡ log → count ≡ length (part_of m.heap number m.placed.items) → o ≡ slice_get log count → IfNone o (IsStuck logs m number)
-read_none logs m number log count None is counted read = λ entry next ready. elim (cases_lt count (length log)) [
+pub unread_log_is_stuck : (logs : List (List Entry)) (m : Merger) (number : ℕ) (log : List Entry) (count : ℕ) (o : Option Entry) → get_or logs number [] ≡ log → count ≡ length (part_of m.heap number m.placed.items) → o ≡ slice_get log count → IfNone o (IsStuck logs m number)
+unread_log_is_stuck logs m number log count None is counted read = λ entry next ready. elim (cases_lt count (length log)) [
   | inl within ↦ (let there = slice_get-get_or log count entry within in let clash : None ≡ Some (get_or log count entry) = read ∙ there in cc)
   | inr past ↦ none_next m.heap logs m.placed.items number log count entry is counted past next
 ]
-read_none logs m number log count (Some x) is counted read = tt
+unread_log_is_stuck logs m number log count (Some x) is counted read = tt
 
 -- with no log left that is ready, all is placed
-pub all_placed : (logs : List (List Entry)) (m : Merger) → IsMerging logs m → AreStuck logs m (length logs) → logs ≡ logs_of m.heap m.placed.items
-all_placed logs m merging stuck =
+pub all_logs_are_placed : (logs : List (List Entry)) (m : Merger) → IsMerging logs m → AreStuck logs m (length logs) → logs ≡ logs_of m.heap m.placed.items
+all_logs_are_placed logs m merging stuck =
     let long = length-logs_of m.heap (m.placed.items ++ merging.rest) in
     let same = ap length merging.completion.kept in
-    none_left m.heap logs m.placed.items merging.rest merging.completion (λ number within e next ready. stuck number (omega (arith, long, same, within)) e next ready)
+    nothing_is_left m.heap logs m.placed.items merging.rest merging.completion (λ number within e next ready. stuck number (omega (arith, long, same, within)) e next ready)
 
 -- one more log that is stuck
 pub AreStuck-more : (logs : List (List Entry)) (m : Merger) (count : ℕ) → AreStuck logs m count → IsStuck logs m count → AreStuck logs m (count + 1)

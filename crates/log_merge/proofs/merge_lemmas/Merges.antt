@@ -22,31 +22,31 @@ use Rattle.log_merge.specs.Merging.{is_in_log, part_of, left_of, IsReady, IsNext
 use Rattle.log_merge.specs.PendingGets.{is_kind}
 use Rattle.log_merge.specs.Registers.{opening_registers, registers_after, registers_of, kind_of, get_of, gets_in}
 use Rattle.log_merge.specs.Placing.{IsCompletion, count_in, count_left, got_by}
-use Rattle.log_merge.proofs.merge_lemmas.Finding.{present_within}
-use Rattle.log_merge.proofs.merge_lemmas.Counting.{sum_one, registers_shown}
-use Rattle.log_merge.proofs.merge_lemmas.Parts.{filter-yes, filter-no, no_more, parted_filter, in_seats_log, in_collectors_log, part_of-append, left_of-rest}
-use Rattle.log_merge.proofs.merge_lemmas.Rests.{AcceptsAll-parts, seats-history, seats-opening, in_log_seat, rest_accepted, first_is_ready}
-use Rattle.log_merge.proofs.merge_lemmas.Moving.{of_seat, completion-more}
+use Rattle.log_merge.proofs.merge_lemmas.Finding.{present_seat_is_there}
+use Rattle.log_merge.proofs.merge_lemmas.Counting.{sum_grows_at_one, own_registers_are_shown}
+use Rattle.log_merge.proofs.merge_lemmas.Parts.{filter-yes, filter-no, no_more, parted_filter, seat_log_has_own_entries, collector_log_has_own_entries, part_of-append, left_of-rest}
+use Rattle.log_merge.proofs.merge_lemmas.Rests.{AcceptsAll-parts, seat_count_after_history, seat_count_at_opening, seat_entry_in_own_log, rest_is_accepted, first_is_ready}
+use Rattle.log_merge.proofs.merge_lemmas.Moving.{log_entry_has_seat, completion_with_placed}
 
 -- an entry stands in one log
 pub one_log : (heap : Heap) (number other : ℕ) (e : Entry) → number ≤ heap.seats → other ≤ heap.seats → is_in_log heap number e ≡ true → is_in_log heap other e ≡ true → number ≡ other
 one_log heap number other e within there mine too = elim (cases_lt number heap.seats) [
   | inl seat ↦ elim (cases_lt other heap.seats) [
-    | inl seat_too ↦ (let one = of_seat number e (sym (in_seats_log heap number seat e) ∙ mine) in let two = of_seat other e (sym (in_seats_log heap other seat_too e) ∙ too) in
+    | inl seat_too ↦ (let one = log_entry_has_seat number e (sym (seat_log_has_own_entries heap number seat e) ∙ mine) in let two = log_entry_has_seat other e (sym (seat_log_has_own_entries heap other seat_too e) ∙ too) in
         let same : Some number ≡ Some other = sym one ∙ two in cc)
-    | inr past ↦ absurd (let one = of_seat number e (sym (in_seats_log heap number seat e) ∙ mine) in let two : is_collectors e ≡ true = sym (in_collectors_log heap other past e) ∙ too in
+    | inr past ↦ absurd (let one = log_entry_has_seat number e (sym (seat_log_has_own_entries heap number seat e) ∙ mine) in let two : is_collectors e ≡ true = sym (collector_log_has_own_entries heap other past e) ∙ too in
         let clash : false ≡ true = sym (ap is_none one) ∙ two in cc)
   ]
   | inr past ↦ elim (cases_lt other heap.seats) [
-    | inl seat_too ↦ absurd (let one = of_seat other e (sym (in_seats_log heap other seat_too e) ∙ too) in let two : is_collectors e ≡ true = sym (in_collectors_log heap number past e) ∙ mine in
+    | inl seat_too ↦ absurd (let one = log_entry_has_seat other e (sym (seat_log_has_own_entries heap other seat_too e) ∙ too) in let two : is_collectors e ≡ true = sym (collector_log_has_own_entries heap number past e) ∙ mine in
         let clash : false ≡ true = sym (ap is_none one) ∙ two in cc)
     | inr past_too ↦ omega (arith, within, there, past, past_too)
   ]
 ]
 
 -- the entry that comes next is in its log
-pub next_in_log : (heap : Heap) (logs : List (List Entry)) (placed rest : List Entry) (number : ℕ) (e : Entry) → IsCompletion heap logs placed rest → number ≤ heap.seats → IsNext heap logs placed number e → is_in_log heap number e ≡ true
-next_in_log heap logs placed rest number e completion within next =
+pub next_entry_is_in_log : (heap : Heap) (logs : List (List Entry)) (placed rest : List Entry) (number : ℕ) (e : Entry) → IsCompletion heap logs placed rest → number ≤ heap.seats → IsNext heap logs placed number e → is_in_log heap number e ≡ true
+next_entry_is_in_log heap logs placed rest number e completion within next =
     (parted_filter (is_in_log heap number) rest [] next.others e (sym (left_of-rest heap logs placed rest number completion.kept within) ∙ next.left)).passes
 
 -- what is left of each log once it is placed
@@ -54,13 +54,13 @@ pub left_of-placed : (heap : Heap) (logs : List (List Entry)) (placed rest : Lis
     → left_of heap logs placed number ≡ e ∷ left_of heap logs (placed ++ e ∷ []) number
 left_of-placed heap logs placed rest e number completion within mine =
     left_of-rest heap logs placed (e ∷ rest) number completion.kept within ∙ filter-yes (is_in_log heap number) e rest mine
-    ∙ ap (λ es. e ∷ es) (sym (left_of-rest heap logs (placed ++ e ∷ []) rest number (completion-more heap logs placed rest e completion).kept within))
+    ∙ ap (λ es. e ∷ es) (sym (left_of-rest heap logs (placed ++ e ∷ []) rest number (completion_with_placed heap logs placed rest e completion).kept within))
 
 pub left_of-others : (heap : Heap) (logs : List (List Entry)) (placed rest : List Entry) (e : Entry) (number : ℕ) → IsCompletion heap logs placed (e ∷ rest) → number ≤ heap.seats → is_in_log heap number e ≡ false
     → left_of heap logs placed number ≡ left_of heap logs (placed ++ e ∷ []) number
 left_of-others heap logs placed rest e number completion within other =
     left_of-rest heap logs placed (e ∷ rest) number completion.kept within ∙ filter-no (is_in_log heap number) e rest other
-    ∙ sym (left_of-rest heap logs (placed ++ e ∷ []) rest number (completion-more heap logs placed rest e completion).kept within)
+    ∙ sym (left_of-rest heap logs (placed ++ e ∷ []) rest number (completion_with_placed heap logs placed rest e completion).kept within)
 
 -- what is placed of it
 pub part_of-placed : (heap : Heap) (placed : List Entry) (e : Entry) (number : ℕ) → is_in_log heap number e ≡ true → part_of heap number (placed ++ e ∷ []) ≡ part_of heap number placed ++ e ∷ []
@@ -70,38 +70,38 @@ pub part_of-others : (heap : Heap) (placed : List Entry) (e : Entry) (number : �
 part_of-others heap placed e number other =
     part_of-append heap number placed (e ∷ []) ∙ ap (λ es. part_of heap number placed ++ es) (filter-no (is_in_log heap number) e [] other) ∙ append-nil (part_of heap number placed)
 
-pub not_in : (heap : Heap) (number other : ℕ) (e : Entry) → number ≤ heap.seats → other ≤ heap.seats → is_in_log heap number e ≡ true → (other ≡ number → ⊥) → is_in_log heap other e ≡ false
-not_in heap number other e within there mine apart = elim (cases_Bool (is_in_log heap other e)) [
+pub not_in_other_log : (heap : Heap) (number other : ℕ) (e : Entry) → number ≤ heap.seats → other ≤ heap.seats → is_in_log heap number e ≡ true → (other ≡ number → ⊥) → is_in_log heap other e ≡ false
+not_in_other_log heap number other e within there mine apart = elim (cases_Bool (is_in_log heap other e)) [
   | inl too ↦ absurd (apart (sym (one_log heap number other e within there mine too)))
   | inr out ↦ out
 ]
 
 -- one entry less is left
-pub left_count-placed : (heap : Heap) (logs : List (List Entry)) (placed rest : List Entry) (number : ℕ) (e : Entry) → IsCompletion heap logs placed (e ∷ rest) → number ≤ heap.seats → is_in_log heap number e ≡ true
+pub left_count_falls_by_placed : (heap : Heap) (logs : List (List Entry)) (placed rest : List Entry) (number : ℕ) (e : Entry) → IsCompletion heap logs placed (e ∷ rest) → number ≤ heap.seats → is_in_log heap number e ≡ true
     → sum_by (λ n. length (left_of heap logs placed n)) (range_with_len 0 (heap.seats + 1)) ≡ sum_by (λ n. length (left_of heap logs (placed ++ e ∷ []) n)) (range_with_len 0 (heap.seats + 1)) + 1
-left_count-placed heap logs placed rest number e completion within mine =
-    sum_one (λ n. length (left_of heap logs (placed ++ e ∷ []) n)) (λ n. length (left_of heap logs placed n)) 0 (heap.seats + 1) number 1
-    (λ n there apart. ap length (left_of-others heap logs placed rest e n completion (omega (arith, there)) (not_in heap number n e within (omega (arith, there)) mine apart)))
+left_count_falls_by_placed heap logs placed rest number e completion within mine =
+    sum_grows_at_one (λ n. length (left_of heap logs (placed ++ e ∷ []) n)) (λ n. length (left_of heap logs placed n)) 0 (heap.seats + 1) number 1
+    (λ n there apart. ap length (left_of-others heap logs placed rest e n completion (omega (arith, there)) (not_in_other_log heap number n e within (omega (arith, there)) mine apart)))
     (let one = ap length (left_of-placed heap logs placed rest e number completion within mine) in omega (arith, one)) (omega arith) (omega (arith, within))
 
 -- the get that the entry is, by the graph
 got_shown : (heap : Heap) (logs : List (List Entry)) (placed rest : List Entry) (number : ℕ) (e : Entry) → IsCompletion heap logs placed (e ∷ rest) → is_in_log heap number e ≡ true
     → get_of (registers_of (part_of heap number placed)) e ≡ got_by (graph_of heap placed) e
 got_shown heap logs placed rest number (entries.Said seat (commands.Get d r i) (replies.Got found stamp)) completion mine =
-    let place = in_log_seat heap number seat (commands.Get d r i) (replies.Got found stamp) mine in
+    let place = seat_entry_in_own_log heap number seat (commands.Get d r i) (replies.Got found stamp) mine in
     let accepted = (AcceptsAll-parts (opening heap) placed (entries.Said seat (commands.Get d r i) (replies.Got found stamp) ∷ rest) completion.legal).0 in
-    ap (λ rs. kind_of (get_or rs r Nil) i stamp) (sym (registers_shown heap placed number accepted place.0)) ∙ ap (λ n. kind_of (register_value (graph_of heap placed) n r) i stamp) (sym place.1)
+    ap (λ rs. kind_of (get_or rs r Nil) i stamp) (sym (own_registers_are_shown heap placed number accepted place.0)) ∙ ap (λ n. kind_of (register_value (graph_of heap placed) n r) i stamp) (sym place.1)
 got_shown heap logs placed rest number _ completion mine = refl
 
 -- its kind of get is counted once less
-pub count_left-placed : (heap : Heap) (logs : List (List Entry)) (placed rest : List Entry) (number : ℕ) (e : Entry) (kind : PendingGet) → IsCompletion heap logs placed (e ∷ rest) → number ≤ heap.seats → is_in_log heap number e ≡ true
+pub kind_count_falls_by_placed : (heap : Heap) (logs : List (List Entry)) (placed rest : List Entry) (number : ℕ) (e : Entry) (kind : PendingGet) → IsCompletion heap logs placed (e ∷ rest) → number ≤ heap.seats → is_in_log heap number e ≡ true
     → count_left heap logs placed kind ≡ count_left heap logs (placed ++ e ∷ []) kind + count_by (is_kind kind) (option_to_list (got_by (graph_of heap placed) e))
-count_left-placed heap logs placed rest number e kind completion within mine =
-    sum_one (count_in heap logs (placed ++ e ∷ []) kind) (count_in heap logs placed kind) 0 (heap.seats + 1) number (count_by (is_kind kind) (option_to_list (got_by (graph_of heap placed) e))) others here (omega arith) (omega (arith, within))
+kind_count_falls_by_placed heap logs placed rest number e kind completion within mine =
+    sum_grows_at_one (count_in heap logs (placed ++ e ∷ []) kind) (count_in heap logs placed kind) 0 (heap.seats + 1) number (count_by (is_kind kind) (option_to_list (got_by (graph_of heap placed) e))) others here (omega arith) (omega (arith, within))
   where
     others : (n : ℕ) → n < 0 + (heap.seats + 1) → (n ≡ number → ⊥) → count_in heap logs placed kind n ≡ count_in heap logs (placed ++ e ∷ []) kind n
     others n there apart =
-        let out = not_in heap number n e within (omega (arith, there)) mine apart in
+        let out = not_in_other_log heap number n e within (omega (arith, there)) mine apart in
         ap (λ es. count_by (is_kind kind) (gets_in (registers_of (part_of heap n placed)) es)) (left_of-others heap logs placed rest e n completion (omega (arith, there)) out)
         ∙ ap (λ es. count_by (is_kind kind) (gets_in (registers_of es) (left_of heap logs (placed ++ e ∷ []) n))) (sym (part_of-others heap placed e n out))
 
@@ -139,26 +139,26 @@ TakesFirstReady-more heap logs placed e all first before rest x same = elim (spl
 -- each accepted entry stands in a log
 seats_entry : (heap : Heap) (placed : List Entry) (seat : ℕ) (e : Entry) → IsPresent (graph_of heap placed) seat → is_of seat e ≡ true → (number : ℕ) × (number ≤ heap.seats) × (is_in_log heap number e ≡ true)
 seats_entry heap placed seat e present mine =
-    let within : seat < heap.seats = omega (arith, present_within (graph_of heap placed) seat present, seats-history (opening heap) placed, seats-opening heap) in
-    (seat, omega arith, in_seats_log heap seat within e ∙ mine)
+    let within : seat < heap.seats = omega (arith, present_seat_is_there (graph_of heap placed) seat present, seat_count_after_history (opening heap) placed, seat_count_at_opening heap) in
+    (seat, omega arith, seat_log_has_own_entries heap seat within e ∙ mine)
 
 log_of : (heap : Heap) (placed : List Entry) (e : Entry) → Accepts (graph_of heap placed) e → (number : ℕ) × (number ≤ heap.seats) × (is_in_log heap number e ≡ true)
 log_of heap placed (entries.Said seat command reply) accepts = seats_entry heap placed seat (entries.Said seat command reply) accepts.0 (eq-eqb seat seat refl)
 log_of heap placed (entries.Takes seat count) accepts = seats_entry heap placed seat (entries.Takes seat count) accepts (eq-eqb seat seat refl)
 log_of heap placed (entries.GivesBack seat count) accepts = seats_entry heap placed seat (entries.GivesBack seat count) accepts (eq-eqb seat seat refl)
 log_of heap placed (entries.Answers seat phase) accepts = seats_entry heap placed seat (entries.Answers seat phase) accepts (eq-eqb seat seat refl)
-log_of heap placed (entries.Advance phase) accepts = (heap.seats, omega arith, in_collectors_log heap heap.seats (omega arith) (entries.Advance phase))
-log_of heap placed (entries.Frees count) accepts = (heap.seats, omega arith, in_collectors_log heap heap.seats (omega arith) (entries.Frees count))
-log_of heap placed (entries.Returns count) accepts = (heap.seats, omega arith, in_collectors_log heap heap.seats (omega arith) (entries.Returns count))
-log_of heap placed (entries.Swings id) accepts = (heap.seats, omega arith, in_collectors_log heap heap.seats (omega arith) (entries.Swings id))
-log_of heap placed (entries.Ends cycle kept) accepts = (heap.seats, omega arith, in_collectors_log heap heap.seats (omega arith) (entries.Ends cycle kept))
-log_of heap placed (entries.Turned command reply) accepts = (heap.seats, omega arith, in_collectors_log heap heap.seats (omega arith) (entries.Turned command reply))
+log_of heap placed (entries.Advance phase) accepts = (heap.seats, omega arith, collector_log_has_own_entries heap heap.seats (omega arith) (entries.Advance phase))
+log_of heap placed (entries.Frees count) accepts = (heap.seats, omega arith, collector_log_has_own_entries heap heap.seats (omega arith) (entries.Frees count))
+log_of heap placed (entries.Returns count) accepts = (heap.seats, omega arith, collector_log_has_own_entries heap heap.seats (omega arith) (entries.Returns count))
+log_of heap placed (entries.Swings id) accepts = (heap.seats, omega arith, collector_log_has_own_entries heap heap.seats (omega arith) (entries.Swings id))
+log_of heap placed (entries.Ends cycle kept) accepts = (heap.seats, omega arith, collector_log_has_own_entries heap heap.seats (omega arith) (entries.Ends cycle kept))
+log_of heap placed (entries.Turned command reply) accepts = (heap.seats, omega arith, collector_log_has_own_entries heap heap.seats (omega arith) (entries.Turned command reply))
 
 -- where no log's next entry is ready, nothing is left
-pub none_left : (heap : Heap) (logs : List (List Entry)) (placed rest : List Entry) → IsCompletion heap logs placed rest
+pub nothing_is_left : (heap : Heap) (logs : List (List Entry)) (placed rest : List Entry) → IsCompletion heap logs placed rest
     → ((number : ℕ) → number ≤ heap.seats → (e : Entry) → IsNext heap logs placed number e → IsReady heap logs placed number e → ⊥) → logs ≡ logs_of heap placed
-none_left heap logs placed [] completion stuck = completion.kept ∙ ap (logs_of heap) (append-nil placed)
-none_left heap logs placed (e ∷ rest) completion stuck =
-    let log = log_of heap placed e (rest_accepted heap logs placed (e ∷ rest) completion).0 in
+nothing_is_left heap logs placed [] completion stuck = completion.kept ∙ ap (logs_of heap) (append-nil placed)
+nothing_is_left heap logs placed (e ∷ rest) completion stuck =
+    let log = log_of heap placed e (rest_is_accepted heap logs placed (e ∷ rest) completion).0 in
     let next : IsNext heap logs placed log.0 e = record { others = _; left = left_of-placed heap logs placed rest e log.0 completion log.1 log.2 } in
     absurd (stuck log.0 log.1 e next (first_is_ready heap logs placed rest e log.0 completion))

@@ -16,16 +16,16 @@ use Rattle.heap_model.specs.graph.Objects.{opening}
 use Rattle.heap_model.specs.graph.Legal.{AcceptsAll}
 use Rattle.log_merge.specs.Merging.{is_in_log, part_of, HasPendingGet, WaitsForNone, IsReady, IsNext}
 use Rattle.log_merge.specs.Placing.{IsCompletion}
-use Rattle.log_merge.proofs.merge_lemmas.Exchange.{AllApart, NoneIsDue, first_too}
-use Rattle.log_merge.proofs.merge_lemmas.Parts.{filter-yes, filter-no, no_more, parted_filter, in_seats_log, in_collectors_log, part_of-collector, part_of-append, left_of-rest, filter-moved, is_of-seat_of}
-use Rattle.log_merge.proofs.merge_lemmas.Rests.{AcceptsAll-both, AcceptsAll-parts, no_gets_from, placed_sound, record_get, rest_accepted}
+use Rattle.log_merge.proofs.merge_lemmas.Exchange.{AllApart, NoneIsDue, accepts_all_after_first}
+use Rattle.log_merge.proofs.merge_lemmas.Parts.{filter-yes, filter-no, no_more, parted_filter, seat_log_has_own_entries, collector_log_has_own_entries, part_of-collector, part_of-append, left_of-rest, filter-moved, is_of-seat_of}
+use Rattle.log_merge.proofs.merge_lemmas.Rests.{AcceptsAll-both, AcceptsAll-parts, no_gets_by_places, placed_is_sound, recorded_get_is_pending, rest_is_accepted}
 
 -- entries of other logs are other seats'
 two_seats : (heap : Heap) (number seat : ℕ) (e a : Entry) → is_in_log heap number e ≡ true → is_in_log heap number a ≡ false → seat_of e ≡ Some seat → seat_of a ≡ Some seat → ⊥
 two_seats heap number seat e a mine other is too = elim (cases_lt number heap.seats) [
-  | inl within ↦ (let one : eqb seat number ≡ true = sym (is_of-seat_of number e seat is) ∙ sym (in_seats_log heap number within e) ∙ mine in
-      let two : eqb seat number ≡ false = sym (is_of-seat_of number a seat too) ∙ sym (in_seats_log heap number within a) ∙ other in both_ways (eqb seat number) two one)
-  | inr past ↦ (let none : is_none (seat_of e) ≡ true = sym (in_collectors_log heap number past e) ∙ mine in let no : false ≡ true = sym (ap is_none is) ∙ none in cc)
+  | inl within ↦ (let one : eqb seat number ≡ true = sym (is_of-seat_of number e seat is) ∙ sym (seat_log_has_own_entries heap number within e) ∙ mine in
+      let two : eqb seat number ≡ false = sym (is_of-seat_of number a seat too) ∙ sym (seat_log_has_own_entries heap number within a) ∙ other in both_ways (eqb seat number) two one)
+  | inr past ↦ (let none : is_none (seat_of e) ≡ true = sym (collector_log_has_own_entries heap number past e) ∙ mine in let no : false ≡ true = sym (ap is_none is) ∙ none in cc)
 ]
 
 all_apart : (heap : Heap) (number : ℕ) (e : Entry) (front : List Entry) → is_in_log heap number e ≡ true → part_of heap number front ≡ [] → AllApart e front
@@ -45,31 +45,31 @@ out_of_log heap number front back x none here =
 none_is_due : (heap : Heap) (logs : List (List Entry)) (placed rest front back : List Entry) (e : Entry) (number : ℕ) → IsCompletion heap logs placed rest → rest ≡ front ++ e ∷ back → part_of heap number front ≡ []
     → WaitsForNone heap logs placed number e → NoneIsDue (graph_of heap placed) front e
 none_is_due heap logs placed rest front back (entries.Said seat (commands.Set r i v) (replies.Was stamp)) number completion parted none waits = λ value j t writes.
-    no_gets_from (graph_of heap placed) front value j t (λ one other x split gets.
+    no_gets_by_places (graph_of heap placed) front value j t (λ one other x split gets.
     let e = entries.Said seat (commands.Set r i v) (replies.Was stamp) in
     let whole : rest ≡ one ++ x ∷ (other ++ e ∷ back) = parted ∙ ap (λ es. es ++ e ∷ back) split ∙ append_assoc one (x ∷ other) (e ∷ back) in
-    let pending = record_get heap logs placed rest one (other ++ e ∷ back) x value j t number completion whole (out_of_log heap number one other x (ap (part_of heap number) (sym split) ∙ none)) gets in
+    let pending = recorded_get_is_pending heap logs placed rest one (other ++ e ∷ back) x value j t number completion whole (out_of_log heap number one other x (ap (part_of heap number) (sym split) ∙ none)) gets in
     waits (subst (λ w. HasPendingGet heap logs placed number w i stamp) (sym writes.0) (subst (λ k. HasPendingGet heap logs placed number value k stamp) (sym writes.1) (subst (λ s. HasPendingGet heap logs placed number value j s) (sym writes.2) pending))))
 none_is_due heap logs placed rest front back _ number completion parted none waits = λ value j t writes. absurd writes
 
 -- the seat of an entry of a seat's log
-pub of_seat : (number : ℕ) (e : Entry) → is_of number e ≡ true → seat_of e ≡ Some number
-of_seat number (entries.Said other command reply) is = ap Some (eqb-true other number is)
-of_seat number (entries.Takes other count) is = ap Some (eqb-true other number is)
-of_seat number (entries.GivesBack other count) is = ap Some (eqb-true other number is)
-of_seat number (entries.Answers other phase) is = ap Some (eqb-true other number is)
-of_seat number _ is = absurd cc
+pub log_entry_has_seat : (number : ℕ) (e : Entry) → is_of number e ≡ true → seat_of e ≡ Some number
+log_entry_has_seat number (entries.Said other command reply) is = ap Some (eqb-true other number is)
+log_entry_has_seat number (entries.Takes other count) is = ap Some (eqb-true other number is)
+log_entry_has_seat number (entries.GivesBack other count) is = ap Some (eqb-true other number is)
+log_entry_has_seat number (entries.Answers other phase) is = ap Some (eqb-true other number is)
+log_entry_has_seat number _ is = absurd cc
 
 none_of : (number : ℕ) (e : Entry) (front : List Entry) → seat_of e ≡ Some number → AllApart e front → filter (is_of number) front ≡ []
 none_of number e [] is apart = refl
 none_of number e (a ∷ front) is apart = elim (cases_Bool (is_of number a)) [
-  | inl too ↦ absurd (apart.0 number is (of_seat number a too))
+  | inl too ↦ absurd (apart.0 number is (log_entry_has_seat number a too))
   | inr out ↦ filter-no (is_of number) a front out ∙ none_of number e front is apart.1
 ]
 
 no_collectors : (heap : Heap) (number : ℕ) (e : Entry) (front : List Entry) → is_in_log heap number e ≡ true → part_of heap number front ≡ [] → is_collectors e ≡ true → filter is_collectors front ≡ []
 no_collectors heap number e front mine none is = elim (cases_lt number heap.seats) [
-  | inl within ↦ absurd (let seat = of_seat number e (sym (in_seats_log heap number within e) ∙ mine) in let no : false ≡ true = sym (ap is_none seat) ∙ is in cc)
+  | inl within ↦ absurd (let seat = log_entry_has_seat number e (sym (seat_log_has_own_entries heap number within e) ∙ mine) in let no : false ≡ true = sym (ap is_none seat) ∙ is in cc)
   | inr past ↦ sym (part_of-collector heap number front past) ∙ none
 ]
 
@@ -87,7 +87,7 @@ logs_of-moved heap placed front back e number mine none =
     let f = λ (n : ℕ). filter (is_of n) (placed ++ (front ++ e ∷ back)) in
     let h = λ (n : ℕ). filter (is_of n) (placed ++ e ∷ (front ++ back)) in
     let seats : map f (range_with_len 0 heap.seats) ≡ map h (range_with_len 0 heap.seats) =
-    map_same f h (range_with_len 0 heap.seats) (λ n. moved (is_of n) (λ is. none_of n e front (of_seat n e is) apart)) in
+    map_same f h (range_with_len 0 heap.seats) (λ n. moved (is_of n) (λ is. none_of n e front (log_entry_has_seat n e is) apart)) in
     ap (λ ls. ls ++ filter is_collectors (placed ++ (front ++ e ∷ back)) ∷ []) seats
     ∙ ap (λ l. map h (range_with_len 0 heap.seats) ++ l ∷ []) (moved is_collectors (no_collectors heap number e front mine none))
 
@@ -97,15 +97,15 @@ pub record IsFirstOf (heap : Heap) (logs : List (List Entry)) (placed : List Ent
   pub completion : IsCompletion heap logs placed (e ∷ rest)
 
 -- what is next and ready in its log may stand first
-pub ready_first : (heap : Heap) (logs : List (List Entry)) (placed rest : List Entry) (number : ℕ) (e : Entry) → IsCompletion heap logs placed rest → number ≤ heap.seats
+pub ready_stands_first : (heap : Heap) (logs : List (List Entry)) (placed rest : List Entry) (number : ℕ) (e : Entry) → IsCompletion heap logs placed rest → number ≤ heap.seats
     → IsNext heap logs placed number e → IsReady heap logs placed number e → IsFirstOf heap logs placed e
-ready_first heap logs placed rest number e completion within next ready =
+ready_stands_first heap logs placed rest number e completion within next ready =
     let g = graph_of heap placed in
     let there = parted_filter (is_in_log heap number) rest [] next.others e (sym (left_of-rest heap logs placed rest number completion.kept within) ∙ next.left) in
     let due = none_is_due heap logs placed rest there.front there.back e number completion there.parted there.before ready.waits in
     let apart = all_apart heap number e there.front there.passes there.before in
-    let all = subst (AcceptsAll g) there.parted (rest_accepted heap logs placed rest completion) in
-    let later = first_too g there.front there.back e (placed_sound heap logs placed rest completion) ready.accepted due apart all in
+    let all = subst (AcceptsAll g) there.parted (rest_is_accepted heap logs placed rest completion) in
+    let later = accepts_all_after_first g there.front there.back e (placed_is_sound heap logs placed rest completion) ready.accepted due apart all in
     record {
       rest = there.front ++ there.back;
       completion = record {
@@ -115,8 +115,8 @@ ready_first heap logs placed rest number e completion within next ready =
     }
 
 -- and is placed
-pub completion-more : (heap : Heap) (logs : List (List Entry)) (placed rest : List Entry) (e : Entry) → IsCompletion heap logs placed (e ∷ rest) → IsCompletion heap logs (placed ++ e ∷ []) rest
-completion-more heap logs placed rest e completion = record {
+pub completion_with_placed : (heap : Heap) (logs : List (List Entry)) (placed rest : List Entry) (e : Entry) → IsCompletion heap logs placed (e ∷ rest) → IsCompletion heap logs (placed ++ e ∷ []) rest
+completion_with_placed heap logs placed rest e completion = record {
   legal = subst (AcceptsAll (opening heap)) (sym (append_assoc placed (e ∷ []) rest)) completion.legal;
   kept = completion.kept ∙ ap (logs_of heap) (sym (append_assoc placed (e ∷ []) rest));
 }

@@ -74,17 +74,17 @@ parted_filter p (y ∷ ys) earlier later x same = elim (cases_Bool (p y)) [
 ]
 
 -- which log an entry stands in
-pub in_seats_log : (heap : Heap) (number : ℕ) → number < heap.seats → (e : Entry) → is_in_log heap number e ≡ is_of number e
-in_seats_log heap number within e = ap (λ b. cond b (is_of number e) (is_collectors e)) (lt-ltb number heap.seats within)
+pub seat_log_has_own_entries : (heap : Heap) (number : ℕ) → number < heap.seats → (e : Entry) → is_in_log heap number e ≡ is_of number e
+seat_log_has_own_entries heap number within e = ap (λ b. cond b (is_of number e) (is_collectors e)) (lt-ltb number heap.seats within)
 
-pub in_collectors_log : (heap : Heap) (number : ℕ) → heap.seats ≤ number → (e : Entry) → is_in_log heap number e ≡ is_collectors e
-in_collectors_log heap number past e = ap (λ b. cond b (is_of number e) (is_collectors e)) (le-ltb number heap.seats past)
+pub collector_log_has_own_entries : (heap : Heap) (number : ℕ) → heap.seats ≤ number → (e : Entry) → is_in_log heap number e ≡ is_collectors e
+collector_log_has_own_entries heap number past e = ap (λ b. cond b (is_of number e) (is_collectors e)) (le-ltb number heap.seats past)
 
 pub part_of-seat : (heap : Heap) (number : ℕ) (es : List Entry) → number < heap.seats → part_of heap number es ≡ filter (is_of number) es
-part_of-seat heap number es within = filter_agree (is_in_log heap number) (is_of number) (in_seats_log heap number within) es
+part_of-seat heap number es within = filter_agree (is_in_log heap number) (is_of number) (seat_log_has_own_entries heap number within) es
 
 pub part_of-collector : (heap : Heap) (number : ℕ) (es : List Entry) → heap.seats ≤ number → part_of heap number es ≡ filter is_collectors es
-part_of-collector heap number es past = filter_agree (is_in_log heap number) is_collectors (in_collectors_log heap number past) es
+part_of-collector heap number es past = filter_agree (is_in_log heap number) is_collectors (collector_log_has_own_entries heap number past) es
 
 pub part_of-append : (heap : Heap) (number : ℕ) (one other : List Entry) → part_of heap number (one ++ other) ≡ part_of heap number one ++ part_of heap number other
 part_of-append heap number one other = filter-append (is_in_log heap number) one other

@@ -53,8 +53,8 @@ seat-same : (g : Graph) (number : ℕ) (seat : GraphSeat) → number < length g.
 seat-same g number seat within = get_or-set_same g.seats number seat absent_graph_seat within
 
 -- a seat with an object is there
-pub seat_there : (g : Graph) (number count : ℕ) → count < length (graph_seat g number).objects → number < length g.seats
-seat_there g number count made = elim (cases_lt number (length g.seats)) [
+pub object_seat_is_there : (g : Graph) (number count : ℕ) → count < length (graph_seat g number).objects → number < length g.seats
+object_seat_is_there g number count made = elim (cases_lt number (length g.seats)) [
   | inl within ↦ within
   | inr past ↦ absurd (let none : length (graph_seat g number).objects ≡ 0 = ap (λ (s : GraphSeat). length s.objects) (get_or_past g.seats number absent_graph_seat past) in omega arith)
 ]
@@ -66,7 +66,7 @@ target-seat_changed g number c (Number n) known = refl
 target-seat_changed g number c (Object Board) known = refl
 target-seat_changed g number c (Object (Made other count)) known = elim (cases_eq other number) [
   | inl same ↦ (
-      let here : number < length g.seats = subst (λ n. n < length g.seats) same (seat_there g other count known) in
+      let here : number < length g.seats = subst (λ n. n < length g.seats) same (object_seat_is_there g other count known) in
       let objects : (graph_seat (seat_changed g number c) other).objects ≡ (graph_seat g other).objects ++ c.more =
       ap (λ n. (graph_seat (seat_changed g number c) n).objects) same ∙ ap (λ (s : GraphSeat). s.objects) (seat-same g number (grown (graph_seat g number) c) here) ∙ ap (λ n. (graph_seat g n).objects ++ c.more) (sym same) in
       ap (λ os. slice_get os count) objects ∙ slice_get-append_left (graph_seat g other).objects c.more count (fresh false 0) known)
@@ -105,7 +105,7 @@ target-write_same g (Object (Made other count)) i cell = elim (cases_lt count (l
   | inl within ↦ (
       let s = graph_seat g other in
       let put = with_cell (get_or s.objects count (fresh false 0)) i cell in
-      ap (λ (t : GraphSeat). slice_get t.objects count) (seat-same g other (with_object_cell s count i cell) (seat_there g other count within))
+      ap (λ (t : GraphSeat). slice_get t.objects count) (seat-same g other (with_object_cell s count i cell) (object_seat_is_there g other count within))
       ∙ slice_get-set_same s.objects count put within
       ∙ ap (λ o. option_with_cell o i cell) (sym (slice_get-get_or s.objects count (fresh false 0) within)))
   | inr past ↦ (
@@ -153,16 +153,16 @@ same_id (Made s n) (Made t k) = elim (cases_eq s t) [
   | inl same ↦ elim (cases_eq n k) [ inl equal ↦ inl cc | inr counts ↦ inr (λ e. counts cc) ]
 ]
 
-pub same_value : (a b : Value) → (a ≡ b) ⊎ (a ≡ b → ⊥)
-same_value Nil Nil = inl refl
-same_value Nil (Number n) = inr (λ e. cc)
-same_value Nil (Object b) = inr (λ e. cc)
-same_value (Number m) Nil = inr (λ e. cc)
-same_value (Number m) (Number n) = elim (cases_eq m n) [ inl same ↦ inl cc | inr apart ↦ inr (λ e. apart cc) ]
-same_value (Number m) (Object b) = inr (λ e. cc)
-same_value (Object a) Nil = inr (λ e. cc)
-same_value (Object a) (Number n) = inr (λ e. cc)
-same_value (Object a) (Object b) = elim (same_id a b) [ inl same ↦ inl cc | inr apart ↦ inr (λ e. apart cc) ]
+pub values_equal_or_apart : (a b : Value) → (a ≡ b) ⊎ (a ≡ b → ⊥)
+values_equal_or_apart Nil Nil = inl refl
+values_equal_or_apart Nil (Number n) = inr (λ e. cc)
+values_equal_or_apart Nil (Object b) = inr (λ e. cc)
+values_equal_or_apart (Number m) Nil = inr (λ e. cc)
+values_equal_or_apart (Number m) (Number n) = elim (cases_eq m n) [ inl same ↦ inl cc | inr apart ↦ inr (λ e. apart cc) ]
+values_equal_or_apart (Number m) (Object b) = inr (λ e. cc)
+values_equal_or_apart (Object a) Nil = inr (λ e. cc)
+values_equal_or_apart (Object a) (Number n) = inr (λ e. cc)
+values_equal_or_apart (Object a) (Object b) = elim (same_id a b) [ inl same ↦ inl cc | inr apart ↦ inr (λ e. apart cc) ]
 
 -- lengths stay
 len-with_cell : (o : Option Node) (i : ℕ) (cell : Cell) → length_reply (option_with_cell o i cell) ≡ length_reply o
@@ -170,7 +170,7 @@ len-with_cell None i cell = refl
 len-with_cell (Some n) i cell = ap replies.Length (length-set n.cells i cell)
 
 len-write : (g : Graph) (value : Value) (i : ℕ) (cell : Cell) (other : Value) → len (write g value i cell) other ≡ len g other
-len-write g value i cell other = elim (same_value other value) [
+len-write g value i cell other = elim (values_equal_or_apart other value) [
   | inl same ↦ ap (λ v. len (write g value i cell) v) same ∙ ap length_reply (target-write_same g value i cell) ∙ len-with_cell (target_node g value) i cell ∙ ap (λ v. len g v) (sym same)
   | inr apart ↦ ap length_reply (target-write_other g value other i cell apart)
 ]
@@ -184,7 +184,7 @@ look-with_cell_other None i j cell apart = refl
 look-with_cell_other (Some n) i j cell apart = ap or_no_field (slice_get-set_other n.cells i j cell apart)
 
 look-write_here : (g : Graph) (value : Value) (i : ℕ) (cell : Cell) (other : Value) (j : ℕ) → (other ≡ value → j ≡ i → ⊥) → look (write g value i cell) other j ≡ look g other j
-look-write_here g value i cell other j apart = elim (same_value other value) [
+look-write_here g value i cell other j apart = elim (values_equal_or_apart other value) [
   | inl same ↦ ap (λ v. look (write g value i cell) v j) same ∙ ap (λ o. cell_or_refusal o j) (target-write_same g value i cell)
       ∙ look-with_cell_other (target_node g value) i j cell (apart same) ∙ ap (λ v. look g v j) (sym same)
   | inr others ↦ ap (λ o. cell_or_refusal o j) (target-write_other g value other i cell others)
@@ -214,10 +214,10 @@ pub look-changed_same : (g : Graph) (number : ℕ) (c : Change) (old : Cell) →
 look-changed_same g number c old known found = look-write_same (seat_changed g number c) c.place c.index c.cell old (look-seat_changed g number c c.place c.index known ∙ found)
 
 -- where a cell is found, there is an object
-pub look_known : (g : Graph) (value : Value) (i : ℕ) (cell : Cell) → look g value i ≡ Ok cell → IsKnown g value
-look_known g Nil i cell found = tt
-look_known g (Number n) i cell found = tt
-look_known g (Object Board) i cell found = tt
-look_known g (Object (Made number count)) i cell found =
+pub found_look_is_known : (g : Graph) (value : Value) (i : ℕ) (cell : Cell) → look g value i ≡ Ok cell → IsKnown g value
+found_look_is_known g Nil i cell found = tt
+found_look_is_known g (Number n) i cell found = tt
+found_look_is_known g (Object Board) i cell found = tt
+found_look_is_known g (Object (Made number count)) i cell found =
     let there = node_found (target_node g (Object (Made number count))) i cell found in
     slice_get_within (graph_seat g number).objects count there.0 there.1

@@ -27,8 +27,8 @@ use Rattle.log_merge.specs.Merging.{is_in_log, part_of, left_of, HasGet, HasPend
 use Rattle.log_merge.specs.Placing.{IsCompletion}
 use Rattle.log_merge.proofs.merge_lemmas.Changes.{Own, own, own_after, change_of, seat_changed, after_reply-changed, own-changed}
 use Rattle.log_merge.proofs.merge_lemmas.Sound.{IsSound}
-use Rattle.log_merge.proofs.merge_lemmas.Finding.{present_within, IsSound-opening, IsSound-after, own-after_other, Writes, IsGetOf, NoGets, IsGone-written, NoGets-gone}
-use Rattle.log_merge.proofs.merge_lemmas.Parts.{filter-yes, filter-no, no_more, parted_filter, in_seats_log, in_collectors_log, part_of-seat, part_of-append, left_of-rest, left_of-past, is_of-seat_of}
+use Rattle.log_merge.proofs.merge_lemmas.Finding.{present_seat_is_there, IsSound-opening, IsSound-after, own_seat_stays_by_other, Writes, IsGetOf, NoGets, IsGone-written, NoGets-gone}
+use Rattle.log_merge.proofs.merge_lemmas.Parts.{filter-yes, filter-no, no_more, parted_filter, seat_log_has_own_entries, collector_log_has_own_entries, part_of-seat, part_of-append, left_of-rest, left_of-past, is_of-seat_of}
 
 -- the entries before, and those behind
 pub AcceptsAll-parts : (g : Graph) (front back : List Entry) → AcceptsAll g (front ++ back) → AcceptsAll g front × AcceptsAll (graph_after g front) back
@@ -50,18 +50,18 @@ seats-write g (Number n) i cell = refl
 seats-write g (Object Board) i cell = refl
 seats-write g (Object (Made number count)) i cell = length-set g.seats number _
 
-pub seats-after : (g : Graph) (e : Entry) → length (after_entry g e).seats ≡ length g.seats
-seats-after g (entries.Said number command reply) =
+pub seat_count_after_entry : (g : Graph) (e : Entry) → length (after_entry g e).seats ≡ length g.seats
+seat_count_after_entry g (entries.Said number command reply) =
     let c = change_of (own g number) number command reply in
     ap (λ (h : Graph). length h.seats) (after_reply-changed g number command reply) ∙ seats-write (seat_changed g number c) c.place c.index c.cell ∙ length-set g.seats number _
-seats-after g _ = refl
+seat_count_after_entry g _ = refl
 
-pub seats-history : (g : Graph) (es : List Entry) → length (graph_after g es).seats ≡ length g.seats
-seats-history g [] = refl
-seats-history g (e ∷ es) = seats-history (after_entry g e) es ∙ seats-after g e
+pub seat_count_after_history : (g : Graph) (es : List Entry) → length (graph_after g es).seats ≡ length g.seats
+seat_count_after_history g [] = refl
+seat_count_after_history g (e ∷ es) = seat_count_after_history (after_entry g e) es ∙ seat_count_after_entry g e
 
-pub seats-opening : (heap : Heap) → length (opening heap).seats ≡ heap.seats
-seats-opening heap = length-replicate heap.seats opening_graph_seat
+pub seat_count_at_opening : (heap : Heap) → length (opening heap).seats ≡ heap.seats
+seat_count_at_opening heap = length-replicate heap.seats opening_graph_seat
 
 -- what a seat alone decides comes from its own entries
 said_step : (g h : Graph) (number : ℕ) (command : Command) (reply : Reply) → own g number ≡ own h number → number < length g.seats → number < length h.seats
@@ -86,45 +86,45 @@ own_history : (es : List Entry) (g h : Graph) (number : ℕ) → own g number �
     → own (graph_after g es) number ≡ own (graph_after h (filter (is_of number) es)) number
 own_history [] g h number same within there = same
 own_history (e ∷ es) g h number same within there = elim (cases_Bool (is_of number e)) [
-  | inl mine ↦ own_history es (after_entry g e) (after_entry h e) number (own_step g h e number mine same within there) (omega (arith, seats-after g e)) (omega (arith, seats-after h e))
+  | inl mine ↦ own_history es (after_entry g e) (after_entry h e) number (own_step g h e number mine same within there) (omega (arith, seat_count_after_entry g e)) (omega (arith, seat_count_after_entry h e))
       ∙ ap (λ xs. own (graph_after h xs) number) (sym (filter-yes (is_of number) e es mine))
-  | inr other ↦ own_history es (after_entry g e) h number (own-after_other g e number (not_of number e other) ∙ same) (omega (arith, seats-after g e)) there
+  | inr other ↦ own_history es (after_entry g e) h number (own_seat_stays_by_other g e number (not_of number e other) ∙ same) (omega (arith, seat_count_after_entry g e)) there
       ∙ ap (λ xs. own (graph_after h xs) number) (sym (filter-no (is_of number) e es other))
 ]
 
-pub own_parts : (heap : Heap) (number : ℕ) (placed front : List Entry) → number < heap.seats → own (graph_of heap (placed ++ front)) number ≡ own (graph_of heap (part_of heap number placed ++ part_of heap number front)) number
-own_parts heap number placed front within =
-    let there : number < length (opening heap).seats = omega (arith, seats-opening heap) in
+pub own_seat_by_parts : (heap : Heap) (number : ℕ) (placed front : List Entry) → number < heap.seats → own (graph_of heap (placed ++ front)) number ≡ own (graph_of heap (part_of heap number placed ++ part_of heap number front)) number
+own_seat_by_parts heap number placed front within =
+    let there : number < length (opening heap).seats = omega (arith, seat_count_at_opening heap) in
     own_history (placed ++ front) (opening heap) (opening heap) number refl there there
     ∙ ap (λ es. own (graph_of heap es) number) (sym (part_of-seat heap number (placed ++ front) within) ∙ part_of-append heap number placed front)
 
 pub graph_of-append : (heap : Heap) (placed front : List Entry) → graph_of heap (placed ++ front) ≡ graph_after (graph_of heap placed) front
 graph_of-append heap placed front = fold-append after_entry (opening heap) placed front
 
-pub rest_accepted : (heap : Heap) (logs : List (List Entry)) (placed rest : List Entry) → IsCompletion heap logs placed rest → AcceptsAll (graph_of heap placed) rest
-rest_accepted heap logs placed rest completion = (AcceptsAll-parts (opening heap) placed rest completion.legal).1
+pub rest_is_accepted : (heap : Heap) (logs : List (List Entry)) (placed rest : List Entry) → IsCompletion heap logs placed rest → AcceptsAll (graph_of heap placed) rest
+rest_is_accepted heap logs placed rest completion = (AcceptsAll-parts (opening heap) placed rest completion.legal).1
 
-pub placed_sound : (heap : Heap) (logs : List (List Entry)) (placed rest : List Entry) → IsCompletion heap logs placed rest → IsSound (graph_of heap placed)
-placed_sound heap logs placed rest completion = IsSound-history (opening heap) placed (IsSound-opening heap) (AcceptsAll-parts (opening heap) placed rest completion.legal).0
+pub placed_is_sound : (heap : Heap) (logs : List (List Entry)) (placed rest : List Entry) → IsCompletion heap logs placed rest → IsSound (graph_of heap placed)
+placed_is_sound heap logs placed rest completion = IsSound-history (opening heap) placed (IsSound-opening heap) (AcceptsAll-parts (opening heap) placed rest completion.legal).0
 
 -- gets by their places
-pub no_gets_from : (g : Graph) (es : List Entry) (value : Value) (j t : ℕ) → ((front back : List Entry) (x : Entry) → es ≡ front ++ x ∷ back → IsGetOf (graph_after g front) x value j t → ⊥) → NoGets g es value j t
-no_gets_from g [] value j t none = tt
-no_gets_from g (e ∷ es) value j t none = (none [] es e refl, no_gets_from (after_entry g e) es value j t (λ front back x parted gets. none (e ∷ front) back x (ap (λ xs. e ∷ xs) parted) gets))
+pub no_gets_by_places : (g : Graph) (es : List Entry) (value : Value) (j t : ℕ) → ((front back : List Entry) (x : Entry) → es ≡ front ++ x ∷ back → IsGetOf (graph_after g front) x value j t → ⊥) → NoGets g es value j t
+no_gets_by_places g [] value j t none = tt
+no_gets_by_places g (e ∷ es) value j t none = (none [] es e refl, no_gets_by_places (after_entry g e) es value j t (λ front back x parted gets. none (e ∷ front) back x (ap (λ xs. e ∷ xs) parted) gets))
 
 no_get_at : (g : Graph) (front back : List Entry) (x : Entry) (value : Value) (j t : ℕ) → NoGets g (front ++ x ∷ back) value j t → IsGetOf (graph_after g front) x value j t → ⊥
 no_get_at g [] back x value j t none gets = none.0 gets
 no_get_at g (e ∷ front) back x value j t none gets = no_get_at (after_entry g e) front back x value j t none.1 gets
 
 -- in which log a seat's entry stands
-pub in_log_seat : (heap : Heap) (number seat : ℕ) (command : Command) (reply : Reply) → is_in_log heap number (entries.Said seat command reply) ≡ true → (number < heap.seats) × (seat ≡ number)
-in_log_seat heap number seat command reply is = elim (cases_lt number heap.seats) [
-  | inl within ↦ (within, eqb-true seat number (sym (in_seats_log heap number within (entries.Said seat command reply)) ∙ is))
-  | inr past ↦ absurd (let no : false ≡ true = sym (in_collectors_log heap number past (entries.Said seat command reply)) ∙ is in cc)
+pub seat_entry_in_own_log : (heap : Heap) (number seat : ℕ) (command : Command) (reply : Reply) → is_in_log heap number (entries.Said seat command reply) ≡ true → (number < heap.seats) × (seat ≡ number)
+seat_entry_in_own_log heap number seat command reply is = elim (cases_lt number heap.seats) [
+  | inl within ↦ (within, eqb-true seat number (sym (seat_log_has_own_entries heap number within (entries.Said seat command reply)) ∙ is))
+  | inr past ↦ absurd (let no : false ≡ true = sym (collector_log_has_own_entries heap number past (entries.Said seat command reply)) ∙ is in cc)
 ]
 
 pub seat_in_log : (heap : Heap) (seat : ℕ) (command : Command) (reply : Reply) → seat < heap.seats → is_in_log heap seat (entries.Said seat command reply) ≡ true
-seat_in_log heap seat command reply within = in_seats_log heap seat within (entries.Said seat command reply) ∙ eq-eqb seat seat refl
+seat_in_log heap seat command reply within = seat_log_has_own_entries heap seat within (entries.Said seat command reply) ∙ eq-eqb seat seat refl
 
 -- a get that is left of a log stands in the rest
 get_in_rest : (heap : Heap) (logs : List (List Entry)) (placed rest : List Entry) (other : ℕ) (value : Value) (i t : ℕ) → IsCompletion heap logs placed rest
@@ -134,9 +134,9 @@ get_in_rest heap logs placed rest other value i t completion has none = elim (ca
   | inr within ↦ (
       let x = entries.Said has.seat (commands.Get has.d has.r i) (replies.Got has.found t) in
       let there = parted_filter (is_in_log heap other) rest has.earlier has.later x (sym (left_of-rest heap logs placed rest other completion.kept within) ∙ has.parted) in
-      let seat = in_log_seat heap other has.seat (commands.Get has.d has.r i) (replies.Got has.found t) there.passes in
+      let seat = seat_entry_in_own_log heap other has.seat (commands.Get has.d has.r i) (replies.Got has.found t) there.passes in
       let same : own (graph_after (graph_of heap placed) there.front) other ≡ own (graph_of heap (part_of heap other placed ++ has.earlier)) other =
-      ap (λ g. own g other) (sym (graph_of-append heap placed there.front)) ∙ own_parts heap other placed there.front seat.0 ∙ ap (λ es. own (graph_of heap (part_of heap other placed ++ es)) other) there.before in
+      ap (λ g. own g other) (sym (graph_of-append heap placed there.front)) ∙ own_seat_by_parts heap other placed there.front seat.0 ∙ ap (λ es. own (graph_of heap (part_of heap other placed ++ es)) other) there.before in
       let mine : own (graph_after (graph_of heap placed) there.front) has.seat ≡ own (graph_of heap (part_of heap other placed ++ has.earlier)) has.seat =
       subst (λ n. own (graph_after (graph_of heap placed) there.front) n ≡ own (graph_of heap (part_of heap other placed ++ has.earlier)) n) (sym seat.1) same in
       let gets : IsGetOf (graph_after (graph_of heap placed) there.front) x value i t = (ap (λ (o : Own). get_or o.registers has.r Nil) mine ∙ has.holds, refl, refl) in
@@ -144,18 +144,18 @@ get_in_rest heap logs placed rest other value i t completion has none = elim (ca
 ]
 
 -- and the other way round, for another log
-pub record_get : (heap : Heap) (logs : List (List Entry)) (placed rest front back : List Entry) (x : Entry) (value : Value) (j t number : ℕ) → IsCompletion heap logs placed rest → rest ≡ front ++ x ∷ back
+pub recorded_get_is_pending : (heap : Heap) (logs : List (List Entry)) (placed rest front back : List Entry) (x : Entry) (value : Value) (j t number : ℕ) → IsCompletion heap logs placed rest → rest ≡ front ++ x ∷ back
     → (is_in_log heap number x ≡ true → ⊥) → IsGetOf (graph_after (graph_of heap placed) front) x value j t → HasPendingGet heap logs placed number value j t
-record_get heap logs placed rest front back (entries.Said seat (commands.Get d r i) (replies.Got found stamp)) value j t number completion parted out gets =
+recorded_get_is_pending heap logs placed rest front back (entries.Said seat (commands.Get d r i) (replies.Got found stamp)) value j t number completion parted out gets =
     let g = graph_of heap placed in
     let x = entries.Said seat (commands.Get d r i) (replies.Got found stamp) in
-    let accepted : Accepts (graph_after g front) x = (AcceptsAll-parts g front (x ∷ back) (subst (AcceptsAll g) parted (rest_accepted heap logs placed rest completion))).1.0 in
-    let within : seat < heap.seats = omega (arith, present_within (graph_after g front) seat accepted.0, seats-history g front, seats-history (opening heap) placed, seats-opening heap) in
+    let accepted : Accepts (graph_after g front) x = (AcceptsAll-parts g front (x ∷ back) (subst (AcceptsAll g) parted (rest_is_accepted heap logs placed rest completion))).1.0 in
+    let within : seat < heap.seats = omega (arith, present_seat_is_there (graph_after g front) seat accepted.0, seat_count_after_history g front, seat_count_after_history (opening heap) placed, seat_count_at_opening heap) in
     let left : left_of heap logs placed seat ≡ part_of heap seat front ++ x ∷ part_of heap seat back =
     left_of-rest heap logs placed rest seat completion.kept (omega arith) ∙ ap (part_of heap seat) parted ∙ part_of-append heap seat front (x ∷ back)
     ∙ ap (λ es. part_of heap seat front ++ es) (filter-yes (is_in_log heap seat) x back (seat_in_log heap seat (commands.Get d r i) (replies.Got found stamp) within)) in
     let holds : register_value (graph_of heap (part_of heap seat placed ++ part_of heap seat front)) seat r ≡ value =
-    ap (λ (o : Own). get_or o.registers r Nil) (sym (own_parts heap seat placed front within)) ∙ ap (λ h. register_value h seat r) (graph_of-append heap placed front) ∙ gets.0 in
+    ap (λ (o : Own). get_or o.registers r Nil) (sym (own_seat_by_parts heap seat placed front within)) ∙ ap (λ h. register_value h seat r) (graph_of-append heap placed front) ∙ gets.0 in
     let has : HasGet heap (part_of heap seat placed) (left_of heap logs placed seat) value i stamp = record {
       earlier = part_of heap seat front;
       seat = seat;
@@ -171,15 +171,15 @@ record_get heap logs placed rest front back (entries.Said seat (commands.Get d r
       apart = λ same. out (subst (λ n. is_in_log heap n x ≡ true) same (seat_in_log heap seat (commands.Get d r i) (replies.Got found stamp) within));
       gets = subst (λ k. HasGet heap (part_of heap seat placed) (left_of heap logs placed seat) value k t) gets.1 (subst (λ s. HasGet heap (part_of heap seat placed) (left_of heap logs placed seat) value i s) gets.2 has);
     }
-record_get heap logs placed rest front back _ value j t number completion parted out gets = absurd gets
+recorded_get_is_pending heap logs placed rest front back _ value j t number completion parted out gets = absurd gets
 
 -- the first of the rest replaces no stamp that any log has yet to get
-pub first_is_free : (heap : Heap) (logs : List (List Entry)) (placed rest : List Entry) (e : Entry) (other : ℕ) (value : Value) (j t : ℕ) → IsCompletion heap logs placed (e ∷ rest)
+pub first_replaces_no_pending : (heap : Heap) (logs : List (List Entry)) (placed rest : List Entry) (e : Entry) (other : ℕ) (value : Value) (j t : ℕ) → IsCompletion heap logs placed (e ∷ rest)
     → Writes (graph_of heap placed) e value j t → HasGet heap (part_of heap other placed) (left_of heap logs placed other) value j t → ⊥
-first_is_free heap logs placed rest e other value j t completion writes has =
+first_replaces_no_pending heap logs placed rest e other value j t completion writes has =
     let g = graph_of heap placed in
-    let accepts = rest_accepted heap logs placed (e ∷ rest) completion in
-    let sound = placed_sound heap logs placed (e ∷ rest) completion in
+    let accepts = rest_is_accepted heap logs placed (e ∷ rest) completion in
+    let sound = placed_is_sound heap logs placed (e ∷ rest) completion in
     get_in_rest heap logs placed (e ∷ rest) other value j t completion has
     (sets_get_none g e value j t writes, NoGets-gone (after_entry g e) rest value j t (IsSound-after g e sound accepts.0) accepts.1 (IsGone-written g e value j t sound accepts.0 writes))
   where
@@ -190,11 +190,11 @@ first_is_free heap logs placed rest e other value j t completion writes has =
 -- so it is ready
 pub first_is_ready : (heap : Heap) (logs : List (List Entry)) (placed rest : List Entry) (e : Entry) (number : ℕ) → IsCompletion heap logs placed (e ∷ rest) → IsReady heap logs placed number e
 first_is_ready heap logs placed rest e number completion = record {
-  accepted = (rest_accepted heap logs placed (e ∷ rest) completion).0;
+  accepted = (rest_is_accepted heap logs placed (e ∷ rest) completion).0;
   waits = free e completion;
 }
   where
     free : (e : Entry) → IsCompletion heap logs placed (e ∷ rest) → WaitsForNone heap logs placed number e
     free (entries.Said seat (commands.Set r i v) (replies.Was stamp)) completion = λ pending.
-        first_is_free heap logs placed rest (entries.Said seat (commands.Set r i v) (replies.Was stamp)) pending.other (register_value (graph_of heap placed) seat r) i stamp completion (refl, refl, refl) pending.gets
+        first_replaces_no_pending heap logs placed rest (entries.Said seat (commands.Set r i v) (replies.Was stamp)) pending.other (register_value (graph_of heap placed) seat r) i stamp completion (refl, refl, refl) pending.gets
     free _ completion = tt

@@ -41,8 +41,8 @@ pub record IsSound (g : Graph) : Type 0 where
   pub cells : AllCells (IsSoundCell g) g
 
 -- what holds of each element and of the default
-pub holds_or : {A : Type 0} (P : A → Type 0) (xs : List A) (i : ℕ) (d : A) → All P xs → P d → P (get_or xs i d)
-holds_or P xs i d all other = elim (cases_lt i (length xs)) [
+pub all_holds_or_default : {A : Type 0} (P : A → Type 0) (xs : List A) (i : ℕ) (d : A) → All P xs → P d → P (get_or xs i d)
+all_holds_or_default P xs i d all other = elim (cases_lt i (length xs)) [
   | inl within ↦ All-get_or P xs i d within all
   | inr past ↦ subst P (sym (get_or_past xs i d past)) other
 ]
@@ -68,7 +68,7 @@ AllCells-look P g (Object Board) i cell all found = holds_at_board (slice_get g.
     holds_at_board None here is = absurd cc
     holds_at_board (Some c) here is = (let same : c ≡ cell = cc in subst P same (holds_at P g.board.cells i c all.board here))
 AllCells-look P g (Object (Made number count)) i cell all found =
-    let objects : AllOfSeat P (graph_seat g number) = holds_or (AllOfSeat P) g.seats number absent_graph_seat all.seats (All-nil (λ (o : Node). All P o.cells)) in
+    let objects : AllOfSeat P (graph_seat g number) = all_holds_or_default (AllOfSeat P) g.seats number absent_graph_seat all.seats (All-nil (λ (o : Node). All P o.cells)) in
     cell_holds P (slice_get (graph_seat g number).objects count) i cell (λ n here. holds_at (λ (o : Node). All P o.cells) (graph_seat g number).objects count n objects here) found
 
 -- a cell is written
@@ -79,9 +79,9 @@ AllCells-write P g (Object Board) i cell all here = record { board = All-set P g
 AllCells-write P g (Object (Made number count)) i cell all here =
     let Q = λ (o : Node). All P o.cells in
     let s = graph_seat g number in
-    let objects : AllOfSeat P s = holds_or (AllOfSeat P) g.seats number absent_graph_seat all.seats (All-nil Q) in
+    let objects : AllOfSeat P s = all_holds_or_default (AllOfSeat P) g.seats number absent_graph_seat all.seats (All-nil Q) in
     let o = get_or s.objects count (fresh false 0) in
-    let cells : Q o = holds_or Q s.objects count (fresh false 0) objects (All-nil P) in
+    let cells : Q o = all_holds_or_default Q s.objects count (fresh false 0) objects (All-nil P) in
     record {
       board = all.board;
       seats = All-set (AllOfSeat P) g.seats number (with_object_cell s count i cell) (All-set Q s.objects count (with_cell o i cell) (All-set P o.cells i cell here cells) objects) all.seats;
@@ -92,7 +92,7 @@ pub AllCells-seat_changed : (P : Cell → Type 0) (g : Graph) (number : ℕ) (c 
 AllCells-seat_changed P g number c all more =
     let Q = λ (o : Node). All P o.cells in
     let s = graph_seat g number in
-    let objects : AllOfSeat P s = holds_or (AllOfSeat P) g.seats number absent_graph_seat all.seats (All-nil Q) in
+    let objects : AllOfSeat P s = all_holds_or_default (AllOfSeat P) g.seats number absent_graph_seat all.seats (All-nil Q) in
     record {
       board = all.board;
       seats = All-set (AllOfSeat P) g.seats number (grown s c) (All-append Q s.objects c.more objects more) all.seats;
@@ -145,8 +145,8 @@ node_set : (o : Option Node) (i sets stamp : ℕ) → Sets sets (cell_or_refusal
 node_set None i sets stamp says = absurd (let e : replies.Was stamp ≡ replies.NoObject = says in cc)
 node_set (Some n) i sets stamp says = cell_set (slice_get n.cells i) sets stamp says
 
-pub set_found : (g : Graph) (number r i v stamp : ℕ) → Says g number (commands.Set r i v) (replies.Was stamp) → IsSetAt g number (register_value g number r) i stamp
-set_found g number r i v stamp says =
+pub set_stands_at_cell : (g : Graph) (number r i v stamp : ℕ) → Says g number (commands.Set r i v) (replies.Was stamp) → IsSetAt g number (register_value g number r) i stamp
+set_stands_at_cell g number r i v stamp says =
     let all = node_set (target_node g (register_value g number r)) i (own g number).sets stamp says in
     record { cell = all.0; found = all.1; shown = all.2; few = all.3 }
 
@@ -159,6 +159,6 @@ node_got : (o : Option Node) (i : ℕ) (value : Value) (stamp : ℕ) → Gets (c
 node_got None i value stamp says = absurd (let e : replies.Got value stamp ≡ replies.NoObject = says in cc)
 node_got (Some n) i value stamp says = cell_got (slice_get n.cells i) value stamp says
 
-pub get_found : (g : Graph) (number d r i : ℕ) (value : Value) (stamp : ℕ) → Says g number (commands.Get d r i) (replies.Got value stamp)
+pub get_finds_its_cell : (g : Graph) (number d r i : ℕ) (value : Value) (stamp : ℕ) → Says g number (commands.Get d r i) (replies.Got value stamp)
     → (cell : Cell) × (look g (register_value g number r) i ≡ Ok cell) × (cell.value ≡ value) × (cell.stamp ≡ stamp)
-get_found g number d r i value stamp says = node_got (target_node g (register_value g number r)) i value stamp says
+get_finds_its_cell g number d r i value stamp says = node_got (target_node g (register_value g number r)) i value stamp says

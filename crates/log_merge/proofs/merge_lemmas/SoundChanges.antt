@@ -19,7 +19,7 @@ use Rattle.heap_model.specs.graph.Graph.{Node, Graph, fresh, unset}
 use Rattle.heap_model.specs.graph.Changes.{set_stamp}
 use Rattle.log_merge.proofs.merge_lemmas.Changes.{Own, own, Change, with_object, with_set, change_of, seat_changed, changed, own-changed, own-changed_other}
 use Rattle.log_merge.proofs.merge_lemmas.Places.{IsKnown}
-use Rattle.log_merge.proofs.merge_lemmas.Sound.{AllCells, AllCells-look, AllCells-seat_changed, AllCells-weaker, AllCells-write, Grows, Grows-changed, IsKnown-grows, IsOld, IsOld-grows, IsSound, IsSoundCell, get_found, holds_or, set_found}
+use Rattle.log_merge.proofs.merge_lemmas.Sound.{AllCells, AllCells-look, AllCells-seat_changed, AllCells-weaker, AllCells-write, Grows, Grows-changed, IsKnown-grows, IsOld, IsOld-grows, IsSound, IsSoundCell, get_finds_its_cell, all_holds_or_default, set_stands_at_cell}
 
 -- a change that keeps the graph sound
 pub record IsSoundChange (g : Graph) (number : ℕ) (c : Change) : Type 0 where
@@ -95,25 +95,25 @@ set_change g number r i v within known few =
 
 -- registers that are nil
 nil_known : (g : Graph) (r : ℕ) → IsKnown g (get_or (replicate register_count Nil) r Nil)
-nil_known g r = holds_or (IsKnown g) (replicate register_count Nil) r Nil (All-replicate (IsKnown g) register_count Nil tt) tt
+nil_known g r = all_holds_or_default (IsKnown g) (replicate register_count Nil) r Nil (All-replicate (IsKnown g) register_count Nil tt) tt
 
 -- what a seat does keeps the graph sound
-pub sound_change : (g : Graph) (number : ℕ) (command : Command) (reply : Reply) → IsSound g → number < length g.seats → Says g number command reply → IsSoundChange g number (change_of (own g number) number command reply)
-sound_change g number (commands.New d fields) (replies.Made id) sound within says = made_change g number d false fields within (sound.registers number)
-sound_change g number (commands.Array d cells) (replies.Made id) sound within says = made_change g number d true cells within (sound.registers number)
-sound_change g number (commands.Get d r i) (replies.Got value stamp) sound within says =
-    let got = get_found g number d r i value stamp says in
+pub call_changes_soundly : (g : Graph) (number : ℕ) (command : Command) (reply : Reply) → IsSound g → number < length g.seats → Says g number command reply → IsSoundChange g number (change_of (own g number) number command reply)
+call_changes_soundly g number (commands.New d fields) (replies.Made id) sound within says = made_change g number d false fields within (sound.registers number)
+call_changes_soundly g number (commands.Array d cells) (replies.Made id) sound within says = made_change g number d true cells within (sound.registers number)
+call_changes_soundly g number (commands.Get d r i) (replies.Got value stamp) sound within says =
+    let got = get_finds_its_cell g number d r i value stamp says in
     let known : IsKnown g value = subst (IsKnown g) got.2 (AllCells-look (IsSoundCell g) g (register_value g number r) i got.0 sound.cells got.1).0 in
     quiet_change g number (set (own g number).registers d value) (own g number).left within (set_known g (own g number).registers d value (sound.registers number) known)
-sound_change g number (commands.Set r i v) (replies.Was stamp) sound within says = set_change g number r i v within (sound.registers number) (set_found g number r i v stamp says).few
-sound_change g number (commands.Num d n) reply sound within says =
+call_changes_soundly g number (commands.Set r i v) (replies.Was stamp) sound within says = set_change g number r i v within (sound.registers number) (set_stands_at_cell g number r i v stamp says).few
+call_changes_soundly g number (commands.Num d n) reply sound within says =
     quiet_change g number (set (own g number).registers d (Number n)) (own g number).left within (set_known g (own g number).registers d (Number n) (sound.registers number) tt)
-sound_change g number (commands.Nil d) reply sound within says =
+call_changes_soundly g number (commands.Nil d) reply sound within says =
     quiet_change g number (set (own g number).registers d Nil) (own g number).left within (set_known g (own g number).registers d Nil (sound.registers number) tt)
-sound_change g number (commands.Copy d r) reply sound within says =
+call_changes_soundly g number (commands.Copy d r) reply sound within says =
     quiet_change g number (set (own g number).registers d (register_value g number r)) (own g number).left within (set_known g (own g number).registers d (register_value g number r) (sound.registers number) (sound.registers number r))
-sound_change g number commands.Leave reply sound within says = quiet_change g number (replicate register_count Nil) true within (nil_known g)
-sound_change g number _ reply sound within says = quiet_change g number (own g number).registers (own g number).left within (sound.registers number)
+call_changes_soundly g number commands.Leave reply sound within says = quiet_change g number (replicate register_count Nil) true within (nil_known g)
+call_changes_soundly g number _ reply sound within says = quiet_change g number (own g number).registers (own g number).left within (sound.registers number)
 
 -- the graph stays sound
 pub IsSound-changed : (g : Graph) (number : ℕ) (c : Change) → IsSound g → number < length g.seats → IsSoundChange g number c → IsSound (changed g number c)

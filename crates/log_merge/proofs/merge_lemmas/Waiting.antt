@@ -22,12 +22,12 @@ use Rattle.log_merge.specs.Registers.{opening_registers, registers_after, regist
 use Rattle.log_merge.specs.Placing.{IsCompletion, count_in, count_left, replaced_by}
 use Rattle.log_merge.proofs.merge_lemmas.Changes.{Own, own}
 use Rattle.log_merge.proofs.merge_lemmas.Places.{look}
-use Rattle.log_merge.proofs.merge_lemmas.Sound.{set_found}
+use Rattle.log_merge.proofs.merge_lemmas.Sound.{set_stands_at_cell}
 use Rattle.log_merge.proofs.merge_lemmas.Finding.{Writes}
-use Rattle.log_merge.proofs.merge_lemmas.Counting.{part-le-sum, some_part, HasKind-counted, counted-HasKind, registers_shown}
+use Rattle.log_merge.proofs.merge_lemmas.Counting.{part-le-sum, positive_sum_has_part, HasKind-counted, kept_kind_is_counted, own_registers_are_shown}
 use Rattle.log_merge.proofs.merge_lemmas.Parts.{no_more, parted_filter, part_of-append, left_of-rest, left_of-past}
-use Rattle.log_merge.proofs.merge_lemmas.Rests.{AcceptsAll-parts, own_parts, in_log_seat, first_is_free}
-use Rattle.log_merge.proofs.merge_lemmas.Moving.{ready_first}
+use Rattle.log_merge.proofs.merge_lemmas.Rests.{AcceptsAll-parts, own_seat_by_parts, seat_entry_in_own_log, first_replaces_no_pending}
+use Rattle.log_merge.proofs.merge_lemmas.Moving.{ready_stands_first}
 
 -- what a kind says of the value, the index and the stamp
 kind_is : (value : Value) (i stamp : ℕ) (kind : PendingGet) → kind_of value i stamp ≡ Some kind → (value ≡ Object kind.object) × (i ≡ kind.index) × (stamp ≡ kind.stamp)
@@ -43,8 +43,8 @@ shown_at : (heap : Heap) (logs : List (List Entry)) (placed rest front back : Li
     → (own (graph_of heap (part_of heap number placed ++ part_of heap number front)) number).registers ≡ fold registers_after (registers_of (part_of heap number placed)) (part_of heap number front)
 shown_at heap logs placed rest front back number completion parted within =
     let whole : AcceptsAll (opening heap) ((placed ++ front) ++ back) = subst (AcceptsAll (opening heap)) (ap (λ es. placed ++ es) parted ∙ sym (append_assoc placed front back)) completion.legal in
-    ap (λ (o : Own). o.registers) (sym (own_parts heap number placed front within))
-    ∙ registers_shown heap (placed ++ front) number (AcceptsAll-parts (opening heap) (placed ++ front) back whole).0 within
+    ap (λ (o : Own). o.registers) (sym (own_seat_by_parts heap number placed front within))
+    ∙ own_registers_are_shown heap (placed ++ front) number (AcceptsAll-parts (opening heap) (placed ++ front) back whole).0 within
     ∙ ap registers_of (part_of-append heap number placed front)
     ∙ fold-append registers_after opening_registers (part_of heap number placed) (part_of heap number front)
 
@@ -53,7 +53,7 @@ got_there : (heap : Heap) (placed left earlier later : List Entry) (x : Entry) (
     → (own (graph_of heap (part_of heap number placed ++ earlier)) number).registers ≡ fold registers_after (registers_of (part_of heap number placed)) earlier
     → get_of (fold registers_after (registers_of (part_of heap number placed)) earlier) x ≡ Some kind → HasGet heap (part_of heap number placed) left (Object kind.object) kind.index kind.stamp
 got_there heap placed left earlier later (entries.Said seat (commands.Get d r i) (replies.Got found stamp)) number kind parted inside shown is =
-    let place = in_log_seat heap number seat (commands.Get d r i) (replies.Got found stamp) inside in
+    let place = seat_entry_in_own_log heap number seat (commands.Get d r i) (replies.Got found stamp) inside in
     let held = fold registers_after (registers_of (part_of heap number placed)) earlier in
     let all = kind_is (get_or held r Nil) i stamp kind is in
     let g = graph_of heap (part_of heap number placed ++ earlier) in
@@ -83,7 +83,7 @@ has_get heap logs placed rest number kind completion within some =
         → get_of (fold registers_after (registers_of (part_of heap number placed)) earlier) x ≡ Some kind
         → (own (graph_of heap (part_of heap number placed ++ earlier)) number).registers ≡ fold registers_after (registers_of (part_of heap number placed)) earlier
     shown_in_seat (entries.Said seat command reply) earlier front back parted before inside is =
-        let place = in_log_seat heap number seat command reply inside in
+        let place = seat_entry_in_own_log heap number seat command reply inside in
         subst (λ es. (own (graph_of heap (part_of heap number placed ++ es)) number).registers ≡ fold registers_after (registers_of (part_of heap number placed)) es) before
         (shown_at heap logs placed rest front (entries.Said seat command reply ∷ back) number completion parted place.0)
     shown_in_seat _ earlier front back parted before inside is = absurd cc
@@ -96,13 +96,13 @@ counted_get heap logs placed rest number id i stamp completion within has =
     let x = entries.Said has.seat (commands.Get has.d has.r i) (replies.Got has.found stamp) in
     let held = registers_of (part_of heap number placed) in
     let there = parted_filter (is_in_log heap number) rest has.earlier has.later x (sym (left_of-rest heap logs placed rest number completion.kept within) ∙ has.parted) in
-    let place = in_log_seat heap number has.seat (commands.Get has.d has.r i) (replies.Got has.found stamp) there.passes in
+    let place = seat_entry_in_own_log heap number has.seat (commands.Get has.d has.r i) (replies.Got has.found stamp) there.passes in
     let shown : (own (graph_of heap (part_of heap number placed ++ has.earlier)) number).registers ≡ fold registers_after held has.earlier =
     subst (λ es. (own (graph_of heap (part_of heap number placed ++ es)) number).registers ≡ fold registers_after held es) there.before (shown_at heap logs placed rest there.front (x ∷ there.back) number completion there.parted place.0) in
     let holds : get_or (fold registers_after held has.earlier) has.r Nil ≡ Object id =
     ap (λ rs. get_or rs has.r Nil) (sym shown) ∙ ap (λ n. register_value (graph_of heap (part_of heap number placed ++ has.earlier)) n has.r) (sym place.1) ∙ has.holds in
     let is : get_of (fold registers_after held has.earlier) x ≡ Some kind = ap (λ v. kind_of v i stamp) holds in
-    subst (λ es. 0 < count_by (is_kind kind) (gets_in held es)) (sym has.parted) (counted-HasKind held has.earlier has.later x kind is)
+    subst (λ es. 0 < count_by (is_kind kind) (gets_in held es)) (sym has.parted) (kept_kind_is_counted held has.earlier has.later x kind is)
 
 -- what a set replaces
 replaced_writes : (g : Graph) (e : Entry) (kind : PendingGet) → replaced_by g e ≡ Some kind → Writes g e (Object kind.object) kind.index kind.stamp
@@ -110,13 +110,13 @@ replaced_writes g (entries.Said seat (commands.Set r i v) (replies.Was stamp)) k
 replaced_writes g _ kind is = absurd cc
 
 -- where gets are left of what it replaces, it isn't ready
-pub not_ready : (heap : Heap) (logs : List (List Entry)) (placed rest : List Entry) (number : ℕ) (e : Entry) (kind : PendingGet) → IsCompletion heap logs placed rest → number ≤ heap.seats → IsNext heap logs placed number e
+pub waiting_is_not_ready : (heap : Heap) (logs : List (List Entry)) (placed rest : List Entry) (number : ℕ) (e : Entry) (kind : PendingGet) → IsCompletion heap logs placed rest → number ≤ heap.seats → IsNext heap logs placed number e
     → replaced_by (graph_of heap placed) e ≡ Some kind → 0 < count_left heap logs placed kind → IsReady heap logs placed number e → ⊥
-not_ready heap logs placed rest number e kind completion within next is some ready =
-    let first = ready_first heap logs placed rest number e completion within next ready in
-    let log = some_part (count_in heap logs placed kind) 0 (heap.seats + 1) some in
+waiting_is_not_ready heap logs placed rest number e kind completion within next is some ready =
+    let first = ready_stands_first heap logs placed rest number e completion within next ready in
+    let log = positive_sum_has_part (count_in heap logs placed kind) 0 (heap.seats + 1) some in
     let there : log.0 ≤ heap.seats = omega (arith, log.1) in
-    first_is_free heap logs placed first.rest e log.0 (Object kind.object) kind.index kind.stamp first.completion (replaced_writes (graph_of heap placed) e kind is)
+    first_replaces_no_pending heap logs placed first.rest e log.0 (Object kind.object) kind.index kind.stamp first.completion (replaced_writes (graph_of heap placed) e kind is)
     (has_get heap logs placed (e ∷ first.rest) log.0 kind first.completion there log.2)
 
 -- where a cell is found, the value is an object
@@ -130,7 +130,7 @@ pub waits_for_none : (heap : Heap) (logs : List (List Entry)) (placed rest : Lis
     → ((kind : PendingGet) → replaced_by (graph_of heap placed) e ≡ Some kind → 0 < count_left heap logs placed kind → ⊥) → WaitsForNone heap logs placed number e
 waits_for_none heap logs placed rest number (entries.Said seat (commands.Set r i v) (replies.Was stamp)) completion accepts none = λ pending.
     let g = graph_of heap placed in
-    let at = set_found g seat r i v stamp accepts.2 in
+    let at = set_stands_at_cell g seat r i v stamp accepts.2 in
     let object = object_there g (register_value g seat r) i at.cell at.found in
     let kind : PendingGet = record { object = object.0; index = i; stamp = stamp } in
     let gets : HasGet heap (part_of heap pending.other placed) (left_of heap logs placed pending.other) (Object object.0) i stamp =

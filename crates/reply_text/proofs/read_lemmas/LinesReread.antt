@@ -22,7 +22,7 @@ use Rattle.reply_text.specs.read.LineWords.{line_at, line_of}
 use Rattle.reply_text.specs.read.Tokens.{◌>>=◌}
 use Rattle.reply_text.specs.Written.{IsWritten}
 use Rattle.reply_text.proofs.read_lemmas.LineReread.{line_at-words}
-use Rattle.reply_text.proofs.write_lemmas.WordsAbove.{AreWords, line-above}
+use Rattle.reply_text.proofs.write_lemmas.WordsAbove.{AreWords, line_words_are_above}
 
 line_of-sentence : (form : Form) (seats : ℕ) (words : List (List ℕ)) (line : HistoryLine) → AreWords words → line_at form seats words ≡ Some (line, []) → line_of form seats (sentence words) ≡ Some line
 unfolding line_of
@@ -31,7 +31,7 @@ line_of-sentence form seats (word ∷ words) line f e = rw (words_of-sentence wo
 
 -- a line that was spelled is that line
 pub line_of-history_line : (form : Form) (seats : ℕ) (line : HistoryLine) → seats < 2 ^ 8 → IsHistoryLine form seats line → line_of form seats (history_line line) ≡ Some line
-line_of-history_line form seats line few h = line_of-sentence form seats (history_words line) line (line-above form seats line few h) (line_at-words form seats line few h)
+line_of-history_line form seats line few h = line_of-sentence form seats (history_words line) line (line_words_are_above form seats line few h) (line_at-words form seats line few h)
 
 -- where the lines lead
 abbrev pub follow : Stage → List HistoryLine → Option Stage
@@ -102,13 +102,13 @@ marked_lines Run seats count None entries f h = entry_lines Run seats entries f
 marked_lines Run seats count (Some mark) entries f h = absurd h
 
 -- the lines of a history are lines that it may have
-pub body_lines : (form : Form) (seats count : ℕ) (mark : Option SpaceMark) (entries : List Entry) (used : ℕ) → AllByRecursion (IsWritten form seats) entries → MarkFits form count mark → used < 2 ^ 64 →
+pub body_is_history_lines : (form : Form) (seats count : ℕ) (mark : Option SpaceMark) (entries : List Entry) (used : ℕ) → AllByRecursion (IsWritten form seats) entries → MarkFits form count mark → used < 2 ^ 64 →
     AllByRecursion (IsHistoryLine form seats) (lines_with_mark mark entries ++ lines.End used ∷ [])
-body_lines form seats count mark entries used f h small =
+body_is_history_lines form seats count mark entries used f h small =
     all_joined (IsHistoryLine form seats) (lines_with_mark mark entries) (lines.End used ∷ []) (marked_lines form seats count mark entries f h) (small, tt)
 
 -- and none has a line feed
 pub history_lines-above : (form : Form) (seats : ℕ) (lines : List HistoryLine) → seats < 2 ^ 8 → AllByRecursion (IsHistoryLine form seats) lines → AllByRecursion (IsAbove 31) (map history_line lines)
 history_lines-above form seats [] few h = tt
 history_lines-above form seats (line ∷ lines) few h =
-    (IsAbove-sentence (history_words line) (line-above form seats line few h.0), history_lines-above form seats lines few h.1)
+    (IsAbove-sentence (history_words line) (line_words_are_above form seats line few h.0), history_lines-above form seats lines few h.1)

@@ -13,10 +13,10 @@ line_more : (lines : List (List ℕ)) (line text after : List ℕ) → text ≡ 
 line_more lines line text after e f = lines_more lines (line ∷ []) text after e (f ∙ ap (λ (l : List ℕ). text ++ l) (sym (append-nil (line ++ 10 ∷ []))))
 
 -- six parts that are written one after the other
-pub brief_whole : (head heap commands work end : List ℕ) (marks : List (List ℕ)) (first second third fourth fifth sixth : List ℕ) →
+pub written_brief_is_whole : (head heap commands work end : List ℕ) (marks : List (List ℕ)) (first second third fourth fifth sixth : List ℕ) →
     first ≡ head ++ 10 ∷ [] → second ≡ first ++ (heap ++ 10 ∷ []) → third ≡ second ++ (commands ++ 10 ∷ []) → fourth ≡ third ++ (work ++ 10 ∷ []) →
     fifth ≡ fourth ++ text_of marks → sixth ≡ fifth ++ (end ++ 10 ∷ []) → sixth ≡ text_of (head ∷ heap ∷ commands ∷ work ∷ marks ++ end ∷ [])
-brief_whole head heap commands work end marks first second third fourth fifth sixth e f g h i j =
+written_brief_is_whole head heap commands work end marks first second third fourth fifth sixth e f g h i j =
     let one : first ≡ text_of (head ∷ []) = line_more [] head [] first refl e in
     let two : second ≡ text_of (head ∷ heap ∷ []) = line_more (head ∷ []) heap first second one f in
     let three : third ≡ text_of (head ∷ heap ∷ commands ∷ []) = line_more (head ∷ heap ∷ []) commands second third two g in

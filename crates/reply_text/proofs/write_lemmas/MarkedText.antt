@@ -23,11 +23,11 @@ marked_parts mark entries =
     ) refl
 
 -- so three parts that are written one after the other are it
-pub marked_whole : (mark : SpaceMark) (entries front back : List Entry) (text first second third : List ℕ) →
+pub written_marks_are_whole : (mark : SpaceMark) (entries front back : List Entry) (text first second third : List ℕ) →
     front ≡ take (min mark.before (length entries)) entries → back ≡ drop (min mark.before (length entries)) entries →
     first ≡ text ++ entries_text front → second ≡ first ++ (history_line (space_line mark) ++ 10 ∷ []) → third ≡ second ++ entries_text back →
     third ≡ text ++ text_of (map history_line (lines_with_mark (Some mark) entries))
-marked_whole mark entries front back text first second third e f g h i =
+written_marks_are_whole mark entries front back text first second third e f g h i =
     let before : front ≡ take mark.before entries = e ∙ take_min mark.before entries in
     let after : back ≡ drop mark.before entries = f ∙ drop_min mark.before entries in
     i ∙ ap (λ t. t ++ entries_text back) h ∙ ap (λ t. (t ++ (history_line (space_line mark) ++ 10 ∷ [])) ++ entries_text back) g

@@ -191,9 +191,9 @@ entry-above Play seats (entries.Turned command reply) few h = (
 entry-above Run seats (entries.Turned command reply) few h = absurd h
 
 -- each word of a line
-pub line-above : (form : Form) (seats : ℕ) (line : HistoryLine) → seats < 2 ^ 8 → IsHistoryLine form seats line → AreWords (history_words line)
-line-above form seats (lines.Entry entry) few h = entry-above form seats entry few h
-line-above form seats (lines.Space used total spine budget) few h = (
+pub line_words_are_above : (form : Form) (seats : ℕ) (line : HistoryLine) → seats < 2 ^ 8 → IsHistoryLine form seats line → AreWords (history_words line)
+line_words_are_above form seats (lines.Entry entry) few h = entry-above form seats entry few h
+line_words_are_above form seats (lines.Space used total spine budget) few h = (
   IsAbove-from_test 32 (codes "space") refl,
   (
     IsAbove-from_test 32 (codes "used") refl,
@@ -206,5 +206,5 @@ line-above form seats (lines.Space used total spine budget) few h = (
     ),
   ),
 )
-line-above form seats (lines.End used) few h =
+line_words_are_above form seats (lines.End used) few h =
     (IsAbove-from_test 32 (codes "end") refl, (IsAbove-from_test 32 (codes "used") refl, (IsAbove-decimal used h, tt)))

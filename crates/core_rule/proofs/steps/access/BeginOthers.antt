@@ -3,18 +3,18 @@ use Rattle.std.proofs.Common.{ℕ, ◌<◌, [], length, drop, refl, sym, ◌∙�
 use Rattle.core_rule.proofs.Terms.{Command, Heap, graph_of, register_value, phase, last_answer, has_left, Graph, IsRecordCall, target_of, IsAtRest, State, seat_at, call_start}
 use Rattle.core_rule.proofs.Terms.{MayBegin, Begins, state_after, register_in, Seat, IsMachine, Book, node_at, HoldsValue, Rule}
 use Rattle.core_machine.specs.declared.place.Place.TheVariants as places
-use Rattle.core_rule.proofs.spines.NoPlaces.{away_range}
-use Rattle.core_rule.proofs.roots.CallRoots.{IsReachedNow, begin_roots}
-use Rattle.core_rule.proofs.steps.Assemble.{Keeps, seat_begins}
-use Rattle.core_rule.proofs.entries.AtRest.{seat_fits, none_awaited}
-use Rattle.core_rule.proofs.entries.Begins.{begins, began_now}
-use Rattle.core_rule.proofs.hand.EmptyHand.{nothing_together, none_stored, gathers_none, holding_as}
-use Rattle.core_rule.proofs.cycle.FreshCycle.{cycle_fresh}
-use Rattle.core_rule.proofs.entries.OwnEntries.{counts_same}
-use Rattle.core_rule.proofs.entries.SeatLists.{all_told}
-use Rattle.core_rule.proofs.budgets.NoneMade.{MakesNone, none_has_place, none_granted, none_placed, none_refused}
-use Rattle.core_rule.proofs.spines.SpineFrames.{spine_away}
-use Rattle.core_rule.proofs.entries.Starting.{bare_spineless, Starts, starts_other}
+use Rattle.core_rule.proofs.spines.NoPlaces.{same_range_away}
+use Rattle.core_rule.proofs.roots.CallRoots.{IsReachedNow, roots_hold_at_begin}
+use Rattle.core_rule.proofs.steps.Assemble.{Keeps, keeps_rule_after_begin}
+use Rattle.core_rule.proofs.entries.AtRest.{seat_fits, place_awaits_none}
+use Rattle.core_rule.proofs.entries.Begins.{begins, began_at_begin}
+use Rattle.core_rule.proofs.hand.EmptyHand.{together_where_empty, is_stored_where_none, gathers_right_unbegun, holding_of_equal_hand}
+use Rattle.core_rule.proofs.cycle.FreshCycle.{seat_in_cycle_when_fresh}
+use Rattle.core_rule.proofs.entries.OwnEntries.{counts_agree_without_entry}
+use Rattle.core_rule.proofs.entries.SeatLists.{own_list_is_all_told}
+use Rattle.core_rule.proofs.budgets.NoneMade.{MakesNone, no_place_where_none_made, none_granted, none_placed, none_refused}
+use Rattle.core_rule.proofs.spines.SpineFrames.{spine_in_hand_away}
+use Rattle.core_rule.proofs.entries.Starting.{bare_is_spineless, Starts, other_call_starts}
 
 -- the begin of any call but a new record's keeps the rule
 pub begin_others_keep : (heap : Heap) (state : State) (book : Book) (number : ℕ) (command : Command) → Rule heap state book → number < heap.seats
@@ -28,38 +28,38 @@ begin_others_keep heap state book number command rule here may other machine =
     let stands = rule.seats_stand number here in
     let rest : IsAtRest old = rw may.idle at (seat_fits rule number here).at_place in
     let holds : (r : ℕ) → HoldsValue book.made book.owner book.fragments (register_in old.registers r) (register_value g number r)
-    = λ r. stands.names.registers r (none_awaited old.place places.Idle (target_of old.command) r may.idle (λ none. none)) in
+    = λ r. stands.names.registers r (place_awaits_none old.place places.Idle (target_of old.command) r may.idle (λ none. none)) in
     let start : Starts g (node_at g book.made) book.made book.owner book.fragments number seat next
-    = starts_other g (node_at g book.made) book.made book.owner book.fragments number heap seat command other may.served refl (λ r. (register_value g number r, holds r)) in
+    = other_call_starts g (node_at g book.made) book.made book.owner book.fragments number heap seat command other may.served refl (λ r. (register_value g number r, holds r)) in
     let own = start.own in
     let same = own.same in
-    let bare = bare_spineless number next next.place start.bare in
+    let bare = bare_is_spineless number next next.place start.bare in
     let before : MakesNone old.place = rw may.idle tt in
-    seat_begins heap state book number next rule here machine record {
+    keeps_rule_after_begin heap state book number next rule here machine record {
       own = record {
-        holding = holding_as book.owner number old.reserve old.hand old.body next.reserve next.hand next.body own.reserve own.hand own.body stands.own.holding;
-        stored = none_stored heap state.words number next (same.stored ∙ rest.none_stored);
-        together = nothing_together heap next.cursor next.tried next.hand next.body (own.hand ∙ rest.empty_hand) (own.body ∙ rest.no_body);
-        spine = spine_away heap state.words state.words book.spine_owner number old next (none_has_place old old.place before) bare.no_place stands.own.spine;
+        holding = holding_of_equal_hand book.owner number old.reserve old.hand old.body next.reserve next.hand next.body own.reserve own.hand own.body stands.own.holding;
+        stored = is_stored_where_none heap state.words number next (same.stored ∙ rest.none_stored);
+        together = together_where_empty heap next.cursor next.tried next.hand next.body (own.hand ∙ rest.empty_hand) (own.body ∙ rest.no_body);
+        spine = spine_in_hand_away heap state.words state.words book.spine_owner number old next (no_place_where_none_made old old.place before) bare.no_place stands.own.spine;
       };
       names = record { registers = λ r awake. rw same.registers (holds r); way = start.way; address = bare.no_address heap state.words (node_at g book.made) book.owner book.fragments book.spines book.spine_owner };
       told = record {
         list = record {
           awaited = [];
-          own = append-nil next.mine ∙ same.mine ∙ all_told stands.told.list (rw may.idle at stands.told.list.awaits);
+          own = append-nil next.mine ∙ same.mine ∙ own_list_is_all_told stands.told.list (rw may.idle at stands.told.list.awaits);
           awaits = start.awaits;
         };
-        counts = counts_same g book.history number old next same.made same.sets same.left (rw (own.reserve, own.hand, own.body) refl) stands.told.counts;
-        began = began_now heap state.words book number next.place;
-        gathers = gathers_none heap book.owner number (drop (begins number (length book.history) book.begun number) book.history) next.cursor next.tried next.given (own.tried ∙ rest.none_tried) (own.given ∙ rest.none_given);
+        counts = counts_agree_without_entry g book.history number old next same.made same.sets same.left (rw (own.reserve, own.hand, own.body) refl) stands.told.counts;
+        began = began_at_begin heap state.words book number next.place;
+        gathers = gathers_right_unbegun heap book.owner number (drop (begins number (length book.history) book.begun number) book.history) next.cursor next.tried next.given (own.tried ∙ rest.none_tried) (own.given ∙ rest.none_given);
         used = bare.none_used heap book.history;
       };
-      cycle = cycle_fresh heap state.words book.owner book.colour (phase book.history) (last_answer number book.history) (has_left number book.history) number old next
+      cycle = seat_in_cycle_when_fresh heap state.words book.owner book.colour (phase book.history) (last_answer number book.history) (has_left number book.history) number old next
           record { answered = same.answered; left = same.left; asked = same.asked } start.fresh stands.cycle;
     }
     same.answered record {
       granted = bare.none_granted ∙ sym (none_granted old old.place before);
       placed = λ half. bare.none_placed half ∙ sym (none_placed half old old.place before);
       refused = bare.none_refused ∙ sym (none_refused old old.place before);
-      range = away_range old next bare.no_place;
-    } (λ marks roots. begin_roots (IsReachedNow heap state book) heap seat command other may.served roots.registers)
+      range = same_range_away old next bare.no_place;
+    } (λ marks roots. roots_hold_at_begin (IsReachedNow heap state book) heap seat command other may.served roots.registers)

@@ -16,25 +16,25 @@ use Rattle.core_machine.specs.declared.place.Access.TheVariants.{Naming}
 use Rattle.core_machine.specs.declared.seat.register.Register.TheVariants as registers
 use Rattle.core_machine.specs.seat.FitsAccess.{SeatIsAtGet, IsGet}
 use Rattle.core_machine.specs.seat.AccessMoves.{get_move, got_adds, got_shows, reply_entries}
-use Rattle.core_rule.proofs.entries.AtRest.{seat_fits, spent_own, few_own}
+use Rattle.core_rule.proofs.entries.AtRest.{seat_fits, spent_within_taken, taken_is_few_unspent}
 use Rattle.core_rule.specs.roots.Roots.{IsInMarking}
 use Rattle.core_rule.proofs.steps.Assemble.{Keeps, StepKeeps}
-use Rattle.core_rule.proofs.ways.AtObject.{is_present, way_object, at_rest}
-use Rattle.core_rule.proofs.graph.GraphRegisters.{registers_length}
-use Rattle.core_rule.proofs.lists.Options.{some_holds, none_holds}
-use Rattle.core_rule.proofs.roots.CallRoots.{IsReachedNow, at_call, roots_on_way, roots_over, field_comes}
-use Rattle.core_rule.proofs.roots.RegisterRoots.{heads_put}
-use Rattle.core_rule.proofs.ways.KeptWords.{has_room, name_found, cell_reached}
-use Rattle.core_rule.proofs.steps.Loads.{went_cycle, went, loaded_state, load_tells, over_went}
-use Rattle.core_rule.proofs.graph.Numbering.{id_at-number_of}
-use Rattle.core_rule.proofs.graph.ObjectReplies.{accepts_got, graph_got, keeps_got, target_within}
-use Rattle.core_rule.proofs.entries.OwnEntries.{own_entries}
-use Rattle.core_rule.proofs.entries.PhaseEntries.{no_leave_told}
-use Rattle.core_rule.proofs.graph.PutRegister.{put_only, put_target, put_rest, registers_filled}
-use Rattle.core_rule.proofs.entries.SeatLists.{list_more}
-use Rattle.core_rule.proofs.ways.LoadedObjects.{field_plain}
+use Rattle.core_rule.proofs.ways.AtObject.{seat_is_present, way_object_is_registers, way_seat_is_at_rest}
+use Rattle.core_rule.proofs.graph.GraphRegisters.{has_sixteen_registers}
+use Rattle.core_rule.proofs.lists.Options.{if_some_of_the_one, if_some_of_none}
+use Rattle.core_rule.proofs.roots.CallRoots.{IsReachedNow, roots_hold_at_call, roots_hold_on_way, roots_hold_when_over, field_target_is_reached}
+use Rattle.core_rule.proofs.roots.RegisterRoots.{heads_hold_after_put}
+use Rattle.core_rule.proofs.ways.KeptWords.{named_value_has_room, name_tells_id, way_word_is_cell}
+use Rattle.core_rule.proofs.steps.Loads.{seat_in_cycle_after_load, went, loaded_state, keeps_rule_by_telling_load, keeps_rule_by_forgetting_load}
+use Rattle.core_rule.proofs.graph.Numbering.{id_at_own_number}
+use Rattle.core_rule.proofs.graph.ObjectReplies.{accepts_got, graph_after_got, keeps_space_of_got, target_within_registers}
+use Rattle.core_rule.proofs.entries.OwnEntries.{own_entries_grow}
+use Rattle.core_rule.proofs.entries.PhaseEntries.{reply_is_no_leave}
+use Rattle.core_rule.proofs.graph.PutRegister.{put_changes_only_registers, put_register_holds_value, other_registers_stay_by_put, holds_value_after_put}
+use Rattle.core_rule.proofs.entries.SeatLists.{own_list_after_entry}
+use Rattle.core_rule.proofs.ways.LoadedObjects.{field_word_is_not_fixed}
 use Rattle.core_rule.proofs.ways.Told.{HasRoom, named_head, register_plain, stamp_in-value, head_in-value, plain_in-value}
-use Rattle.core_rule.proofs.steps.StepKinds.{StepKind, only_loads, shows_get, get_follows, get_goes, from_usual, get_usual, plain_words}
+use Rattle.core_rule.proofs.steps.StepKinds.{StepKind, only_loads, shows_get, looks_follow_get, looks_go_at_get, comes_from_usual, get_is_usual, on_words_of_plain_step}
 
 module _ (heap : Heap) (state : State) (book : Book) (number : ℕ) (rule : Rule heap state book) (here : number < heap.seats)
     (place : (seat_at state number).place ≡ places.Access Getting)
@@ -43,13 +43,13 @@ module _ (heap : Heap) (state : State) (book : Book) (number : ℕ) (rule : Rule
   held r = (rule.seats_stand number here).names.registers r (subst (λ p. IsAwaited p (target_of (seat_at state number).command) r) place)
 
   present : (graph_seat (graph_of heap book.history) number).left ≡ false
-  present = is_present heap state book number rule here Getting place
+  present = seat_is_present heap state book number rule here Getting place
 
   in_graph : target_of (seat_at state number).command < length (graph_seat (graph_of heap book.history) number).registers
-  in_graph = omega (arith, registers_length heap book.history number present, target_within (seat_at state number).command a_get ranges)
+  in_graph = omega (arith, has_sixteen_registers heap book.history number present, target_within_registers (seat_at state number).command a_get ranges)
 
   in_seat : target_of (seat_at state number).command < length (seat_at state number).registers
-  in_seat = omega (arith, (seat_fits rule number here).own.registers_whole, target_within (seat_at state number).command a_get ranges)
+  in_seat = omega (arith, (seat_fits rule number here).own.registers_whole, target_within_registers (seat_at state number).command a_get ranges)
 
   -- a number or nil stands in the register
   filled_keeps : (new : Register) (stamp : ℕ) → register_head new ≡ None → HoldsValue book.made book.owner book.fragments new (value_of new)
@@ -65,17 +65,17 @@ module _ (heap : Heap) (state : State) (book : Book) (number : ℕ) (rule : Rule
       let stands = rule.seats_stand number here in
       let reply : Reply = Got (value_of new) stamp in
       let entry : Entry = Said number seat.command reply in
-      load_tells heap state book number rule here (Word seat.reached seat.part) (slice_set seat.registers (target_of seat.command) new) 0 0 0 no_spot 0 places.Idle (forgotten (seat_at state number).looks) (entry ∷ []) machine
-      seat.command reply refl (with_register g number (target_of seat.command) (value_of new)) (graph_got g number (value_of new) stamp seat.command a_get)
-      (put_only g number (target_of seat.command) (value_of new) present) (rw place tt) tt accepts
-      (keeps_got heap false book.history number (spent_own heap state book number rule here (at_rest heap state book number rule here Getting place)) (few_own heap state book number rule here (at_rest heap state book number rule here Getting place)) (value_of new) stamp seat.command a_get)
-      (λ r unawaited. registers_filled book.made book.owner book.fragments g number (target_of seat.command) (value_of new) seat.registers new present in_seat in_graph holds (λ x apart. held x) r)
-      (list_more g book.made book.owner book.fragments number seat book.history (subst IsAnswered place) stands.told.list (with_register g number (target_of seat.command) (value_of new)) _ _ (entry ∷ []) [] (entry ∷ []) refl refl
-      (own_entries number book.history entry (eq-eqb number number refl)) refl)
-      tt tt tt (no_leave_told number number seat.command reply (λ leaves. subst IsGet leaves a_get))
-      (went_cycle heap state book number rule here (Word seat.reached seat.part) (slice_set seat.registers (target_of seat.command) new) 0 0 0 no_spot 0 places.Idle (forgotten (seat_at state number).looks) (entry ∷ []) machine tt)
-      (λ marks roots. roots_over (IsReachedNow heap state book) (went seat (slice_set seat.registers (target_of seat.command) new) 0 0 0 no_spot 0 places.Idle (forgotten (seat_at state number).looks) (entry ∷ [])) tt
-      (heads_put (IsReachedNow heap state book) seat.registers (target_of seat.command) new in_seat (none_holds (IsReachedNow heap state book) (register_head new) none) roots.registers))
+      keeps_rule_by_telling_load heap state book number rule here (Word seat.reached seat.part) (slice_set seat.registers (target_of seat.command) new) 0 0 0 no_spot 0 places.Idle (forgotten (seat_at state number).looks) (entry ∷ []) machine
+      seat.command reply refl (with_register g number (target_of seat.command) (value_of new)) (graph_after_got g number (value_of new) stamp seat.command a_get)
+      (put_changes_only_registers g number (target_of seat.command) (value_of new) present) (rw place tt) tt accepts
+      (keeps_space_of_got heap false book.history number (spent_within_taken heap state book number rule here (way_seat_is_at_rest heap state book number rule here Getting place)) (taken_is_few_unspent heap state book number rule here (way_seat_is_at_rest heap state book number rule here Getting place)) (value_of new) stamp seat.command a_get)
+      (λ r unawaited. holds_value_after_put book.made book.owner book.fragments g number (target_of seat.command) (value_of new) seat.registers new present in_seat in_graph holds (λ x apart. held x) r)
+      (own_list_after_entry g book.made book.owner book.fragments number seat book.history (subst IsAnswered place) stands.told.list (with_register g number (target_of seat.command) (value_of new)) _ _ (entry ∷ []) [] (entry ∷ []) refl refl
+      (own_entries_grow number book.history entry (eq-eqb number number refl)) refl)
+      tt tt tt (reply_is_no_leave number number seat.command reply (λ leaves. subst IsGet leaves a_get))
+      (seat_in_cycle_after_load heap state book number rule here (Word seat.reached seat.part) (slice_set seat.registers (target_of seat.command) new) 0 0 0 no_spot 0 places.Idle (forgotten (seat_at state number).looks) (entry ∷ []) machine tt)
+      (λ marks roots. roots_hold_when_over (IsReachedNow heap state book) (went seat (slice_set seat.registers (target_of seat.command) new) 0 0 0 no_spot 0 places.Idle (forgotten (seat_at state number).looks) (entry ∷ [])) tt
+      (heads_hold_after_put (IsReachedNow heap state book) seat.registers (target_of seat.command) new in_seat (if_some_of_none (IsReachedNow heap state book) (register_head new) none) roots.registers))
 
   -- a reference awaits its object's name, and the history has the reply
   pending_keeps : (found : ℕ) (id : Id) → NamesKept book.made book.owner book.fragments (values.Object id) → head_of found ≡ Some (object_head book.made book.fragments id)
@@ -94,17 +94,17 @@ module _ (heap : Heap) (state : State) (book : Book) (number : ℕ) (rule : Rule
       let stands = rule.seats_stand number here in
       let reply : Reply = Got value (stamp_of found) in
       let entry : Entry = Said number seat.command reply in
-      load_tells heap state book number rule here (Word seat.reached seat.part) seat.registers seat.reached seat.links seat.part seat.address found (places.Access Naming) (seat_at state number).looks [] machine
-      seat.command reply refl (with_register g number d value) (graph_got g number value (stamp_of found) seat.command a_get) (put_only g number d value present) (rw place tt) tt accepts
-      (keeps_got heap false book.history number (spent_own heap state book number rule here (at_rest heap state book number rule here Getting place)) (few_own heap state book number rule here (at_rest heap state book number rule here Getting place)) value (stamp_of found) seat.command a_get)
-      (λ r unawaited. subst (λ x. HoldsValue book.made book.owner book.fragments (slice_index_or seat.registers r registers.Nil) x) (sym (put_rest g number d value present r unawaited)) (held r))
-      (list_more g book.made book.owner book.fragments number seat book.history (subst IsAnswered place) stands.told.list (with_register g number d value) _ _ [] (entry ∷ []) (entry ∷ []) refl refl
-      (own_entries number book.history entry (eq-eqb number number refl))
-      (record { id = id; kept = kept; loads = loads; held = put_target g number d value present in_graph; told = refl }))
-      tt tt tt (no_leave_told number number seat.command reply (λ leaves. subst IsGet leaves a_get))
-      (went_cycle heap state book number rule here (Word seat.reached seat.part) seat.registers seat.reached seat.links seat.part seat.address found (places.Access Naming) (seat_at state number).looks [] machine tt)
-      (λ marks roots. roots_on_way (IsReachedNow heap state book) seat (went seat seat.registers seat.reached seat.links seat.part seat.address found (places.Access Naming) (seat_at state number).looks []) Naming refl refl
-      (some_holds (IsReachedNow heap state book) (head_of found) (object_head book.made book.fragments id) loads (comes marks (at_call (IsReachedNow heap state book) seat Getting place roots))) roots)
+      keeps_rule_by_telling_load heap state book number rule here (Word seat.reached seat.part) seat.registers seat.reached seat.links seat.part seat.address found (places.Access Naming) (seat_at state number).looks [] machine
+      seat.command reply refl (with_register g number d value) (graph_after_got g number value (stamp_of found) seat.command a_get) (put_changes_only_registers g number d value present) (rw place tt) tt accepts
+      (keeps_space_of_got heap false book.history number (spent_within_taken heap state book number rule here (way_seat_is_at_rest heap state book number rule here Getting place)) (taken_is_few_unspent heap state book number rule here (way_seat_is_at_rest heap state book number rule here Getting place)) value (stamp_of found) seat.command a_get)
+      (λ r unawaited. subst (λ x. HoldsValue book.made book.owner book.fragments (slice_index_or seat.registers r registers.Nil) x) (sym (other_registers_stay_by_put g number d value present r unawaited)) (held r))
+      (own_list_after_entry g book.made book.owner book.fragments number seat book.history (subst IsAnswered place) stands.told.list (with_register g number d value) _ _ [] (entry ∷ []) (entry ∷ []) refl refl
+      (own_entries_grow number book.history entry (eq-eqb number number refl))
+      (record { id = id; kept = kept; loads = loads; held = put_register_holds_value g number d value present in_graph; told = refl }))
+      tt tt tt (reply_is_no_leave number number seat.command reply (λ leaves. subst IsGet leaves a_get))
+      (seat_in_cycle_after_load heap state book number rule here (Word seat.reached seat.part) seat.registers seat.reached seat.links seat.part seat.address found (places.Access Naming) (seat_at state number).looks [] machine tt)
+      (λ marks roots. roots_hold_on_way (IsReachedNow heap state book) seat (went seat seat.registers seat.reached seat.links seat.part seat.address found (places.Access Naming) (seat_at state number).looks []) Naming refl refl
+      (if_some_of_the_one (IsReachedNow heap state book) (head_of found) (object_head book.made book.fragments id) loads (comes marks (roots_hold_at_call (IsReachedNow heap state book) seat Getting place roots))) roots)
 
 -- loading a field keeps the rule
 pub get_keeps : StepKeeps (places.Access Getting) get_move
@@ -126,23 +126,23 @@ get_keeps heap state book number rule here place machine =
     let cell : Cell = get_or (cells_at g book.made index) field unset in
     let there : slice_get (cells_at g book.made index) field ≡ Some cell = slice_get-get_or (cells_at g book.made index) field unset finds.field.within in
     let named = heap_stands.objects.named index field way.below way.kept cell there in
-    let room : HasRoom head cell.value = has_room heap words g book.made book.owner book.fragments rule.machine.limits bits cell.value named.0 in
+    let room : HasRoom head cell.value = named_value_has_room heap words g book.made book.owner book.fragments rule.machine.limits bits cell.value named.0 in
     let word : found ≡ value_word head cell.value cell.stamp
-    = cell_reached heap words g book.made book.owner book.fragments rule.machine.limits bits heap_stands.ids heap_stands.objects seat finds gets.2.arrived cell there in
-    let plain_word : is_meta found ≡ false = field_plain heap words g book.made book.owner book.fragments rule.machine.limits bits heap_stands.ids heap_stands.objects seat gets.2.arrived finds in
+    = way_word_is_cell heap words g book.made book.owner book.fragments rule.machine.limits bits heap_stands.ids heap_stands.objects seat finds gets.2.arrived cell there in
+    let plain_word : is_meta found ≡ false = field_word_is_not_fixed heap words g book.made book.owner book.fragments rule.machine.limits bits heap_stands.ids heap_stands.objects seat gets.2.arrived finds in
     let stamp : stamp_of found ≡ cell.stamp = ap stamp_of word ∙ stamp_in-value head cell.value cell.stamp room named.1 in
     let plain : plain_of found ≡ register_plain cell.value = ap plain_of word ∙ plain_in-value head cell.value cell.stamp room named.1 in
     let loads : head_of found ≡ named_head head cell.value = ap head_of word ∙ head_in-value head cell.value cell.stamp room named.1 in
     let accepted : Accepts g (Said number seat.command (Got cell.value (stamp_of found)))
     = subst (λ s. Accepts g (Said number seat.command (Got cell.value s))) (sym stamp)
-    (accepts_got g number (id_at book.made index) seat.command gets.0.in_range (is_present heap state book number rule here Getting place)
-    (heap_stands.ids.in_graph index way.below) (way_object heap state book number rule here Getting place (λ d r. subst (λ p. IsAwaited p d r) place) index finds.row way)
+    (accepts_got g number (id_at book.made index) seat.command gets.0.in_range (seat_is_present heap state book number rule here Getting place)
+    (heap_stands.ids.in_graph index way.below) (way_object_is_registers heap state book number rule here Getting place (λ d r. subst (λ p. IsAwaited p d r) place) index finds.row way)
     gets.1 cell there) in
     let goal = λ (o : Option ℕ). IsMachine heap (loaded_state heap state number (Word seat.reached seat.part) (with_entries (after_get seat found o) (got_adds number seat found o)))
     → Keeps heap state (loaded_state heap state number (Word seat.reached seat.part) (with_entries (after_get seat found o) (got_adds number seat found o))) book book.begun (got_shows heap number seat words found o) in
     let filled = filled_keeps heap state book number rule here place gets.1 gets.0.in_range (plain_of found) (stamp_of found) in
     let told : List Entry = reply_entries number seat (Got (value_of (plain_of found)) (stamp_of found)) in
-    let ends = over_went heap state book number (Word seat.reached seat.part) (slice_set seat.registers (target_of seat.command) (plain_of found)) told told
+    let ends = keeps_rule_by_forgetting_load heap state book number (Word seat.reached seat.part) (slice_set seat.registers (target_of seat.command) (plain_of found)) told told
     (rw place at (seat_fits rule number here).at_place) (rw place at (seat_fits rule number here).answer_at_place) in
     let by_value : (value : Value) → cell.value ≡ value → goal (named_head head value) = λ value. elim value as (λ v. cell.value ≡ v → goal (named_head head v)) [
       | values.Nil ↦ λ e. let is : plain_of found ≡ registers.Nil = plain ∙ ap register_plain e in
@@ -154,27 +154,27 @@ get_keeps heap state book number rule here place machine =
       | values.Object id ↦ λ e machine.
           let kept : NamesKept book.made book.owner book.fragments (values.Object id) = subst (NamesKept book.made book.owner book.fragments) e named.0 in
           let name : id_of (at heap words (Word (head id) 1)) ≡ id
-          = name_found heap words g book.made book.owner book.fragments rule.machine.limits bits heap_stands.ids heap_stands.objects (object_number book.made id) kept.0 kept.1
-          ∙ id_at-number_of book.made id kept.0 in
+          = name_tells_id heap words g book.made book.owner book.fragments rule.machine.limits bits heap_stands.ids heap_stands.objects (object_number book.made id) kept.0 kept.1
+          ∙ id_at_own_number book.made id kept.0 in
           subst (λ x. Keeps heap state (loaded_state heap state number (Word seat.reached seat.part) (with_entries (after_get seat found (Some (head id))) [])) book book.begun (reply_entries number seat (Got (values.Object x) (stamp_of found)))) (sym name)
           (pending_keeps heap state book number rule here place gets.1 gets.0.in_range found id kept (loads ∙ ap (named_head head) e)
-          (λ marks comes. field_comes heap state book number rule here marks comes gets.2.part_within plain_word (head id) record { index = object_number book.made id; below = kept.0; kept = kept.1; is = refl } (loads ∙ ap (named_head head) e))
+          (λ marks comes. field_target_is_reached heap state book number rule here marks comes gets.2.part_within plain_word (head id) record { index = object_number book.made id; below = kept.0; kept = kept.1; is = refl } (loads ∙ ap (named_head head) e))
           (subst (λ v. Accepts g (Said number seat.command (Got v (stamp_of found)))) e accepted) machine)
     ] in
     subst goal (sym loads) (by_value cell.value refl) machine
 
 -- all that is asked of it
-pub get_kind : StepKind (places.Access Getting)
-get_kind = record {
+pub step_kind_of_getting : StepKind (places.Access Getting)
+step_kind_of_getting = record {
   keeps = λ heap state book number rule here looks. get_keeps heap state book number rule here;
   shows = λ heap state number.
       shows_get number (seat_at state number) (places.Access Getting) heap state.words (at heap state.words (Word (seat_at state number).reached (seat_at state number).part)) (head_of (at heap state.words (Word (seat_at state number).reached (seat_at state number).part)));
   looks = record {
-    follows = λ heap state number seat compares placed. get_follows heap state number seat _ tt (at heap state.words (Word seat.reached seat.part)) (head_of (at heap state.words (Word seat.reached seat.part)));
-    goes = λ heap state book rule number placed. get_goes heap state book rule number (at heap state.words (Word (seat_at state number).reached (seat_at state number).part)) (head_of (at heap state.words (Word (seat_at state number).reached (seat_at state number).part))) _;
-    comes = λ heap number seat found placed. from_usual _ (after_get seat found (head_of found)).place (get_usual seat found (head_of found));
+    follows = λ heap state number seat compares placed. looks_follow_get heap state number seat _ tt (at heap state.words (Word seat.reached seat.part)) (head_of (at heap state.words (Word seat.reached seat.part)));
+    goes = λ heap state book rule number placed. looks_go_at_get heap state book rule number (at heap state.words (Word (seat_at state number).reached (seat_at state number).part)) (head_of (at heap state.words (Word (seat_at state number).reached (seat_at state number).part))) _;
+    comes = λ heap number seat found placed. comes_from_usual _ (after_get seat found (head_of found)).place (get_is_usual seat found (head_of found));
   };
-  words = plain_words (places.Access Getting) get_move (λ heap number seat. refl) (λ heap number seat is. is) (λ heap number seat low. low)
+  words = on_words_of_plain_step (places.Access Getting) get_move (λ heap number seat. refl) (λ heap number seat is. is) (λ heap number seat low. low)
       (λ heap state book rule number here. only_loads (λ word. refl));
   found = λ heap state book number stands here placed. tt;
 }

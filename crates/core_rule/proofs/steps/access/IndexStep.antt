@@ -6,17 +6,17 @@ use Rattle.core_machine.specs.declared.place.Access.{Access}
 use Rattle.core_machine.specs.declared.place.Place.TheVariants as places
 use Rattle.core_machine.specs.seat.AccessMoves.{index_move}
 use Rattle.core_machine.specs.seat.FitsAccess.{SeatIsAtSentinel}
-use Rattle.core_machine.proofs.seat_lemmas.FieldPlaces.{field_cases}
+use Rattle.core_machine.proofs.seat_lemmas.FieldPlaces.{field_place_cases}
 use Rattle.core_rule.specs.roots.Roots.{AtCall}
 use Rattle.core_rule.proofs.frames.SeatFrames.{AddressAt}
 use Rattle.core_rule.proofs.cycle.Unwatched.{IsUnwatched}
 use Rattle.core_rule.proofs.entries.AtRest.{seat_fits}
-use Rattle.core_rule.proofs.roots.CallRoots.{IsReachedNow, at_call, payload_comes}
+use Rattle.core_rule.proofs.roots.CallRoots.{IsReachedNow, roots_hold_at_call, payload_is_reached}
 use Rattle.core_rule.proofs.steps.Assemble.{StepKeeps}
-use Rattle.core_rule.proofs.steps.access.WaySteps.{on_way, way_goes}
-use Rattle.core_rule.proofs.ways.OnwardWays.{finds_payload, names_cell, payload_reached, none_old, word_ahead}
-use Rattle.core_rule.proofs.steps.StepKinds.{StepKind, only_loads, from_usual, field_usual, way_kind, bears_none}
-use Rattle.core_rule.proofs.held.SpineThere.{held_there, indexed_held}
+use Rattle.core_rule.proofs.steps.access.WaySteps.{on_way, keeps_rule_by_way_load}
+use Rattle.core_rule.proofs.ways.OnwardWays.{finds_after_payload, names_cell, located_word_is_payload, old_kept_where_none, field_word_within_spine}
+use Rattle.core_rule.proofs.steps.StepKinds.{StepKind, only_loads, comes_from_usual, field_place_is_usual, step_kind_of_way, birth_colour_where_none_borne}
+use Rattle.core_rule.proofs.held.SpineThere.{held_word_is_there, indexed_word_is_held}
 
 pub index_keeps : StepKeeps (places.Access Indexing) (λ heap number. index_move)
 index_keeps heap state book number rule here place machine =
@@ -35,32 +35,32 @@ index_keeps heap state book number rule here place machine =
     let to : Access = field_place_of (record seat { reached = found }) seat.command in
     let new : Seat = on_way heap state book number rule here Indexing place (λ answered. answered) (λ d r awaited. awaited) found seat.links seat.part seat.address to in
     let finds : Finds (node_at g book.made) book.made book.owner book.fragments new
-    = finds_payload heap state.words g book.made book.owner book.fragments rule.machine.limits stands.control_words stands.ids stands.objects seat seat.loaded to (seat.mine ++ []) fits.no_links locates its in
-    let unloaded = none_old book.made book.owner book.fragments new (rw fits.none_loaded refl) in
-    let within = word_ahead heap state.words g book.made book.owner book.fragments rule.machine.limits stands.control_words stands.ids stands.objects seat locates in
-    way_goes heap state book number rule here Indexing place (λ answered. answered) (λ d r awaited. awaited) (spine_place seat.address k) found seat.links seat.part seat.address to
-    (field_cases (λ to. Awaits g book.made book.owner book.fragments number new (places.Access to) []) seat seat.command refl (λ on. refl) (λ off. refl))
-    (field_cases (λ to. AccessStands (node_at g book.made) book.made book.owner book.fragments new to) seat seat.command finds (λ on. finds) (λ off. (finds, unloaded)))
-    (field_cases (λ to. AddressAt heap state.words book new (places.Access to)) seat seat.command reads (λ on. reads) (λ off. reads))
-    (field_cases (λ to. IsUnwatched (has_barrier_of seat) to) seat seat.command tt (λ on. tt) (λ off. off))
+    = finds_after_payload heap state.words g book.made book.owner book.fragments rule.machine.limits stands.control_words stands.ids stands.objects seat seat.loaded to (seat.mine ++ []) fits.no_links locates its in
+    let unloaded = old_kept_where_none book.made book.owner book.fragments new (rw fits.none_loaded refl) in
+    let within = field_word_within_spine heap state.words g book.made book.owner book.fragments rule.machine.limits stands.control_words stands.ids stands.objects seat locates in
+    keeps_rule_by_way_load heap state book number rule here Indexing place (λ answered. answered) (λ d r awaited. awaited) (spine_place seat.address k) found seat.links seat.part seat.address to
+    (field_place_cases (λ to. Awaits g book.made book.owner book.fragments number new (places.Access to) []) seat seat.command refl (λ on. refl) (λ off. refl))
+    (field_place_cases (λ to. AccessStands (node_at g book.made) book.made book.owner book.fragments new to) seat seat.command finds (λ on. finds) (λ off. (finds, unloaded)))
+    (field_place_cases (λ to. AddressAt heap state.words book new (places.Access to)) seat seat.command reads (λ on. reads) (λ off. reads))
+    (field_place_cases (λ to. IsUnwatched (has_barrier_of seat) to) seat seat.command tt (λ on. tt) (λ off. off))
     (λ marks roots.
     let comes : IsReachedNow heap state book found
-    = subst (IsReachedNow heap state book) (sym (payload_reached heap state.words g book.made book.owner book.fragments rule.machine.limits stands.control_words stands.ids stands.objects seat locates its))
-    (payload_comes heap state book number rule here marks (at_call (IsReachedNow heap state book) seat Indexing place roots) index k way.below way.kept way.here locates.an_array within) in
-    field_cases (λ to. AtCall (IsReachedNow heap state book) new to) seat seat.command comes (λ on. comes) (λ off. comes))
+    = subst (IsReachedNow heap state book) (sym (located_word_is_payload heap state.words g book.made book.owner book.fragments rule.machine.limits stands.control_words stands.ids stands.objects seat locates its))
+    (payload_is_reached heap state book number rule here marks (roots_hold_at_call (IsReachedNow heap state book) seat Indexing place roots) index k way.below way.kept way.here locates.an_array within) in
+    field_place_cases (λ to. AtCall (IsReachedNow heap state book) new to) seat seat.command comes (λ on. comes) (λ off. comes))
     machine
 
 -- all that is asked of it
-pub index_kind : StepKind (places.Access Indexing)
-index_kind = way_kind (places.Access Indexing) (λ heap number. index_move) (λ heap number seat. refl) (λ e. cc e) (λ heap number seat. tt) (λ heap number seat words found. refl) record {
+pub step_kind_of_indexing : StepKind (places.Access Indexing)
+step_kind_of_indexing = step_kind_of_way (places.Access Indexing) (λ heap number. index_move) (λ heap number seat. refl) (λ e. cc e) (λ heap number seat. tt) (λ heap number seat words found. refl) record {
   keeps = index_keeps;
   stays = λ heap number seat found placed. record { looks = refl; elsewhere = tt };
-  comes = λ heap number seat found. from_usual _ (after_index seat found).place (field_usual (at_payload seat found) seat.command);
+  comes = λ heap number seat found. comes_from_usual _ (after_index seat found).place (field_place_is_usual (at_payload seat found) seat.command);
   words = record {
-    bears = λ heap state book rule number here f within unborn. bears_none (places.Access Indexing) (λ heap number. index_move) (λ heap number seat. refl) heap state book rule number f within unborn (only_loads (λ word. refl));
+    bears = λ heap state book rule number here f within unborn. birth_colour_where_none_borne (places.Access Indexing) (λ heap number. index_move) (λ heap number seat. refl) heap state book rule number f within unborn (only_loads (λ word. refl));
     stores = λ heap number seat is. absurd is;
     there = λ heap state book rule number here placed low.
-        held_there heap state book rule (seat_at state number).address.half ((seat_at state number).address.offset + field_of (seat_at state number).command / 4) low (indexed_held heap state book rule number here placed);
+        held_word_is_there heap state book rule (seat_at state number).address.half ((seat_at state number).address.offset + field_of (seat_at state number).command / 4) low (indexed_word_is_held heap state book rule number here placed);
   };
   found = λ heap state book number stands here placed. tt;
 }

@@ -13,15 +13,15 @@ use Rattle.core_machine.specs.declared.seat.register.Register.TheVariants as reg
 use Rattle.core_machine.specs.seat.FitsAccess.{SeatIsAtGet}
 use Rattle.core_machine.specs.seat.AccessMoves.{name_move, loaded_head_of, reply_entries}
 use Rattle.core_rule.proofs.steps.Assemble.{StepKeeps, seat_fits}
-use Rattle.core_rule.proofs.lists.Options.{of_some}
-use Rattle.core_rule.proofs.roots.CallRoots.{IsReachedNow, at_call, roots_over}
-use Rattle.core_rule.proofs.roots.RegisterRoots.{heads_put}
-use Rattle.core_rule.proofs.ways.KeptWords.{name_found}
-use Rattle.core_rule.proofs.steps.Loads.{went, went_cycle, load_goes, over_went}
-use Rattle.core_rule.proofs.graph.Numbering.{id_at-number_of}
-use Rattle.core_rule.proofs.graph.ObjectReplies.{target_within}
-use Rattle.core_rule.proofs.graph.PutRegister.{registers_with}
-use Rattle.core_rule.proofs.steps.StepKinds.{StepKind, only_loads, shows_none, blind_follows, ends, plain_words}
+use Rattle.core_rule.proofs.lists.Options.{holds_of_some}
+use Rattle.core_rule.proofs.roots.CallRoots.{IsReachedNow, roots_hold_at_call, roots_hold_when_over}
+use Rattle.core_rule.proofs.roots.RegisterRoots.{heads_hold_after_put}
+use Rattle.core_rule.proofs.ways.KeptWords.{name_tells_id}
+use Rattle.core_rule.proofs.steps.Loads.{went, seat_in_cycle_after_load, keeps_rule_by_silent_load, keeps_rule_by_forgetting_load}
+use Rattle.core_rule.proofs.graph.Numbering.{id_at_own_number}
+use Rattle.core_rule.proofs.graph.ObjectReplies.{target_within_registers}
+use Rattle.core_rule.proofs.graph.PutRegister.{holds_value_after_set}
+use Rattle.core_rule.proofs.steps.StepKinds.{StepKind, only_loads, shows_none, looks_follow_blind_step, looks_go_at_end, on_words_of_plain_step}
 
 -- loading the name keeps the rule
 pub name_keeps : StepKeeps (places.Access Naming) (λ heap. name_move)
@@ -41,16 +41,16 @@ name_keeps heap state book number rule here place machine =
     let head : at_name ≡ object_head book.made book.fragments id = ap (λ (o : Option ℕ). unwrap_or o 0) awaits.loads in
     let name : id_of found ≡ id
     = ap (λ f. id_of (at heap state.words (Word f 1))) head
-    ∙ name_found heap state.words g book.made book.owner book.fragments rule.machine.limits heap_stands.control_words heap_stands.ids heap_stands.objects (object_number book.made id) awaits.kept.0 awaits.kept.1
-    ∙ id_at-number_of book.made id awaits.kept.0 in
+    ∙ name_tells_id heap state.words g book.made book.owner book.fragments rule.machine.limits heap_stands.control_words heap_stands.ids heap_stands.objects (object_number book.made id) awaits.kept.0 awaits.kept.1
+    ∙ id_at_own_number book.made id awaits.kept.0 in
     let holds : HoldsValue book.made book.owner book.fragments (registers.Object at_name (id_of found)) (register_value g number d)
     = subst (λ x. HoldsValue book.made book.owner book.fragments (registers.Object at_name x) (register_value g number d)) (sym name) (awaits.held, awaits.kept, head) in
-    let within : d < length seat.registers = omega (arith, (seat_fits rule number here).own.registers_whole, target_within seat.command gets.1 gets.0.in_range) in
+    let within : d < length seat.registers = omega (arith, (seat_fits rule number here).own.registers_whole, target_within_registers seat.command gets.1 gets.0.in_range) in
     let added : List Entry = reply_entries number seat (Got (values.Object (id_of found)) (stamp_of seat.loaded)) in
     let told : stands.told.list.awaited ≡ added = awaits.told ∙ ap (λ x. reply_entries number seat (Got (values.Object x) (stamp_of seat.loaded))) (sym name) in
-    over_went heap state book number (Word at_name 1) (slice_set seat.registers d (registers.Object at_name (id_of found))) added [] (rw place at (seat_fits rule number here).at_place) (rw place at (seat_fits rule number here).answer_at_place) (λ machine.
-    load_goes heap state book number rule here (Word at_name 1) (slice_set seat.registers d (registers.Object at_name (id_of found))) 0 0 0 no_spot 0 places.Idle (forgotten seat.looks) added machine (rw place tt) tt
-    (λ r unawaited. registers_with book.made book.owner book.fragments g number d seat.registers (registers.Object at_name (id_of found)) within holds before r)
+    keeps_rule_by_forgetting_load heap state book number (Word at_name 1) (slice_set seat.registers d (registers.Object at_name (id_of found))) added [] (rw place at (seat_fits rule number here).at_place) (rw place at (seat_fits rule number here).answer_at_place) (λ machine.
+    keeps_rule_by_silent_load heap state book number rule here (Word at_name 1) (slice_set seat.registers d (registers.Object at_name (id_of found))) 0 0 0 no_spot 0 places.Idle (forgotten seat.looks) added machine (rw place tt) tt
+    (λ r unawaited. holds_value_after_set book.made book.owner book.fragments g number d seat.registers (registers.Object at_name (id_of found)) within holds before r)
     (record {
       awaited = [];
       own = append-nil (seat.mine ++ added) ∙ ap (λ (x : List Entry). seat.mine ++ x) (sym told) ∙ stands.told.list.own;
@@ -58,23 +58,23 @@ name_keeps heap state book number rule here place machine =
     })
     tt tt
     (record { earlier = stands.told.began.earlier; unanswered = λ busy. absurd (busy tt) })
-    (went_cycle heap state book number rule here (Word at_name 1) (slice_set seat.registers d (registers.Object at_name (id_of found))) 0 0 0 no_spot 0 places.Idle (forgotten seat.looks) added machine tt)
-    (λ marks roots. roots_over (IsReachedNow heap state book) (went seat (slice_set seat.registers d (registers.Object at_name (id_of found))) 0 0 0 no_spot 0 places.Idle (forgotten seat.looks) added) tt
-    (heads_put (IsReachedNow heap state book) seat.registers d (registers.Object at_name (id_of found)) within
-    (subst (IsReachedNow heap state book) (sym head) (of_some (IsReachedNow heap state book) (head_of seat.loaded) (object_head book.made book.fragments id) awaits.loads (at_call (IsReachedNow heap state book) seat Naming place roots)))
+    (seat_in_cycle_after_load heap state book number rule here (Word at_name 1) (slice_set seat.registers d (registers.Object at_name (id_of found))) 0 0 0 no_spot 0 places.Idle (forgotten seat.looks) added machine tt)
+    (λ marks roots. roots_hold_when_over (IsReachedNow heap state book) (went seat (slice_set seat.registers d (registers.Object at_name (id_of found))) 0 0 0 no_spot 0 places.Idle (forgotten seat.looks) added) tt
+    (heads_hold_after_put (IsReachedNow heap state book) seat.registers d (registers.Object at_name (id_of found)) within
+    (subst (IsReachedNow heap state book) (sym head) (holds_of_some (IsReachedNow heap state book) (head_of seat.loaded) (object_head book.made book.fragments id) awaits.loads (roots_hold_at_call (IsReachedNow heap state book) seat Naming place roots)))
     roots.registers))) machine
 
 -- all that is asked of it
-pub name_kind : StepKind (places.Access Naming)
-name_kind = record {
+pub step_kind_of_naming : StepKind (places.Access Naming)
+step_kind_of_naming = record {
   keeps = λ heap state book number rule here looks. name_keeps heap state book number rule here;
   shows = λ heap state number. shows_none;
   looks = record {
-    follows = λ heap state number seat compares placed. blind_follows heap state _ _ _ tt refl refl;
-    goes = λ heap state book rule number placed. ends heap number book.history (seat_at state number) _ [] refl refl (λ r apart. refl);
+    follows = λ heap state number seat compares placed. looks_follow_blind_step heap state _ _ _ tt refl refl;
+    goes = λ heap state book rule number placed. looks_go_at_end heap number book.history (seat_at state number) _ [] refl refl (λ r apart. refl);
     comes = λ heap number seat found placed. tt;
   };
-  words = plain_words (places.Access Naming) (λ heap. name_move) (λ heap number seat. refl) (λ heap number seat is. is) (λ heap number seat low. low)
+  words = on_words_of_plain_step (places.Access Naming) (λ heap. name_move) (λ heap number seat. refl) (λ heap number seat is. is) (λ heap number seat low. low)
       (λ heap state book rule number here. only_loads (λ word. refl));
   found = λ heap state book number stands here placed. tt;
 }

@@ -8,15 +8,15 @@ use Rattle.core_machine.specs.seat.FitsAccess.{SeatIsAtSet}
 use Rattle.core_machine.specs.seat.AccessMoves.{old_move, new_register_of}
 use Rattle.core_rule.specs.roots.Roots.{IsInMarking, OfRoots}
 use Rattle.core_rule.proofs.steps.Assemble.{Keeps, StepKeeps, seat_fits}
-use Rattle.core_rule.proofs.colours.SourceCases.{lead_of_word}
-use Rattle.core_rule.proofs.steps.BarrierSteps.{new_cases, loads_on}
-use Rattle.core_rule.proofs.ways.LoadedObjects.{loaded_kept, field_plain}
-use Rattle.core_rule.proofs.ways.ArrayWords.{plain_lead}
+use Rattle.core_rule.proofs.colours.SourceCases.{word_pointer_of_lead}
+use Rattle.core_rule.proofs.steps.BarrierSteps.{new_place_cases, keeps_rule_by_leading_load}
+use Rattle.core_rule.proofs.ways.LoadedObjects.{loaded_is_kept_head, field_word_is_not_fixed}
+use Rattle.core_rule.proofs.ways.ArrayWords.{plain_pointer_is_head}
 use Rattle.core_rule.proofs.steps.Loads.{went, loaded_state}
-use Rattle.core_rule.proofs.ways.OnwardWays.{finds_at, none_old}
-use Rattle.core_rule.proofs.lists.Options.{none_holds, some_holds}
-use Rattle.core_rule.proofs.roots.CallRoots.{IsReachedNow, at_call, field_comes}
-use Rattle.core_rule.proofs.steps.StepKinds.{StepKind, only_loads, shows_none, old_follows, old_goes, from_load, plain_words}
+use Rattle.core_rule.proofs.ways.OnwardWays.{finds_at_place, old_kept_where_none}
+use Rattle.core_rule.proofs.lists.Options.{if_some_of_none, if_some_of_the_one}
+use Rattle.core_rule.proofs.roots.CallRoots.{IsReachedNow, roots_hold_at_call, field_target_is_reached}
+use Rattle.core_rule.proofs.steps.StepKinds.{StepKind, only_loads, shows_none, looks_follow_old_load, looks_go_at_old_load, comes_from_old_load, on_words_of_plain_step}
 
 -- loading the old value keeps the rule
 pub old_keeps : StepKeeps (places.Access LoadingOld) (λ heap number. old_move)
@@ -27,41 +27,41 @@ old_keeps heap state book number rule here place machine =
     let fits : SeatIsAtSet seat × (has_barrier_of seat ≡ true) × (seat.loaded ≡ 0) = rw place at (seat_fits rule number here).way_at_place in
     let finds : Finds (node_at g book.made) book.made book.owner book.fragments seat = rw place at (rule.seats_stand number here).names.way in
     let found : ℕ = at heap state.words (Word seat.reached seat.part) in
-    let plain : is_meta found ≡ false = field_plain heap state.words g book.made book.owner book.fragments rule.machine.limits old.control_words old.ids old.objects seat fits.0.2.arrived finds in
+    let plain : is_meta found ≡ false = field_word_is_not_fixed heap state.words g book.made book.owner book.fragments rule.machine.limits old.control_words old.ids old.objects seat fits.0.2.arrived finds in
     let new_head : Option ℕ = register_head (new_register_of seat) in
-    let on = loads_on heap state book number rule here LoadingOld place (λ answered. answered) (λ d r awaited. awaited) found in
+    let on = keeps_rule_by_leading_load heap state book number rule here LoadingOld place (λ answered. answered) (λ d r awaited. awaited) found in
     let reads : ReadsSpine heap state.words (node_at g book.made) book.owner book.fragments book.spines book.spine_owner seat = rw place at (rule.seats_stand number here).names.address in
-    let at_next = λ (next : Access). finds_at (node_at g book.made) book.made book.owner book.fragments seat found next (seat.mine ++ []) finds in
-    let leads : (x : ℕ) → WordPointsTo heap state.words seat.reached seat.part x → head_of found ≡ Some x = λ x leads. sym (plain_lead seat.part found plain) ∙ lead_of_word heap state.words seat.reached seat.part x fits.0.2.part_within leads in
-    let unloaded = λ (next : Access). none_old book.made book.owner book.fragments (went seat seat.registers seat.reached seat.links seat.part seat.address found (places.Access next) seat.looks []) in
-    let reached = λ (marks : IsInMarking state.collector) (roots : OfRoots (IsReachedNow heap state book) seat). at_call (IsReachedNow heap state book) seat LoadingOld place roots in
+    let at_next = λ (next : Access). finds_at_place (node_at g book.made) book.made book.owner book.fragments seat found next (seat.mine ++ []) finds in
+    let leads : (x : ℕ) → WordPointsTo heap state.words seat.reached seat.part x → head_of found ≡ Some x = λ x leads. sym (plain_pointer_is_head seat.part found plain) ∙ word_pointer_of_lead heap state.words seat.reached seat.part x fits.0.2.part_within leads in
+    let unloaded = λ (next : Access). old_kept_where_none book.made book.owner book.fragments (went seat seat.registers seat.reached seat.links seat.part seat.address found (places.Access next) seat.looks []) in
+    let reached = λ (marks : IsInMarking state.collector) (roots : OfRoots (IsReachedNow heap state book) seat). roots_hold_at_call (IsReachedNow heap state book) seat LoadingOld place roots in
     let goal = λ (o : Option ℕ). IsMachine heap (loaded_state heap state number (Word seat.reached seat.part) (with_entries (after_old_load (record seat { loaded = found }) o) []))
     → Keeps heap state (loaded_state heap state number (Word seat.reached seat.part) (with_entries (after_old_load (record seat { loaded = found }) o) [])) book book.begun [] in
     let by_head : (o : Option ℕ) → head_of found ≡ o → goal o = λ o. elim o as (λ x. head_of found ≡ x → goal x) [
-      | None ↦ λ none. new_cases (λ next. IsMachine heap (loaded_state heap state number (Word seat.reached seat.part) (went seat seat.registers seat.reached seat.links seat.part seat.address found (places.Access next) seat.looks []))
+      | None ↦ λ none. new_place_cases (λ next. IsMachine heap (loaded_state heap state number (Word seat.reached seat.part) (went seat seat.registers seat.reached seat.links seat.part seat.address found (places.Access next) seat.looks []))
           → Keeps heap state (loaded_state heap state number (Word seat.reached seat.part) (went seat seat.registers seat.reached seat.links seat.part seat.address found (places.Access next) seat.looks [])) book book.begun []) new_head
           (λ no_new. on Swapping (λ s. refl) reads (at_next Swapping, unloaded Swapping none) (λ making x lead. absurd (cc (none, leads x lead)))
-          (λ is_on. (none_holds (IsMarked book.colour) (head_of found) none, none_holds (IsMarked book.colour) new_head no_new)) reached)
-          (λ f some. on ShadingNew (λ s. refl) reads (at_next ShadingNew, unloaded ShadingNew none) (λ making x lead. absurd (cc (none, leads x lead))) (none_holds (IsMarked book.colour) (head_of found) none) reached)
+          (λ is_on. (if_some_of_none (IsMarked book.colour) (head_of found) none, if_some_of_none (IsMarked book.colour) new_head no_new)) reached)
+          (λ f some. on ShadingNew (λ s. refl) reads (at_next ShadingNew, unloaded ShadingNew none) (λ making x lead. absurd (cc (none, leads x lead))) (if_some_of_none (IsMarked book.colour) (head_of found) none) reached)
       | Some f ↦ λ some.
-          let head = loaded_kept heap state.words g book.made book.owner book.fragments rule.machine.limits old.control_words old.ids old.objects seat fits.0.2.arrived finds f some in
+          let head = loaded_is_kept_head heap state.words g book.made book.owner book.fragments rule.machine.limits old.control_words old.ids old.objects seat fits.0.2.arrived finds f some in
           on ShadingOld (λ s. refl) reads (at_next ShadingOld, record { index = head.index; below = head.below; kept = head.kept; loads = some ∙ ap Some head.is })
           (λ making x lead. inl (leads x lead)) tt
-          (λ marks roots. (reached marks roots, some_holds (IsReachedNow heap state book) (head_of found) f some (field_comes heap state book number rule here marks (reached marks roots) fits.0.2.part_within plain f head some)))
+          (λ marks roots. (reached marks roots, if_some_of_the_one (IsReachedNow heap state book) (head_of found) f some (field_target_is_reached heap state book number rule here marks (reached marks roots) fits.0.2.part_within plain f head some)))
     ] in
     by_head (head_of found) refl machine
 
 -- all that is asked of it
-pub old_kind : StepKind (places.Access LoadingOld)
-old_kind = record {
+pub step_kind_of_loading_old : StepKind (places.Access LoadingOld)
+step_kind_of_loading_old = record {
   keeps = λ heap state book number rule here looks. old_keeps heap state book number rule here;
   shows = λ heap state number. shows_none;
   looks = record {
-    follows = λ heap state number seat compares placed. old_follows heap state number seat _ tt (at heap state.words (Word seat.reached seat.part)) (head_of (at heap state.words (Word seat.reached seat.part)));
-    goes = λ heap state book rule number placed. old_goes heap state book rule number _ _ _ (λ named. cc (placed, named));
-    comes = λ heap number seat found placed. from_load (record seat { loaded = found }) (head_of found);
+    follows = λ heap state number seat compares placed. looks_follow_old_load heap state number seat _ tt (at heap state.words (Word seat.reached seat.part)) (head_of (at heap state.words (Word seat.reached seat.part)));
+    goes = λ heap state book rule number placed. looks_go_at_old_load heap state book rule number _ _ _ (λ named. cc (placed, named));
+    comes = λ heap number seat found placed. comes_from_old_load (record seat { loaded = found }) (head_of found);
   };
-  words = plain_words (places.Access LoadingOld) (λ heap number. old_move) (λ heap number seat. refl) (λ heap number seat is. is) (λ heap number seat low. low)
+  words = on_words_of_plain_step (places.Access LoadingOld) (λ heap number. old_move) (λ heap number seat. refl) (λ heap number seat is. is) (λ heap number seat low. low)
       (λ heap state book rule number here. only_loads (λ word. refl));
   found = λ heap state book number stands here placed. tt;
 }

@@ -9,13 +9,13 @@ use Rattle.core_machine.specs.seat.AccessMoves.{walk_move}
 use Rattle.core_rule.specs.roots.Roots.{IsInMarking, AtCall, OfRoots}
 use Rattle.core_rule.proofs.frames.SeatFrames.{AddressAt}
 use Rattle.core_rule.proofs.steps.Assemble.{Keeps, StepKeeps, seat_fits}
-use Rattle.core_rule.proofs.roots.CallRoots.{IsReachedNow, at_call, link_comes}
+use Rattle.core_rule.proofs.roots.CallRoots.{IsReachedNow, roots_hold_at_call, link_is_reached}
 use Rattle.core_rule.proofs.steps.Loads.{loaded_state}
-use Rattle.core_rule.proofs.steps.access.WaySteps.{on_way, way_goes}
-use Rattle.core_rule.proofs.ways.LoadedPlaces.{record_reads}
-use Rattle.core_rule.proofs.ways.OnwardWays.{way_unwatched, way_cases, onward_cases, way_stands, finds_at, finds_on}
+use Rattle.core_rule.proofs.steps.access.WaySteps.{on_way, keeps_rule_by_way_load}
+use Rattle.core_rule.proofs.ways.LoadedPlaces.{record_reads_no_spine}
+use Rattle.core_rule.proofs.ways.OnwardWays.{way_place_is_unwatched, way_place_cases, after_walk_cases, access_stands_at_next, finds_at_place, finds_after_link}
 use Rattle.core_rule.proofs.cycle.Unwatched.{IsUnwatched}
-use Rattle.core_rule.proofs.steps.StepKinds.{StepKind, only_loads, from_usual, walk_usual, stays_walk, meta_finds, way_kind, plain_words}
+use Rattle.core_rule.proofs.steps.StepKinds.{StepKind, only_loads, comes_from_usual, walk_is_usual, stays_found_after_walk, tells_at_meta, step_kind_of_way, on_words_of_plain_step}
 
 module _ (heap : Heap) (state : State) (book : Book) (number : ℕ) (rule : Rule heap state book) (here : number < heap.seats)
     (from : Access) (place : (seat_at state number).place ≡ places.Access from)
@@ -43,33 +43,33 @@ module _ (heap : Heap) (state : State) (book : Book) (number : ℕ) (rule : Rule
       → Keeps heap state (loaded_state heap state number (Word seat.reached 0) (gone reached links part next)) book book.begun []
   goes_to reached links part next same finds reads comes machine =
       let new : Seat = gone reached links part next in
-      way_goes heap state book number rule here from place unanswered unnamed (Word seat.reached 0) reached links part seat.address (way_place_of next)
-      (way_cases (λ place. Awaits g book.made book.owner book.fragments number new (places.Access place) []) next refl refl (λ on. refl) (λ off. refl))
-      (way_stands (node_at g book.made) book.made book.owner book.fragments new next unloaded finds)
-      (way_cases (λ place. AddressAt heap state.words book new (places.Access place)) next tt reads (λ on. reads) (λ off. reads))
-      (subst (λ b. IsUnwatched b (way_place_of next)) same (way_unwatched next))
+      keeps_rule_by_way_load heap state book number rule here from place unanswered unnamed (Word seat.reached 0) reached links part seat.address (way_place_of next)
+      (way_place_cases (λ place. Awaits g book.made book.owner book.fragments number new (places.Access place) []) next refl refl (λ on. refl) (λ off. refl))
+      (access_stands_at_next (node_at g book.made) book.made book.owner book.fragments new next unloaded finds)
+      (way_place_cases (λ place. AddressAt heap state.words book new (places.Access place)) next tt reads (λ on. reads) (λ off. reads))
+      (subst (λ b. IsUnwatched b (way_place_of next)) same (way_place_is_unwatched next))
       (λ marks roots.
       let there = comes marks (reaches roots) in
-      way_cases (AtCall (IsReachedNow heap state book) new) next there there (λ on. there) (λ off. there))
+      way_place_cases (AtCall (IsReachedNow heap state book) new) next there there (λ on. there) (λ off. there))
       machine
 
   -- the way goes on, or the field's fragment is reached
-  pub onward_keeps : (links part : ℕ) (finds : Finds (node_at g book.made) book.made book.owner book.fragments (record seat { links = links; part = part }))
+  pub keeps_rule_by_onward_step : (links part : ℕ) (finds : Finds (node_at g book.made) book.made book.owner book.fragments (record seat { links = links; part = part }))
       → (node_at g book.made finds.index).array ≡ false
       → IsMachine heap (loaded_state heap state number (Word seat.reached 0) (with_entries (after_walk (record seat { links = links; part = part }) found_first) []))
       → Keeps heap state (loaded_state heap state number (Word seat.reached 0) (with_entries (after_walk (record seat { links = links; part = part }) found_first) [])) book book.begun []
-  onward_keeps links part finds kind =
+  keeps_rule_by_onward_step links part finds kind =
       let on : Seat = record seat { links = links; part = part } in
       let reads : ReadsSpine heap state.words (node_at g book.made) book.owner book.fragments book.spines book.spine_owner seat
-      = record_reads heap state.words (node_at g book.made) book.made book.owner book.fragments book.spines book.spine_owner on finds.index finds.row finds.way kind in
-      onward_cases (λ s. IsMachine heap (loaded_state heap state number (Word seat.reached 0) (with_entries s []))
+      = record_reads_no_spine heap state.words (node_at g book.made) book.made book.owner book.fragments book.spines book.spine_owner on finds.index finds.row finds.way kind in
+      after_walk_cases (λ s. IsMachine heap (loaded_state heap state number (Word seat.reached 0) (with_entries s []))
       → Keeps heap state (loaded_state heap state number (Word seat.reached 0) (with_entries s [])) book book.begun []) on found_first
       (λ arrived. goes_to seat.reached links part on refl
-      (finds_at (node_at g book.made) book.made book.owner book.fragments on seat.loaded (way_place_of on) _ finds) reads (λ marks comes. comes))
+      (finds_at_place (node_at g book.made) book.made book.owner book.fragments on seat.loaded (way_place_of on) _ finds) reads (λ marks comes. comes))
       (λ more. goes_to (link_of found_first) (links - 1) part (after_link on found_first) refl
-      (finds_on heap state.words g book.made book.owner book.fragments rule.machine.limits rule.heap_stands.control_words rule.heap_stands.ids rule.heap_stands.objects
+      (finds_after_link heap state.words g book.made book.owner book.fragments rule.machine.limits rule.heap_stands.control_words rule.heap_stands.ids rule.heap_stands.objects
       on seat.loaded (way_place_of (after_link on found_first)) _ more finds)
-      reads (λ marks comes. link_comes heap state book number rule here marks comes links part more finds))
+      reads (λ marks comes. link_is_reached heap state book number rule here marks comes links part more finds))
 
 -- walking a link keeps the rule
 pub walk_keeps : StepKeeps (places.Access Walking) (λ heap number. walk_move)
@@ -77,8 +77,8 @@ walk_keeps heap state book number rule here place machine =
     let finds : Finds (node_at (graph_of heap book.history) book.made) book.made book.owner book.fragments (seat_at state number)
     = rw place at (rule.seats_stand number here).names.way in
     let walks : SeatIsOnWay (seat_at state number) = rw place at (seat_fits rule number here).way_at_place in
-    onward_keeps heap state book number rule here Walking place (λ answered. answered) (λ d r awaited. awaited)
-    walks.none_loaded (at_call (IsReachedNow heap state book) (seat_at state number) Walking place) (seat_at state number).links (seat_at state number).part finds (no_array finds walks.more) machine
+    keeps_rule_by_onward_step heap state book number rule here Walking place (λ answered. answered) (λ d r awaited. awaited)
+    walks.none_loaded (roots_hold_at_call (IsReachedNow heap state book) (seat_at state number) Walking place) (seat_at state number).links (seat_at state number).part finds (no_array finds walks.more) machine
   where
     -- to a cell of an array no link leads
     no_array : (finds : Finds (node_at (graph_of heap book.history) book.made) book.made book.owner book.fragments (seat_at state number)) → 0 < (seat_at state number).links
@@ -90,12 +90,12 @@ walk_keeps heap state book number rule here place machine =
         by true is = absurd (omega (arith, more, finds.field.linked is))
 
 -- all that is asked of it
-pub walk_kind : StepKind (places.Access Walking)
-walk_kind = way_kind (places.Access Walking) (λ heap number. walk_move) (λ heap number seat. refl) (λ e. cc e) (λ heap number seat. tt) (λ heap number seat words found. refl) record {
+pub step_kind_of_walking : StepKind (places.Access Walking)
+step_kind_of_walking = step_kind_of_way (places.Access Walking) (λ heap number. walk_move) (λ heap number seat. refl) (λ e. cc e) (λ heap number seat. tt) (λ heap number seat words found. refl) record {
   keeps = walk_keeps;
-  stays = λ heap number seat found placed. stays_walk seat found;
-  comes = λ heap number seat found. from_usual _ (after_walk seat found).place (walk_usual seat found);
-  words = plain_words (places.Access Walking) (λ heap number. walk_move) (λ heap number seat. refl) (λ heap number seat is. is) (λ heap number seat low. low)
+  stays = λ heap number seat found placed. stays_found_after_walk seat found;
+  comes = λ heap number seat found. comes_from_usual _ (after_walk seat found).place (walk_is_usual seat found);
+  words = on_words_of_plain_step (places.Access Walking) (λ heap number. walk_move) (λ heap number seat. refl) (λ heap number seat is. is) (λ heap number seat low. low)
       (λ heap state book rule number here. only_loads (λ word. refl));
-  found = λ heap state book number stands here placed. meta_finds heap state book number stands here (λ idle. cc (placed, idle)) Walking placed (λ e. e) (λ d r e. e);
+  found = λ heap state book number stands here placed. tells_at_meta heap state book number stands here (λ idle. cc (placed, idle)) Walking placed (λ e. e) (λ d r e. e);
 }

@@ -12,21 +12,21 @@ use Rattle.core_machine.specs.declared.place.Place.TheVariants as places
 use Rattle.core_machine.specs.declared.place.Access.TheVariants.{LoadingSpot}
 use Rattle.core_machine.specs.seat.FitsAccess.{NamesObject, NamesField, SeatIsAtHead}
 use Rattle.core_machine.specs.seat.AccessMoves.{open_move, reply_entries, reply_entries_if}
-use Rattle.core_rule.proofs.entries.AtRest.{seat_fits, spent_own, few_own}
+use Rattle.core_rule.proofs.entries.AtRest.{seat_fits, spent_within_taken, taken_is_few_unspent}
 use Rattle.core_rule.proofs.steps.Assemble.{Keeps, StepKeeps}
-use Rattle.core_rule.proofs.ways.AtObject.{is_present, way_object, at_rest}
-use Rattle.core_rule.proofs.roots.CallRoots.{IsReachedNow, at_call}
-use Rattle.core_rule.proofs.marking.Marks.{roots_off_way}
-use Rattle.core_rule.proofs.ways.KeptWords.{by_kind, length_found, array_length_found}
-use Rattle.core_rule.proofs.steps.Loads.{went_cycle, went, loaded_state, load_tells, over_went}
-use Rattle.core_rule.proofs.graph.ObjectReplies.{IsLen, accepts_length, accepts_no_field, graph_length, graph_no_field, keeps_length, keeps_no_field}
-use Rattle.core_rule.proofs.steps.access.OnwardStep.{onward_keeps}
-use Rattle.core_rule.proofs.steps.access.WaySteps.{way_goes}
-use Rattle.core_rule.proofs.entries.OwnEntries.{own_entries}
-use Rattle.core_rule.proofs.entries.PhaseEntries.{no_leave_told}
-use Rattle.core_rule.proofs.graph.PutRegister.{only_none}
-use Rattle.core_rule.proofs.entries.SeatLists.{list_more}
-use Rattle.core_rule.proofs.steps.StepKinds.{StepKind, only_loads, shows_some, meta_plain, meta_follows, meta_goes, from_usual, meta_usual, meta_finds, plain_words}
+use Rattle.core_rule.proofs.ways.AtObject.{seat_is_present, way_object_is_registers, way_seat_is_at_rest}
+use Rattle.core_rule.proofs.roots.CallRoots.{IsReachedNow, roots_hold_at_call}
+use Rattle.core_rule.proofs.marking.Marks.{roots_hold_off_way}
+use Rattle.core_rule.proofs.ways.KeptWords.{array_or_record_cases, meta_tells_length, meta_tells_array_length}
+use Rattle.core_rule.proofs.steps.Loads.{seat_in_cycle_after_load, went, loaded_state, keeps_rule_by_telling_load, keeps_rule_by_forgetting_load}
+use Rattle.core_rule.proofs.graph.ObjectReplies.{IsLen, accepts_length, accepts_no_field, graph_same_after_length, graph_same_after_no_field, keeps_space_of_length, keeps_space_of_no_field}
+use Rattle.core_rule.proofs.steps.access.OnwardStep.{keeps_rule_by_onward_step}
+use Rattle.core_rule.proofs.steps.access.WaySteps.{keeps_rule_by_way_load}
+use Rattle.core_rule.proofs.entries.OwnEntries.{own_entries_grow}
+use Rattle.core_rule.proofs.entries.PhaseEntries.{reply_is_no_leave}
+use Rattle.core_rule.proofs.graph.PutRegister.{only_registers_of_itself}
+use Rattle.core_rule.proofs.entries.SeatLists.{own_list_after_entry}
+use Rattle.core_rule.proofs.steps.StepKinds.{StepKind, only_loads, shows_reply_if, meta_reply_is_plain, looks_follow_meta, looks_go_at_meta, comes_from_usual, meta_is_usual, tells_at_meta, on_words_of_plain_step}
 
 -- a meta answers a question for the length; a field goes on, or is none of the object's
 meta_cases : (P : Option Reply → Type 0) (command : Command) (found : ℕ) → NamesObject command → (IsLen command → P (Some (replies.Length (length_of found))))
@@ -60,15 +60,15 @@ module _ (heap : Heap) (state : State) (book : Book) (number : ℕ) (rule : Rule
       let g : Graph = graph_of heap book.history in
       let stands = rule.seats_stand number here in
       let entry : Entry = Said number seat.command reply in
-      load_tells heap state book number rule here (Word seat.reached 0) seat.registers 0 0 0 no_spot 0 places.Idle (forgotten (seat_at state number).looks) (entry ∷ []) machine seat.command reply nothing g stays (only_none g number)
+      keeps_rule_by_telling_load heap state book number rule here (Word seat.reached 0) seat.registers 0 0 0 no_spot 0 places.Idle (forgotten (seat_at state number).looks) (entry ∷ []) machine seat.command reply nothing g stays (only_registers_of_itself g number)
       (rw place tt) tt
       accepts keeps
       (λ r unawaited. stands.names.registers r (subst (λ p. IsAwaited p (target_of seat.command) r) place))
-      (list_more g book.made book.owner book.fragments number seat book.history (subst IsAnswered place) stands.told.list g _ _ (entry ∷ []) [] (entry ∷ []) refl refl
-      (own_entries number book.history entry (eq-eqb number number refl)) refl)
+      (own_list_after_entry g book.made book.owner book.fragments number seat book.history (subst IsAnswered place) stands.told.list g _ _ (entry ∷ []) [] (entry ∷ []) refl refl
+      (own_entries_grow number book.history entry (eq-eqb number number refl)) refl)
       tt tt tt stays_here
-      (went_cycle heap state book number rule here (Word seat.reached 0) seat.registers 0 0 0 no_spot 0 places.Idle (forgotten (seat_at state number).looks) (entry ∷ []) machine tt)
-      (λ marks. roots_off_way (IsReachedNow heap state book) seat (went seat seat.registers 0 0 0 no_spot 0 places.Idle (forgotten (seat_at state number).looks) (entry ∷ [])) refl tt)
+      (seat_in_cycle_after_load heap state book number rule here (Word seat.reached 0) seat.registers 0 0 0 no_spot 0 places.Idle (forgotten (seat_at state number).looks) (entry ∷ []) machine tt)
+      (λ marks. roots_hold_off_way (IsReachedNow heap state book) seat (went seat seat.registers 0 0 0 no_spot 0 places.Idle (forgotten (seat_at state number).looks) (entry ∷ [])) refl tt)
 
   -- the object has the field: the way of a record goes on by its links, and that of an array by its spine
   length_keeps : field_of (seat_at state number).command < length (cells_at (graph_of heap book.history) book.made set_out.index)
@@ -86,15 +86,15 @@ module _ (heap : Heap) (state : State) (book : Book) (number : ℕ) (rule : Rule
       let index : ℕ = out.index in
       let way = out.way in
       let object : Node = node_at g book.made index in
-      let reaches = at_call (IsReachedNow heap state book) seat LoadingMeta place in
+      let reaches = roots_hold_at_call (IsReachedNow heap state book) seat LoadingMeta place in
       let cells : array_length_of found ≡ (if object.array then Some (length object.cells) else None)
       = ap (λ f. array_length_of (at heap state.words (Word f 0))) way.here
-      ∙ array_length_found heap state.words g book.made book.owner book.fragments rule.machine.limits stands.control_words stands.ids stands.objects index way.below way.kept in
+      ∙ meta_tells_array_length heap state.words g book.made book.owner book.fragments rule.machine.limits stands.control_words stands.ids stands.objects index way.below way.kept in
       let goes : Option ℕ → Type 0 = λ length. IsMachine heap (loaded_state heap state number (Word seat.reached 0) (with_entries (after_length seat found length) []))
       → Keeps heap state (loaded_state heap state number (Word seat.reached 0) (with_entries (after_length seat found length) [])) book book.begun [] in
-      by_kind heap state.words g book.made book.owner book.fragments rule.machine.limits stands.control_words stands.ids stands.objects index way.below way.kept (goes (array_length_of found))
+      array_or_record_cases heap state.words g book.made book.owner book.fragments rule.machine.limits stands.control_words stands.ids stands.objects index way.below way.kept (goes (array_length_of found))
       (λ kind. let is : array_length_of found ≡ Some (length object.cells) = cells ∙ ap (λ b. if b then Some (length object.cells) else None) kind in subst goes (sym is)
-      (way_goes heap state book number rule here LoadingMeta place (λ answered. answered) (λ d r awaited. awaited) (Word seat.reached 0) seat.reached 0 (field_of seat.command % 4) seat.address LoadingSpot refl
+      (keeps_rule_by_way_load heap state book number rule here LoadingMeta place (λ answered. answered) (λ d r awaited. awaited) (Word seat.reached 0) seat.reached 0 (field_of seat.command % 4) seat.address LoadingSpot refl
       record {
         index = index;
         way = record { below = way.below; kept = way.kept; holds = way.holds; here = way.here };
@@ -104,7 +104,7 @@ module _ (heap : Heap) (state : State) (book : Book) (number : ℕ) (rule : Rule
       }
       tt tt (λ marks roots. reaches roots)))
       (λ kind. let is : array_length_of found ≡ None = cells ∙ ap (λ b. if b then Some (length object.cells) else None) kind in subst goes (sym is)
-      (onward_keeps heap state book number rule here LoadingMeta place (λ answered. answered) (λ d r awaited. awaited)
+      (keeps_rule_by_onward_step heap state book number rule here LoadingMeta place (λ answered. answered) (λ d r awaited. awaited)
       opens.none_loaded reaches (row_of (field_of seat.command)) (part_of (field_of seat.command)) record {
         index = index;
         row = 0;
@@ -125,40 +125,40 @@ open_keeps heap state book number rule here place machine =
     let id : Id = id_at book.made index in
     let size : length_of found ≡ length (cells_at g book.made index)
     = ap (λ f. length_of (at heap state.words (Word f 0))) way.here
-    ∙ length_found heap state.words g book.made book.owner book.fragments rule.machine.limits rule.heap_stands.control_words rule.heap_stands.ids rule.heap_stands.objects index way.below way.kept in
-    let present = is_present heap state book number rule here LoadingMeta place in
+    ∙ meta_tells_length heap state.words g book.made book.owner book.fragments rule.machine.limits rule.heap_stands.control_words rule.heap_stands.ids rule.heap_stands.objects index way.below way.kept in
+    let present = seat_is_present heap state book number rule here LoadingMeta place in
     let made = rule.heap_stands.ids.in_graph index way.below in
-    let held = way_object heap state book number rule here LoadingMeta place (λ d r. subst (λ p. IsAwaited p d r) place) index 0 way in
-    let enough = spent_own heap state book number rule here (at_rest heap state book number rule here LoadingMeta place) in
-    let little = few_own heap state book number rule here (at_rest heap state book number rule here LoadingMeta place) in
-    let leaves_none = λ (reply : Reply). no_leave_told number number seat.command reply (λ leaves. subst NamesObject leaves opens.names) in
-    let ends = λ (reply : Reply). over_went heap state book number (Word seat.reached 0) seat.registers (reply_entries number seat reply) (reply_entries number seat reply) (rw place at (seat_fits rule number here).at_place) (rw place at (seat_fits rule number here).answer_at_place) in
+    let held = way_object_is_registers heap state book number rule here LoadingMeta place (λ d r. subst (λ p. IsAwaited p d r) place) index 0 way in
+    let enough = spent_within_taken heap state book number rule here (way_seat_is_at_rest heap state book number rule here LoadingMeta place) in
+    let little = taken_is_few_unspent heap state book number rule here (way_seat_is_at_rest heap state book number rule here LoadingMeta place) in
+    let leaves_none = λ (reply : Reply). reply_is_no_leave number number seat.command reply (λ leaves. subst NamesObject leaves opens.names) in
+    let ends = λ (reply : Reply). keeps_rule_by_forgetting_load heap state book number (Word seat.reached 0) seat.registers (reply_entries number seat reply) (reply_entries number seat reply) (rw place at (seat_fits rule number here).at_place) (rw place at (seat_fits rule number here).answer_at_place) in
     meta_cases (λ reply. IsMachine heap (loaded_state heap state number (Word seat.reached 0) (with_entries (after_meta seat found reply) (reply_entries_if number seat reply)))
     → Keeps heap state (loaded_state heap state number (Word seat.reached 0) (with_entries (after_meta seat found reply) (reply_entries_if number seat reply))) book book.begun (reply_entries_if number seat reply))
     seat.command found opens.names
-    (λ len. ends (replies.Length (length_of found)) (met_keeps heap state book number rule here place (replies.Length (length_of found)) refl (graph_length g number (length_of found) seat.command len)
+    (λ len. ends (replies.Length (length_of found)) (met_keeps heap state book number rule here place (replies.Length (length_of found)) refl (graph_same_after_length g number (length_of found) seat.command len)
     (subst (λ n. Accepts g (Said number seat.command (replies.Length n))) (sym size) (accepts_length g number id seat.command opens.works.in_range present made held len))
-    (keeps_length heap false book.history number enough little (length_of found) seat.command len) (leaves_none (replies.Length (length_of found)))))
+    (keeps_space_of_length heap false book.history number enough little (length_of found) seat.command len) (leaves_none (replies.Length (length_of found)))))
     (λ field more. length_keeps heap state book number rule here place (omega (arith, more, size)))
-    (λ field past. ends replies.NoField (met_keeps heap state book number rule here place replies.NoField refl (graph_no_field g number seat.command field)
+    (λ field past. ends replies.NoField (met_keeps heap state book number rule here place replies.NoField refl (graph_same_after_no_field g number seat.command field)
     (accepts_no_field g number id seat.command opens.works.in_range present made held field (omega (arith, past, size)))
-    (keeps_no_field heap false book.history number enough little seat.command field) (leaves_none replies.NoField)))
+    (keeps_space_of_no_field heap false book.history number enough little seat.command field) (leaves_none replies.NoField)))
     machine
 
 -- all that is asked of it
-pub open_kind : StepKind (places.Access LoadingMeta)
-open_kind = record {
+pub step_kind_of_loading_meta : StepKind (places.Access LoadingMeta)
+step_kind_of_loading_meta = record {
   keeps = λ heap state book number rule here looks. open_keeps heap state book number rule here;
   shows = λ heap state number.
-      shows_some number (seat_at state number) (places.Access LoadingMeta) (meta_reply_of (seat_at state number).command (at heap state.words (Word (seat_at state number).reached 0))) (meta_plain (seat_at state number).command (at heap state.words (Word (seat_at state number).reached 0)));
+      shows_reply_if number (seat_at state number) (places.Access LoadingMeta) (meta_reply_of (seat_at state number).command (at heap state.words (Word (seat_at state number).reached 0))) (meta_reply_is_plain (seat_at state number).command (at heap state.words (Word (seat_at state number).reached 0)));
   looks = record {
     follows = λ heap state number seat compares placed.
-        meta_follows heap state number seat _ tt (at heap state.words (Word seat.reached 0)) (meta_reply_of seat.command (at heap state.words (Word seat.reached 0)));
-    goes = λ heap state book rule number placed. meta_goes heap state book rule number (at heap state.words (Word (seat_at state number).reached 0)) (meta_reply_of (seat_at state number).command (at heap state.words (Word (seat_at state number).reached 0))) placed _;
+        looks_follow_meta heap state number seat _ tt (at heap state.words (Word seat.reached 0)) (meta_reply_of seat.command (at heap state.words (Word seat.reached 0)));
+    goes = λ heap state book rule number placed. looks_go_at_meta heap state book rule number (at heap state.words (Word (seat_at state number).reached 0)) (meta_reply_of (seat_at state number).command (at heap state.words (Word (seat_at state number).reached 0))) placed _;
     comes = λ heap number seat found placed.
-        from_usual _ (after_meta seat found (meta_reply_of seat.command found)).place (meta_usual seat found (meta_reply_of seat.command found));
+        comes_from_usual _ (after_meta seat found (meta_reply_of seat.command found)).place (meta_is_usual seat found (meta_reply_of seat.command found));
   };
-  words = plain_words (places.Access LoadingMeta) (λ heap. open_move) (λ heap number seat. refl) (λ heap number seat is. is) (λ heap number seat low. low)
+  words = on_words_of_plain_step (places.Access LoadingMeta) (λ heap. open_move) (λ heap number seat. refl) (λ heap number seat is. is) (λ heap number seat low. low)
       (λ heap state book rule number here. only_loads (λ word. refl));
-  found = λ heap state book number stands here placed. meta_finds heap state book number stands here (λ idle. cc (placed, idle)) LoadingMeta placed (λ e. e) (λ d r e. e);
+  found = λ heap state book number stands here placed. tells_at_meta heap state book number stands here (λ idle. cc (placed, idle)) LoadingMeta placed (λ e. e) (λ d r e. e);
 }

@@ -9,16 +9,16 @@ use Rattle.core_machine.specs.seat.FitsAccess.{SeatIsAtSet}
 use Rattle.core_machine.specs.seat.AccessMoves.{shade_old_move, loaded_head_of, new_register_of}
 use Rattle.core_rule.specs.roots.Roots.{IsInMarking, OfRoots}
 use Rattle.core_rule.proofs.steps.Assemble.{Keeps, StepKeeps, seat_fits}
-use Rattle.core_rule.proofs.steps.BarrierSteps.{new_cases, shades_on, leads_back}
+use Rattle.core_rule.proofs.steps.BarrierSteps.{new_place_cases, keeps_rule_by_leading_shade, field_leads_as_before}
 use Rattle.core_rule.proofs.book.BookGoing.{IsNamed, by_set}
 use Rattle.core_rule.proofs.ways.LoadedObjects.{KeptHead}
-use Rattle.core_rule.proofs.ways.OnwardWays.{finds_at, loaded_at}
-use Rattle.core_rule.proofs.lists.Options.{some_holds, none_holds, from_some, of_some}
-use Rattle.core_rule.proofs.roots.CallRoots.{IsReachedNow, at_call}
-use Rattle.core_rule.proofs.colours.ShadeColours.{with_mark, mark_marks, mark_keeps}
+use Rattle.core_rule.proofs.ways.OnwardWays.{finds_at_place, loaded_kept_at_place}
+use Rattle.core_rule.proofs.lists.Options.{if_some_of_the_one, if_some_of_none, unwrapped_some_is_value, holds_of_some}
+use Rattle.core_rule.proofs.roots.CallRoots.{IsReachedNow, roots_hold_at_call}
+use Rattle.core_rule.proofs.colours.ShadeColours.{with_mark, mark_marks_fragment, mark_keeps_marked}
 use Rattle.core_rule.proofs.steps.ShadeStep.{shading, words_shaded}
-use Rattle.core_rule.proofs.steps.StepKinds.{StepKind, spares, from_usual, new_usual, way_kind, plain_words}
-use Rattle.core_rule.proofs.colours.OneBit.{bit_above}
+use Rattle.core_rule.proofs.steps.StepKinds.{StepKind, spares, comes_from_usual, new_place_is_usual, step_kind_of_way, on_words_of_plain_step}
+use Rattle.core_rule.proofs.colours.OneBit.{lower_bit_stays}
 
 -- shading the old value keeps the rule
 pub shade_old_keeps : StepKeeps (places.Access ShadingOld) (λ heap number. shade_old_move)
@@ -31,43 +31,43 @@ shade_old_keeps heap state book number rule here place machine =
     let way : Finds (node_at g book.made) book.made book.owner book.fragments seat × LoadedKept book.made book.owner book.fragments seat = rw place at stands.names.way in
     let reads : ReadsSpine heap state.words (node_at g book.made) book.owner book.fragments book.spines book.spine_owner seat = rw place at stands.names.address in
     let f : ℕ = loaded_head_of seat in
-    let is : f ≡ fragment_at (book.fragments way.1.index) 0 = from_some (head_of seat.loaded) _ way.1.loads in
+    let is : f ≡ fragment_at (book.fragments way.1.index) 0 = unwrapped_some_is_value (head_of seat.loaded) _ way.1.loads in
     let loads : head_of seat.loaded ≡ Some f = way.1.loads ∙ ap Some (sym is) in
     let head : KeptHead book.made book.owner book.fragments f = record { index = way.1.index; below = way.1.below; kept = way.1.kept; is = is } in
     let named : IsNamed heap state book f = by_set number here place loads in
     let coloured : ℕ → Colour = with_mark book.colour f in
-    let on = shades_on heap state book number rule here ShadingOld place (λ answered. answered) (λ d r awaited. awaited) f head fits.1 in
-    let back = leads_back heap state book number rule here ShadingOld place (λ answered. answered) (λ d r awaited. awaited) f head fits.1 in
-    let at_next = λ (next : Access). finds_at (node_at g book.made) book.made book.owner book.fragments seat seat.loaded next (seat.mine ++ []) way.0 in
-    let kept_at = λ (next : Access) (some : IsSome (head_of seat.loaded)). loaded_at book.made book.owner book.fragments seat next (seat.mine ++ []) way.1 in
-    let marked : IfSome (head_of seat.loaded) (IsMarked coloured) = some_holds (IsMarked coloured) (head_of seat.loaded) f loads (mark_marks book.colour f) in
+    let on = keeps_rule_by_leading_shade heap state book number rule here ShadingOld place (λ answered. answered) (λ d r awaited. awaited) f head fits.1 in
+    let back = field_leads_as_before heap state book number rule here ShadingOld place (λ answered. answered) (λ d r awaited. awaited) f head fits.1 in
+    let at_next = λ (next : Access). finds_at_place (node_at g book.made) book.made book.owner book.fragments seat seat.loaded next (seat.mine ++ []) way.0 in
+    let kept_at = λ (next : Access) (some : IsSome (head_of seat.loaded)). loaded_kept_at_place book.made book.owner book.fragments seat next (seat.mine ++ []) way.1 in
+    let marked : IfSome (head_of seat.loaded) (IsMarked coloured) = if_some_of_the_one (IsMarked coloured) (head_of seat.loaded) f loads (mark_marks_fragment book.colour f) in
     let watched : IsBetween 2 5 p → IsBetween 2 5 seat.answered → DeletionBarrier heap state.words book.colour seat.reached seat.part (head_of seat.loaded)
     = subst (λ x. IsBetween 2 5 p → IsBetween 2 5 seat.answered → WhileAccess (FieldStands heap state.words book.colour seat) x) place stands.cycle.flight.set in
     let comes : IsInMarking state.collector → seat.answered ≡ state.collector.phase → IsReachedNow heap state book f
-    = λ marks answered. of_some (IsReachedNow heap state book) (head_of seat.loaded) f loads (at_call (IsReachedNow heap state book) seat ShadingOld place (rule.marks_stand.roots number here marks answered)).1 in
-    let reached = λ (marks : IsInMarking state.collector) (roots : OfRoots (IsReachedNow heap state book) seat). (at_call (IsReachedNow heap state book) seat ShadingOld place roots).0 in
+    = λ marks answered. holds_of_some (IsReachedNow heap state book) (head_of seat.loaded) f loads (roots_hold_at_call (IsReachedNow heap state book) seat ShadingOld place (rule.marks_stand.roots number here marks answered)).1 in
+    let reached = λ (marks : IsInMarking state.collector) (roots : OfRoots (IsReachedNow heap state book) seat). (roots_hold_at_call (IsReachedNow heap state book) seat ShadingOld place roots).0 in
     let field : IsBetween 2 5 p → IsBetween 2 5 seat.answered → (x : ℕ)
     → WordPointsTo heap (words_shaded heap state book number rule here f head.index head.kept head.is) seat.reached seat.part x → (None ≡ Some x) ⊎ IsMarked coloured x
     = λ making snapped x lead. elim (watched making snapped x (back x lead)) [
-      | inl same ↦ let as_loaded : f ≡ x = cc (loads, same) in inr (subst (IsMarked coloured) as_loaded (mark_marks book.colour f))
-      | inr was ↦ inr (mark_keeps book.colour f x was)
+      | inl same ↦ let as_loaded : f ≡ x = cc (loads, same) in inr (subst (IsMarked coloured) as_loaded (mark_marks_fragment book.colour f))
+      | inr was ↦ inr (mark_keeps_marked book.colour f x was)
     ] in
-    new_cases (λ next. IsMachine heap (record state { words = words_shaded heap state book number rule here f head.index head.kept head.is; seats = slice_set state.seats number (shading seat seat.shaded (places.Access next)) })
+    new_place_cases (λ next. IsMachine heap (record state { words = words_shaded heap state book number rule here f head.index head.kept head.is; seats = slice_set state.seats number (shading seat seat.shaded (places.Access next)) })
     → Keeps heap state (record state { words = words_shaded heap state book number rule here f head.index head.kept head.is; seats = slice_set state.seats number (shading seat seat.shaded (places.Access next)) }) book book.begun [])
     (register_head (new_register_of seat))
     (λ no_new. on Swapping (λ s. refl) reads (at_next Swapping, kept_at Swapping) (λ making snapped. field making snapped)
-    (λ making is_on. (marked, none_holds (IsMarked coloured) (register_head (new_register_of seat)) no_new)) comes reached named)
+    (λ making is_on. (marked, if_some_of_none (IsMarked coloured) (register_head (new_register_of seat)) no_new)) comes reached named)
     (λ x some. on ShadingNew (λ s. refl) reads (at_next ShadingNew, kept_at ShadingNew) field (λ making. marked) comes reached named)
     machine
 
 -- all that is asked of it
-pub shade_old_kind : StepKind (places.Access ShadingOld)
-shade_old_kind = way_kind (places.Access ShadingOld) (λ heap number. shade_old_move) (λ heap number seat. refl) (λ e. cc e) (λ heap number seat. tt) (λ heap number seat words found. refl) record {
+pub step_kind_of_shading_old : StepKind (places.Access ShadingOld)
+step_kind_of_shading_old = step_kind_of_way (places.Access ShadingOld) (λ heap number. shade_old_move) (λ heap number seat. refl) (λ e. cc e) (λ heap number seat. tt) (λ heap number seat words found. refl) record {
   keeps = shade_old_keeps;
   stays = λ heap number seat found placed. record { looks = refl; elsewhere = tt };
   comes = λ heap number seat found.
-      from_usual _ (after_old seat).place (new_usual (register_head (register_in seat.registers (source_of seat.command))));
-  words = plain_words (places.Access ShadingOld) (λ heap number. shade_old_move) (λ heap number seat. refl) (λ heap number seat is. is) (λ heap number seat low. low)
-      (λ heap state book rule number here. spares _ refl (λ word i above below. bit_above word 32 _ i below));
+      comes_from_usual _ (after_old seat).place (new_place_is_usual (register_head (register_in seat.registers (source_of seat.command))));
+  words = on_words_of_plain_step (places.Access ShadingOld) (λ heap number. shade_old_move) (λ heap number seat. refl) (λ heap number seat is. is) (λ heap number seat low. low)
+      (λ heap state book rule number here. spares _ refl (λ word i above below. lower_bit_stays word 32 _ i below));
   found = λ heap state book number stands here placed. tt;
 }

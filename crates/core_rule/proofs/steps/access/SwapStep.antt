@@ -19,24 +19,24 @@ use Rattle.core_machine.specs.seat.FitsAccess.{IsSet, SeatIsAtSet as FitsSets}
 use Rattle.core_machine.specs.Move.{seat_after}
 use Rattle.core_machine.specs.seat.AccessMoves.{swap_move, new_word_of}
 use Rattle.core_rule.proofs.steps.Assemble.{StepKeeps}
-use Rattle.core_rule.proofs.entries.AtRest.{seat_fits, in_flight, spent_own, few_own, none_awaited}
-use Rattle.core_rule.proofs.graph.CellSet.{Sets, sets_cell}
-use Rattle.core_rule.proofs.objects.CellWords.{stamp_of_value, register_is_value, register_names}
-use Rattle.core_rule.proofs.cycle.CycleHistory.{cycle_own}
-use Rattle.core_rule.proofs.entries.Legality.{legal_more, keeps_said}
-use Rattle.core_rule.proofs.ways.KeptWords.{field_reached}
-use Rattle.core_rule.proofs.graph.SameNodes.{made_node}
-use Rattle.core_rule.proofs.objects.ObjectsSet.{ids_set, shapes_set, found_is, objects_set, set_unkept}
-use Rattle.core_rule.proofs.entries.PhaseEntries.{no_leave_told}
-use Rattle.core_rule.proofs.steps.ReplyStep.{reply_keeps}
-use Rattle.core_rule.proofs.entries.SeatLists.{all_told}
+use Rattle.core_rule.proofs.entries.AtRest.{seat_fits, in_flight_has_not_left, spent_within_taken, taken_is_few_unspent, place_awaits_none}
+use Rattle.core_rule.proofs.graph.CellSet.{Sets, write_sets_cell}
+use Rattle.core_rule.proofs.objects.CellWords.{stamp_of_value_word, register_word_is_value_word, register_names_kept}
+use Rattle.core_rule.proofs.cycle.CycleHistory.{seat_in_cycle_after_own}
+use Rattle.core_rule.proofs.entries.Legality.{legal_after_entry, keeps_space_of_plain_said}
+use Rattle.core_rule.proofs.ways.KeptWords.{way_stands_at_field}
+use Rattle.core_rule.proofs.graph.SameNodes.{made_has_node}
+use Rattle.core_rule.proofs.objects.ObjectsSet.{are_made_after_set, same_shapes_after_set, found_word_is_old_cell, objects_after_set, same_unkept_after_set}
+use Rattle.core_rule.proofs.entries.PhaseEntries.{reply_is_no_leave}
+use Rattle.core_rule.proofs.steps.ReplyStep.{keeps_in_cycle_when_idle}
+use Rattle.core_rule.proofs.entries.SeatLists.{own_list_is_all_told}
 use Rattle.core_rule.proofs.hand.StoredFrames.{SameUnkept}
 use Rattle.core_rule.proofs.frames.SeatFrames.{with_entry}
-use Rattle.core_rule.proofs.marking.Marks.{marks_off_way}
-use Rattle.core_rule.proofs.marking.SwapMarks.{leaves_swap}
-use Rattle.core_rule.proofs.cycle.SwapCycle.{heap_swapped, answer_swapped, leaves_swapped}
-use Rattle.core_rule.proofs.cycle.Unwatched.{cycle_apart}
-use Rattle.core_rule.proofs.steps.StepKinds.{StepKind, beside, shows_plain, reply_ends, plain_words}
+use Rattle.core_rule.proofs.marking.Marks.{marks_go_on_off_way}
+use Rattle.core_rule.proofs.marking.SwapMarks.{leaves_marking_when_swapped}
+use Rattle.core_rule.proofs.cycle.SwapCycle.{heap_in_cycle_after_swap, answer_same_after_swap, leaves_cycle_after_swap}
+use Rattle.core_rule.proofs.cycle.Unwatched.{seat_in_cycle_apart}
+use Rattle.core_rule.proofs.steps.StepKinds.{StepKind, beside, shows_plain, on_looks_of_reply, on_words_of_plain_step}
 
 -- a command that sets a field is a `set`
 set_only : (P : Command → Type 0) → ((r i v : ℕ) → P (commands.Set r i v)) → (command : Command) → IsSet command → P command
@@ -80,10 +80,10 @@ swap_keeps heap state book number rule here place machine =
     let a_set : IsSet seat.command = fits.0.1 in
     let way : Finds (node_at g book.made) book.made book.owner book.fragments seat × OldKept book.made book.owner book.fragments seat = rw place at stands.names.way in
     let finds : Finds (node_at g book.made) book.made book.owner book.fragments seat = way.0 in
-    let present : (graph_seat g number).left ≡ false = stands.told.counts.leaves ∙ in_flight rule number here (λ idle. absurd (cc (place, idle))) in
+    let present : (graph_seat g number).left ≡ false = stands.told.counts.leaves ∙ in_flight_has_not_left rule number here (λ idle. absurd (cc (place, idle))) in
     let silent : IsSilent seat = rw place at (seat_fits rule number here).answer_at_place in
     let holds : (r : ℕ) → HoldsValue book.made book.owner book.fragments (register_in seat.registers r) (register_value g number r)
-    = λ r. stands.names.registers r (none_awaited seat.place (places.Access Swapping) (target_of seat.command) r place (λ none. none)) in
+    = λ r. stands.names.registers r (place_awaits_none seat.place (places.Access Swapping) (target_of seat.command) r place (λ none. none)) in
     let n : ℕ = finds.index in
     let i : ℕ = field_of seat.command in
     let id : Id = id_at book.made n in
@@ -91,12 +91,12 @@ swap_keeps heap state book number rule here place machine =
     let cells : List Cell = object.cells in
     let objects = rule.heap_stands.objects in
     let ids : AreMade g book.made = rule.heap_stands.ids in
-    let there : node g id ≡ Some object = made_node (node g id) (ids.in_graph n finds.way.below) in
+    let there : node g id ≡ Some object = made_has_node (node g id) (ids.in_graph n finds.way.below) in
     let old : Cell = get_or cells i unset in
     let old_there : slice_get cells i ≡ Some old = slice_get-get_or cells i unset finds.field.within in
     let field : Address = Word (fragment_at (book.fragments n) (row_in object i)) (field_part object i) in
     let arrived : Word seat.reached seat.part ≡ field
-    = field_reached heap state.words g book.made book.owner book.fragments rule.machine.limits rule.heap_stands.control_words ids objects seat finds fits.0.2.arrived in
+    = way_stands_at_field heap state.words g book.made book.owner book.fragments rule.machine.limits rule.heap_stands.control_words ids objects seat finds fits.0.2.arrived in
     let word : ℕ = new_word_of number seat in
     let found : ℕ = at heap state.words (Word seat.reached seat.part) in
     let stamp : ℕ = stamp_of found in
@@ -106,34 +106,34 @@ swap_keeps heap state book number rule here place machine =
     let now : Graph = after_reply g number seat.command (replies.Was stamp) in
     let grown : now ≡ write (count_set g number) (values.Object id) i cell
     = set_graph seat.command a_set g number stamp ∙ ap (λ (x : Value). write (count_set g number) x i cell) refers in
-    let sets : Sets g now number id i cell = subst (λ (x : Graph). Sets g x number id i cell) (sym grown) (sets_cell g number id i cell object present there) in
+    let sets : Sets g now number id i cell = subst (λ (x : Graph). Sets g x number id i cell) (sym grown) (write_sets_cell g number id i cell object present there) in
     let numbered : seat.sets + 1 < 2 ^ 26 = set_numbered seat.command a_set seat.made seat.sets fits.0.0.numbered in
     let few : (graph_seat g number).sets + 1 < 2 ^ 26 = omega (arith, numbered, stands.told.counts.stamped) in
     let old_stamp : stamp ≡ old.stamp
     = ap (λ a. stamp_of (at heap state.words a)) arrived
-    ∙ ap stamp_of (found_is heap state.words g now number book.made book.owner book.fragments book.spines n i cell word ids objects finds.way.below finds.way.kept sets finds.field.within old old_there)
-    ∙ stamp_of_value (object_head book.made book.fragments) old.value old.stamp (objects.named n i finds.way.below finds.way.kept old old_there).1 in
+    ∙ ap stamp_of (found_word_is_old_cell heap state.words g now number book.made book.owner book.fragments book.spines n i cell word ids objects finds.way.below finds.way.kept sets finds.field.within old old_there)
+    ∙ stamp_of_value_word (object_head book.made book.fragments) old.value old.stamp (objects.named n i finds.way.below finds.way.kept old old_there).1 in
     let is_word : word ≡ value_word (object_head book.made book.fragments) cell.value cell.stamp
-    = register_is_value book.made book.owner book.fragments (register_in seat.registers (source_of seat.command)) cell.value (set_stamp number (seat.sets + 1)) (holds (source_of seat.command))
+    = register_word_is_value_word book.made book.owner book.fragments (register_in seat.registers (source_of seat.command)) cell.value (set_stamp number (seat.sets + 1)) (holds (source_of seat.command))
     ∙ ap (λ s. value_word (object_head book.made book.fragments) cell.value (set_stamp number (s + 1))) stands.told.counts.stamped in
     let small : cell.stamp < 2 ^ 32 = omega (arith, few, here, rule.machine.limits.seats_fit) in
     let names : NamesKept book.made book.owner book.fragments cell.value × (cell.stamp < 2 ^ 32)
-    = (register_names book.made book.owner book.fragments (register_in seat.registers (source_of seat.command)) cell.value (holds (source_of seat.command)), small) in
+    = (register_names_kept book.made book.owner book.fragments (register_in seat.registers (source_of seat.command)) cell.value (holds (source_of seat.command)), small) in
     let inside : InTable heap field = subst (InTable heap) arrived ((seat_fits rule number here).way.reached_within, fits.0.2.part_within) in
-    reply_keeps heap state book number (put heap state.words (Word seat.reached seat.part) word) (seat_after (swap_move number seat) found) seat.command (replies.Was stamp) rule here machine
-    refl (rw place tt) rest (all_told stands.told.list (rw place at stands.told.list.awaits))
-    (legal_more heap false book.history (entries.Said number seat.command (replies.Was stamp)) rule.heap_stands.legal
+    keeps_in_cycle_when_idle heap state book number (put heap state.words (Word seat.reached seat.part) word) (seat_after (swap_move number seat) found) seat.command (replies.Was stamp) rule here machine
+    refl (rw place tt) rest (own_list_is_all_told stands.told.list (rw place at stands.told.list.awaits))
+    (legal_after_entry heap false book.history (entries.Said number seat.command (replies.Was stamp)) rule.heap_stands.legal
     (present, fits.0.0.in_range, set_says seat.command a_set g number id object old stamp refers there old_there old_stamp few)
-    (keeps_said heap false book.history number seat.command (replies.Was stamp) refl tt tt (set_shows seat.command a_set heap book.history number stamp)
-    (spent_own heap state book number rule here rest) (omega (arith, set_most seat.command a_set, few_own heap state book number rule here rest))))
+    (keeps_space_of_plain_said heap false book.history number seat.command (replies.Was stamp) refl tt tt (set_shows seat.command a_set heap book.history number stamp)
+    (spent_within_taken heap state book number rule here rest) (omega (arith, set_most seat.command a_set, taken_is_few_unspent heap state book number rule here rest))))
     (subst (λ a. SameUnkept heap book.owner state.words (put heap state.words a word)) (sym arrived)
-    (set_unkept heap state.words g now number book.made book.owner book.fragments book.spines n i cell word ids objects finds.way.below finds.way.kept sets finds.field.within inside.0))
+    (same_unkept_after_set heap state.words g now number book.made book.owner book.fragments book.spines n i cell word ids objects finds.way.below finds.way.kept sets finds.field.within inside.0))
     record {
-      ids = ids_set heap state.words g now number book.made book.owner book.fragments book.spines n i cell word ids objects finds.way.below finds.way.kept sets finds.field.within;
+      ids = are_made_after_set heap state.words g now number book.made book.owner book.fragments book.spines n i cell word ids objects finds.way.below finds.way.kept sets finds.field.within;
       objects = subst (λ a. Objects heap (put heap state.words a word) now book.made book.owner book.fragments book.spines) (sym arrived)
-          (objects_set heap state.words g now number book.made book.owner book.fragments book.spines n i cell word ids objects finds.way.below finds.way.kept sets finds.field.within
+          (objects_after_set heap state.words g now number book.made book.owner book.fragments book.spines n i cell word ids objects finds.way.below finds.way.kept sets finds.field.within
           rule.machine.table inside.0 is_word names);
-      shapes = shapes_set heap state.words g now number book.made book.owner book.fragments book.spines n i cell word ids objects finds.way.below finds.way.kept sets finds.field.within;
+      shapes = same_shapes_after_set heap state.words g now number book.made book.owner book.fragments book.spines n i cell word ids objects finds.way.below finds.way.kept sets finds.field.within;
       others = sets.others;
     }
     record {
@@ -145,25 +145,25 @@ swap_keeps heap state book number rule here place machine =
       left = sets.left ∙ stands.told.counts.leaves;
       registers = λ r. subst (λ (vs : List Value). HoldsValue book.made book.owner book.fragments (register_in seat.registers r) (get_or vs r values.Nil)) (sym sets.registers) (holds r);
     }
-    (heap_swapped heap state book number rule here place cell.value cell.stamp (holds (source_of seat.command)) names.0 small word is_word)
-    (cycle_own heap (put heap state.words (Word seat.reached seat.part) word) book.owner book.colour book.history (entries.Said number seat.command (replies.Was stamp)) refl number
+    (heap_in_cycle_after_swap heap state book number rule here place cell.value cell.stamp (holds (source_of seat.command)) names.0 small word is_word)
+    (seat_in_cycle_after_own heap (put heap state.words (Word seat.reached seat.part) word) book.owner book.colour book.history (entries.Said number seat.command (replies.Was stamp)) refl number
     (seat_after (swap_move number seat) found)
-    (cycle_apart heap state.words (put heap state.words (Word seat.reached seat.part) word) book.owner book.owner book.colour book.colour (phase book.history) (last_answer number book.history) (has_left number book.history)
+    (seat_in_cycle_apart heap state.words (put heap state.words (Word seat.reached seat.part) word) book.owner book.owner book.colour book.colour (phase book.history) (last_answer number book.history) (has_left number book.history)
     number seat (seat_after (swap_move number seat) found) record { answered = refl; left = refl; asked = sym silent.none_asked } tt
-    (answer_swapped heap state book number rule here place cell.value cell.stamp (holds (source_of seat.command)) names.0 small word is_word number here) stands.cycle.births stands.cycle)
-    refl (no_leave_told number number seat.command (replies.Was stamp) (λ leaves. subst IsSet leaves a_set)))
-    (leaves_swapped heap state book number rule here place cell.value cell.stamp (holds (source_of seat.command)) names.0 small word is_word)
-    (marks_off_way heap state book rule number here (put heap state.words (Word seat.reached seat.part) word) (with_entry book (entries.Said number seat.command (replies.Was stamp)))
-    (seat_after (swap_move number seat) found) (leaves_swap heap state book number rule here place cell.value cell.stamp (holds (source_of seat.command)) names.0 small word is_word) refl refl tt)
+    (answer_same_after_swap heap state book number rule here place cell.value cell.stamp (holds (source_of seat.command)) names.0 small word is_word number here) stands.cycle.births stands.cycle)
+    refl (reply_is_no_leave number number seat.command (replies.Was stamp) (λ leaves. subst IsSet leaves a_set)))
+    (leaves_cycle_after_swap heap state book number rule here place cell.value cell.stamp (holds (source_of seat.command)) names.0 small word is_word)
+    (marks_go_on_off_way heap state book rule number here (put heap state.words (Word seat.reached seat.part) word) (with_entry book (entries.Said number seat.command (replies.Was stamp)))
+    (seat_after (swap_move number seat) found) (leaves_marking_when_swapped heap state book number rule here place cell.value cell.stamp (holds (source_of seat.command)) names.0 small word is_word) refl refl tt)
 
 -- all that is asked of it
-pub swap_kind : StepKind (places.Access Swapping)
-swap_kind = record {
+pub step_kind_of_swapping : StepKind (places.Access Swapping)
+step_kind_of_swapping = record {
   keeps = λ heap state book number rule here looks. swap_keeps heap state book number rule here;
   shows = λ heap state number. shows_plain number (seat_at state number) (places.Access Swapping) _ tt;
-  looks = reply_ends (places.Access Swapping) (λ heap. swap_move) (λ seat found. replies.Was (stamp_of found)) (λ heap number seat. refl) (λ heap number seat. tt)
+  looks = on_looks_of_reply (places.Access Swapping) (λ heap. swap_move) (λ seat found. replies.Was (stamp_of found)) (λ heap number seat. refl) (λ heap number seat. tt)
       (λ heap number seat found. refl) (λ heap number seat found. refl) (λ heap number seat words found. refl);
-  words = plain_words (places.Access Swapping) (λ heap. swap_move) (λ heap number seat. refl) (λ heap number seat is. is) (λ heap number seat low. low)
+  words = on_words_of_plain_step (places.Access Swapping) (λ heap. swap_move) (λ heap number seat. refl) (λ heap number seat is. is) (λ heap number seat low. low)
       (λ heap state book rule number here. beside (λ g below e. omega (arith, e, below)));
   found = λ heap state book number stands here placed. tt;
 }

@@ -9,11 +9,11 @@ use Rattle.core_machine.specs.declared.place.Place.TheVariants as places
 use Rattle.core_rule.specs.roots.Roots.{IsInMarking, AtCall, OfRoots}
 use Rattle.core_rule.proofs.frames.SeatFrames.{AddressAt}
 use Rattle.core_rule.proofs.cycle.Unwatched.{IsUnwatched}
-use Rattle.core_rule.proofs.entries.InFlight.{began_on}
-use Rattle.core_rule.proofs.entries.SeatLists.{list_more}
-use Rattle.core_rule.proofs.roots.CallRoots.{IsReachedNow, roots_on_way}
+use Rattle.core_rule.proofs.entries.InFlight.{began_without_entry}
+use Rattle.core_rule.proofs.entries.SeatLists.{own_list_after_entry}
+use Rattle.core_rule.proofs.roots.CallRoots.{IsReachedNow, roots_hold_on_way}
 use Rattle.core_rule.proofs.steps.Assemble.{Keeps}
-use Rattle.core_rule.proofs.steps.Loads.{went_cycle, went, loaded_state, load_goes}
+use Rattle.core_rule.proofs.steps.Loads.{seat_in_cycle_after_load, went, loaded_state, keeps_rule_by_silent_load}
 use Rattle.core_rule.proofs.graph.ToldGraph.{told_graph}
 
 module _ (heap : Heap) (state : State) (book : Book) (number : ℕ) (rule : Rule heap state book) (here : number < heap.seats)
@@ -26,7 +26,7 @@ module _ (heap : Heap) (state : State) (book : Book) (number : ℕ) (rule : Rule
   abbrev pub on_way : ℕ → ℕ → ℕ → Spot → Access → Seat
   on_way reached links part address to = went (seat_at state number) (seat_at state number).registers reached links part address (seat_at state number).loaded (places.Access to) (seat_at state number).looks []
 
-  pub way_goes : (a : Address) (reached links part : ℕ) (address : Spot) (to : Access)
+  pub keeps_rule_by_way_load : (a : Address) (reached links part : ℕ) (address : Spot) (to : Access)
       → Awaits (told_graph heap book) book.made book.owner book.fragments number (on_way reached links part address to) (places.Access to) []
       → AccessStands (node_at (told_graph heap book) book.made) book.made book.owner book.fragments (on_way reached links part address to) to
       → AddressAt heap state.words book (on_way reached links part address to) (places.Access to)
@@ -34,13 +34,13 @@ module _ (heap : Heap) (state : State) (book : Book) (number : ℕ) (rule : Rule
       → (IsInMarking state.collector → OfRoots (IsReachedNow heap state book) (seat_at state number) → AtCall (IsReachedNow heap state book) (on_way reached links part address to) to)
       → IsMachine heap (loaded_state heap state number a (on_way reached links part address to))
       → Keeps heap state (loaded_state heap state number a (on_way reached links part address to)) book book.begun []
-  way_goes a reached links part address to names way right unwatched comes machine =
+  keeps_rule_by_way_load a reached links part address to names way right unwatched comes machine =
       let stands = rule.seats_stand number here in
       let new : Seat = on_way reached links part address to in
-      load_goes heap state book number rule here a (seat_at state number).registers reached links part address (seat_at state number).loaded (places.Access to) (seat_at state number).looks [] machine (rw place tt) tt
+      keeps_rule_by_silent_load heap state book number rule here a (seat_at state number).registers reached links part address (seat_at state number).loaded (places.Access to) (seat_at state number).looks [] machine (rw place tt) tt
       (λ r unawaited. stands.names.registers r (λ awaited. unnamed (target_of (seat_at state number).command) r (subst (λ p. IsAwaited p (target_of (seat_at state number).command) r) place awaited)))
-      (list_more (told_graph heap book) book.made book.owner book.fragments number (seat_at state number) book.history busy stands.told.list (told_graph heap book) book.history new [] [] [] refl refl (sym (append-nil (filter (is_of number) book.history))) names)
+      (own_list_after_entry (told_graph heap book) book.made book.owner book.fragments number (seat_at state number) book.history busy stands.told.list (told_graph heap book) book.history new [] [] [] refl refl (sym (append-nil (filter (is_of number) book.history))) names)
       way right
-      (began_on book.history number (book.begun number) (seat_at state number).place (places.Access to) busy stands.told.began)
-      (went_cycle heap state book number rule here a (seat_at state number).registers reached links part address (seat_at state number).loaded (places.Access to) (seat_at state number).looks [] machine unwatched)
-      (λ marks roots. roots_on_way (IsReachedNow heap state book) (seat_at state number) new to refl refl (comes marks roots) roots)
+      (began_without_entry book.history number (book.begun number) (seat_at state number).place (places.Access to) busy stands.told.began)
+      (seat_in_cycle_after_load heap state book number rule here a (seat_at state number).registers reached links part address (seat_at state number).loaded (places.Access to) (seat_at state number).looks [] machine unwatched)
+      (λ marks roots. roots_hold_on_way (IsReachedNow heap state book) (seat_at state number) new to refl refl (comes marks roots) roots)

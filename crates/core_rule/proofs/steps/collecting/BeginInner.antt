@@ -7,18 +7,18 @@ use Rattle.core_rule.proofs.Terms.{IsMachine, target_of, IsAtRest, register_in, 
 use Rattle.core_machine.specs.declared.place.Place.TheVariants as places
 use Rattle.core_machine.specs.seat.Collecting.{inner_place}
 use Rattle.core_rule.proofs.frames.SeatFrames.{AddressAt}
-use Rattle.core_rule.proofs.cycle.FreshCycle.{cycle_fresh}
-use Rattle.core_rule.proofs.entries.AtRest.{seat_fits, none_awaited}
-use Rattle.core_rule.proofs.entries.Begins.{begins, book_begun, began_now}
-use Rattle.core_rule.proofs.entries.OwnEntries.{counts_same}
-use Rattle.core_rule.proofs.entries.SeatLists.{all_told}
+use Rattle.core_rule.proofs.cycle.FreshCycle.{seat_in_cycle_when_fresh}
+use Rattle.core_rule.proofs.entries.AtRest.{seat_fits, place_awaits_none}
+use Rattle.core_rule.proofs.entries.Begins.{begins, book_begun, began_at_begin}
+use Rattle.core_rule.proofs.entries.OwnEntries.{counts_agree_without_entry}
+use Rattle.core_rule.proofs.entries.SeatLists.{own_list_is_all_told}
 use Rattle.core_rule.proofs.entries.Starting.{IsFresh}
-use Rattle.core_rule.proofs.hand.EmptyHand.{nothing_together, none_stored, gathers_none}
+use Rattle.core_rule.proofs.hand.EmptyHand.{together_where_empty, is_stored_where_none, gathers_right_unbegun}
 use Rattle.core_rule.proofs.roots.CallRoots.{IsReachedNow}
-use Rattle.core_rule.proofs.marking.Marks.{IsOffWay, roots_off_way}
-use Rattle.core_rule.proofs.budgets.NoneMade.{MakesNone, none_has_place, none_used, none_weights}
-use Rattle.core_rule.proofs.spines.SpineFrames.{spine_away}
-use Rattle.core_rule.proofs.steps.Assemble.{Keeps, seat_begins}
+use Rattle.core_rule.proofs.marking.Marks.{IsOffWay, roots_hold_off_way}
+use Rattle.core_rule.proofs.budgets.NoneMade.{MakesNone, no_place_where_none_made, used_stands_where_none_made, same_weights_where_none_made}
+use Rattle.core_rule.proofs.spines.SpineFrames.{spine_in_hand_away}
+use Rattle.core_rule.proofs.steps.Assemble.{Keeps, keeps_rule_after_begin}
 
 -- an inner call begins on no way, and no later than the first place of an answer
 off_way : (inner : Inner) → IsOffWay (inner_place inner)
@@ -51,30 +51,30 @@ begin_inner_keeps heap state book number inner rule here may machine =
     let before : MakesNone old.place = rw may.idle tt in
     let rest : IsAtRest old = rw may.idle at (seat_fits rule number here).at_place in
     let holds : (r : ℕ) → HoldsValue book.made book.owner book.fragments (register_in old.registers r) (register_value g number r)
-    = λ r. stands.names.registers r (none_awaited old.place places.Idle (target_of old.command) r may.idle (λ none. none)) in
-    seat_begins heap state book number next rule here machine record {
+    = λ r. stands.names.registers r (place_awaits_none old.place places.Idle (target_of old.command) r may.idle (λ none. none)) in
+    keeps_rule_after_begin heap state book number next rule here machine record {
       own = record {
         holding = stands.own.holding;
-        stored = none_stored heap state.words number next rest.none_stored;
-        together = nothing_together heap next.cursor next.tried next.hand next.body rest.empty_hand rest.no_body;
-        spine = spine_away heap state.words state.words book.spine_owner number old next (none_has_place old old.place before) (none_has_place next next.place (makes_none inner)) stands.own.spine;
+        stored = is_stored_where_none heap state.words number next rest.none_stored;
+        together = together_where_empty heap next.cursor next.tried next.hand next.body rest.empty_hand rest.no_body;
+        spine = spine_in_hand_away heap state.words state.words book.spine_owner number old next (no_place_where_none_made old old.place before) (no_place_where_none_made next next.place (makes_none inner)) stands.own.spine;
       };
       names = record { registers = λ r awake. holds r; way = way_stands inner; address = address inner };
       told = record {
         list = record {
           awaited = [];
-          own = append-nil next.mine ∙ all_told stands.told.list (rw may.idle at stands.told.list.awaits);
+          own = append-nil next.mine ∙ own_list_is_all_told stands.told.list (rw may.idle at stands.told.list.awaits);
           awaits = none_awaits inner;
         };
-        counts = counts_same g book.history number old next refl refl refl refl stands.told.counts;
-        began = began_now heap state.words book number next.place;
-        gathers = gathers_none heap book.owner number (drop (begins number (length book.history) book.begun number) book.history) next.cursor next.tried next.given rest.none_tried rest.none_given;
-        used = none_used heap book.history number next next.place (makes_none inner);
+        counts = counts_agree_without_entry g book.history number old next refl refl refl refl stands.told.counts;
+        began = began_at_begin heap state.words book number next.place;
+        gathers = gathers_right_unbegun heap book.owner number (drop (begins number (length book.history) book.begun number) book.history) next.cursor next.tried next.given rest.none_tried rest.none_given;
+        used = used_stands_where_none_made heap book.history number next next.place (makes_none inner);
       };
-      cycle = cycle_fresh heap state.words book.owner book.colour (phase book.history) (last_answer number book.history) (has_left number book.history) number old next
+      cycle = seat_in_cycle_when_fresh heap state.words book.owner book.colour (phase book.history) (last_answer number book.history) (has_left number book.history) number old next
           record { answered = refl; left = refl; asked = refl } (fresh inner) stands.cycle;
     }
-    refl (none_weights old next before (makes_none inner)) (λ marks. roots_off_way (IsReachedNow heap state book) old next refl (off_way inner))
+    refl (same_weights_where_none_made old next before (makes_none inner)) (λ marks. roots_hold_off_way (IsReachedNow heap state book) old next refl (off_way inner))
   where
     way_stands : (its : Inner) → WayStands (node_at (graph_of heap book.history) book.made) book.made book.owner book.fragments (after_inner_begin (seat_at state number) inner) (inner_place its)
     way_stands Look = tt

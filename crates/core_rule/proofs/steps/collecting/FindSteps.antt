@@ -11,12 +11,12 @@ use Rattle.core_machine.specs.declared.seat.looks.Looks.{Looks}
 use Rattle.core_machine.specs.seat.Looks.{looked, seen_phase, compared}
 use Rattle.heap_model.specs.declared.command.Command.TheVariants as commands
 use Rattle.core_rule.proofs.entries.AtRest.{seat_fits}
-use Rattle.core_rule.proofs.entries.SeatLists.{all_told}
+use Rattle.core_rule.proofs.entries.SeatLists.{own_list_is_all_told}
 use Rattle.core_rule.proofs.steps.Assemble.{Keeps, StepKeeps}
 use Rattle.core_rule.proofs.steps.Loads.{loaded_state}
-use Rattle.core_rule.proofs.steps.QuietLoads.{quiet_ends, quiet_goes}
-use Rattle.core_rule.proofs.steps.StepKinds.{StepKind, plain_words, only_loads, shows_none, load_follows, compare_follows, find_goes, poll_finds, comparing_finds}
-use Rattle.core_rule.proofs.looks.Finding.{looks_looked, looks_asked, looks_compared}
+use Rattle.core_rule.proofs.steps.QuietLoads.{keeps_rule_by_quiet_end, keeps_rule_by_quiet_move}
+use Rattle.core_rule.proofs.steps.StepKinds.{StepKind, on_words_of_plain_step, only_loads, shows_none, looks_follow_phase_load, looks_follow_compare, looks_go_at_find, tells_at_poll, tells_at_comparing}
+use Rattle.core_rule.proofs.looks.Finding.{looks_stand_after_look, looks_stand_while_comparing, looks_stand_after_compare}
 use Rattle.core_rule.specs.looks.Looks.{LooksStand}
 
 module _ (heap : Heap) (state : State) (book : Book) (number : ℕ) (rule : Rule heap state book) (here : number < heap.seats) (collecting : Collecting)
@@ -31,7 +31,7 @@ module _ (heap : Heap) (state : State) (book : Book) (number : ℕ) (rule : Rule
   silent = rw place at (seat_fits rule number here).answer_at_place
 
   told : seat.mine ≡ filter (is_of number) book.history
-  told = all_told (rule.seats_stand number here).told.list (rw place at (rule.seats_stand number here).told.list.awaits)
+  told = own_list_is_all_told (rule.seats_stand number here).told.list (rw place at (rule.seats_stand number here).told.list.awaits)
 
   free : (r : ℕ) → ¬ IsAwaited seat.place (target_of seat.command) r
   free r awaited = subst (λ x. IsAwaited x (target_of seat.command) r) place awaited
@@ -39,12 +39,12 @@ module _ (heap : Heap) (state : State) (book : Book) (number : ℕ) (rule : Rule
   -- the call ends with what was found
   found_ends : (a : Address) (looks : Looks) → IsMachine heap (loaded_state heap state number a (with_entries (record (call_over seat) { looks = looks }) []))
       → Keeps heap state (loaded_state heap state number a (with_entries (record (call_over seat) { looks = looks }) [])) book book.begun []
-  found_ends a looks = quiet_ends heap state book number rule here a looks (rw place tt) fits.0 silent (subst IsAnswered place) free told
+  found_ends a looks = keeps_rule_by_quiet_end heap state book number rule here a looks (rw place tt) fits.0 silent (subst IsAnswered place) free told
 
   -- or goes on
   found_goes : (a : Address) (looks : Looks) (next : Collecting) → IsMachine heap (loaded_state heap state number a (with_entries (record seat { place = places.Collecting next; looks = looks }) []))
       → Keeps heap state (loaded_state heap state number a (with_entries (record seat { place = places.Collecting next; looks = looks }) [])) book book.begun []
-  found_goes a looks = quiet_goes heap state book number rule here a looks (rw place tt) fits.0 silent (subst IsAnswered place) free told
+  found_goes a looks = keeps_rule_by_quiet_move heap state book number rule here a looks (rw place tt) fits.0 silent (subst IsAnswered place) free told
 
 pub look_keeps : StepKeeps (places.Collecting Looking) (λ heap number. look_move)
 look_keeps heap state book number rule here place = found_ends heap state book number rule here Looking place Phase (looked (at heap state.words Phase) (seat_at state number).looks)
@@ -58,49 +58,49 @@ comparing_keeps other p heap state book number rule here place =
     found_ends heap state book number rule here (Comparing other p) place (Answer other) (compared other p (at heap state.words (Answer other)) (seat_at state number).looks)
 
 -- all that is asked of it
-pub look_kind : StepKind (places.Collecting Looking)
-look_kind = record {
+pub step_kind_of_looking : StepKind (places.Collecting Looking)
+step_kind_of_looking = record {
   keeps = λ heap state book number rule here looks. look_keeps heap state book number rule here;
   shows = λ heap state number. shows_none;
   looks = record {
-    follows = λ heap state number seat compares placed. load_follows heap state _ _ refl refl;
-    goes = λ heap state book rule number placed. find_goes heap state book rule number _ (λ note. note)
-        (looks_looked heap state book rule number (seat_at state number).place (seat_at state number).looks (λ named. cc (placed, named)));
+    follows = λ heap state number seat compares placed. looks_follow_phase_load heap state _ _ refl refl;
+    goes = λ heap state book rule number placed. looks_go_at_find heap state book rule number _ (λ note. note)
+        (looks_stand_after_look heap state book rule number (seat_at state number).place (seat_at state number).looks (λ named. cc (placed, named)));
     comes = λ heap number seat found placed. tt;
   };
-  words = plain_words (places.Collecting Looking) (λ heap number. look_move) (λ heap number seat. refl) (λ heap number seat is. is) (λ heap number seat low. low)
+  words = on_words_of_plain_step (places.Collecting Looking) (λ heap number. look_move) (λ heap number seat. refl) (λ heap number seat is. is) (λ heap number seat low. low)
       (λ heap state book rule number here. only_loads (λ word. refl));
-  found = λ heap state book number stands here placed. poll_finds heap state book number stands here (λ idle. cc (placed, idle));
+  found = λ heap state book number stands here placed. tells_at_poll heap state book number stands here (λ idle. cc (placed, idle));
 }
 
 -- all that is asked of it
-pub asking_kind : (other : ℕ) → StepKind (places.Collecting (Asking other))
-asking_kind other = record {
+pub step_kind_of_look_asking : (other : ℕ) → StepKind (places.Collecting (Asking other))
+step_kind_of_look_asking other = record {
   keeps = λ heap state book number rule here looks. asking_keeps other heap state book number rule here;
   shows = λ heap state number. shows_none;
   looks = record {
-    follows = λ heap state number seat compares placed. load_follows heap state _ _ refl refl;
-    goes = λ heap state book rule number placed. find_goes heap state book rule number _ (λ note. note)
-        (λ was. looks_asked heap state book rule number other (seat_at state number).looks (subst (λ p. LooksStand heap book.history number p (seat_at state number).looks) placed was));
+    follows = λ heap state number seat compares placed. looks_follow_phase_load heap state _ _ refl refl;
+    goes = λ heap state book rule number placed. looks_go_at_find heap state book rule number _ (λ note. note)
+        (λ was. looks_stand_while_comparing heap state book rule number other (seat_at state number).looks (subst (λ p. LooksStand heap book.history number p (seat_at state number).looks) placed was));
     comes = λ heap number seat found placed. tt;
   };
-  words = plain_words (places.Collecting (Asking other)) (λ heap number seat. asking_move seat other) (λ heap number seat. refl) (λ heap number seat is. is) (λ heap number seat low. low)
+  words = on_words_of_plain_step (places.Collecting (Asking other)) (λ heap number seat. asking_move seat other) (λ heap number seat. refl) (λ heap number seat is. is) (λ heap number seat low. low)
       (λ heap state book rule number here. only_loads (λ word. refl));
-  found = λ heap state book number stands here placed. poll_finds heap state book number stands here (λ idle. cc (placed, idle));
+  found = λ heap state book number stands here placed. tells_at_poll heap state book number stands here (λ idle. cc (placed, idle));
 }
 
 -- all that is asked of it
-pub comparing_kind : (other : ℕ) (p : ℕ) → StepKind (places.Collecting (Comparing other p))
-comparing_kind other p = record {
+pub step_kind_of_comparing : (other : ℕ) (p : ℕ) → StepKind (places.Collecting (Comparing other p))
+step_kind_of_comparing other p = record {
   keeps = λ heap state book number rule here looks. comparing_keeps other p heap state book number rule here;
   shows = λ heap state number. shows_none;
   looks = record {
-    follows = λ heap state number seat compares placed. compare_follows heap state other p seat.looks (compares other p placed);
-    goes = λ heap state book rule number placed. find_goes heap state book rule number _ (λ note. note)
-        (λ was. looks_compared heap state book rule number other p (seat_at state number).looks (subst (λ q. LooksStand heap book.history number q (seat_at state number).looks) placed was));
+    follows = λ heap state number seat compares placed. looks_follow_compare heap state other p seat.looks (compares other p placed);
+    goes = λ heap state book rule number placed. looks_go_at_find heap state book rule number _ (λ note. note)
+        (λ was. looks_stand_after_compare heap state book rule number other p (seat_at state number).looks (subst (λ q. LooksStand heap book.history number q (seat_at state number).looks) placed was));
     comes = λ heap number seat found placed. tt;
   };
-  words = plain_words (places.Collecting (Comparing other p)) (λ heap number seat. comparing_move seat other p) (λ heap number seat. refl) (λ heap number seat is. is) (λ heap number seat low. low)
+  words = on_words_of_plain_step (places.Collecting (Comparing other p)) (λ heap number seat. comparing_move seat other p) (λ heap number seat. refl) (λ heap number seat is. is) (λ heap number seat low. low)
       (λ heap state book rule number here. only_loads (λ word. refl));
-  found = λ heap state book number stands here placed. comparing_finds heap state book number stands here (λ idle. cc (placed, idle)) other p placed;
+  found = λ heap state book number stands here placed. tells_at_comparing heap state book number stands here (λ idle. cc (placed, idle)) other p placed;
 }

@@ -13,18 +13,18 @@ use Rattle.core_machine.specs.Moves.{seat_after}
 use Rattle.core_machine.specs.seat.Collecting.{note_move}
 use Rattle.core_machine.specs.seat.Looks.{FirstUpTo, MayNote, noted_reply}
 use Rattle.core_rule.specs.looks.Looks.{WasSeen, WasFound, LooksStand}
-use Rattle.core_rule.proofs.entries.AtRest.{seat_fits, in_flight}
-use Rattle.core_rule.proofs.entries.Noted.{has_ended, began_since}
-use Rattle.core_rule.proofs.entries.PhaseEntries.{no_leave_told}
-use Rattle.core_rule.proofs.entries.SeatLists.{all_told}
+use Rattle.core_rule.proofs.entries.AtRest.{seat_fits, in_flight_has_not_left}
+use Rattle.core_rule.proofs.entries.Noted.{cycle_has_ended, cycle_began_since}
+use Rattle.core_rule.proofs.entries.PhaseEntries.{reply_is_no_leave}
+use Rattle.core_rule.proofs.entries.SeatLists.{own_list_is_all_told}
 use Rattle.core_rule.proofs.graph.LocalReplies.{IsLocalReply, HoldAll}
-use Rattle.core_rule.proofs.graph.PutRegister.{only_none}
-use Rattle.core_rule.proofs.lists.Options.{of_some}
+use Rattle.core_rule.proofs.graph.PutRegister.{only_registers_of_itself}
+use Rattle.core_rule.proofs.lists.Options.{holds_of_some}
 use Rattle.core_rule.proofs.roots.CallRoots.{IsReachedNow}
-use Rattle.core_rule.proofs.marking.Marks.{roots_off_way}
+use Rattle.core_rule.proofs.marking.Marks.{roots_hold_off_way}
 use Rattle.core_rule.proofs.steps.Assemble.{MoveKeeps}
-use Rattle.core_rule.proofs.steps.LocalStep.{local_reply_keeps}
-use Rattle.core_rule.proofs.steps.StepKinds.{StepKind, only_loads, shows_note, load_follows, seen_first, one_own, ends, poll_finds, plain_words}
+use Rattle.core_rule.proofs.steps.LocalStep.{keeps_rule_by_local_reply}
+use Rattle.core_rule.proofs.steps.StepKinds.{StepKind, only_loads, shows_note, looks_follow_phase_load, looks_go_at_first_seen, other_is_not_own, looks_go_at_end, tells_at_poll, on_words_of_plain_step}
 
 -- the first look found no earlier phase than the last reply's
 first_after : (heap : Heap) (book : Book) (number q : ℕ) (first : Option ℕ) → IfSome first (WasSeen book.history number) → FirstUpTo first q → phase (up_to_reply number book.history) ≤ q
@@ -57,23 +57,23 @@ module _ (heap : Heap) (state : State) (book : Book) (number : ℕ) (rule : Rule
           space = tt;
           spine = tt;
           phases = (
-            has_ended heap book.history rule.heap_stands.legal j over,
-            began_since heap book.history rule.heap_stands.legal j number (first_after heap book number (7 * j) seat.looks.first was.first may.0) over,
+            cycle_has_ended heap book.history rule.heap_stands.legal j over,
+            cycle_began_since heap book.history rule.heap_stands.legal j number (first_after heap book number (7 * j) seat.looks.first was.first may.0) over,
           );
           most = refl;
         };
         says = tt;
-        only = only_none g number;
+        only = only_registers_of_itself g number;
         registers = holds;
       }
   local (Waits other answered p) may =
       let was = looks.found (λ named. cc (place, named)) in
       let found : WasFound heap book.history number (behind_of other answered p)
-      = of_some (WasFound heap book.history number) seat.looks.behind (behind_of other answered p) may was.behind in
+      = holds_of_some (WasFound heap book.history number) seat.looks.behind (behind_of other answered p) may was.behind in
       record {
         plain = record { none = refl; space = tt; spine = tt; phases = (found.below, found.other, omega (arith, found.next), (found.next, found.behind)); most = refl };
         says = tt;
-        only = only_none g number;
+        only = only_registers_of_itself g number;
         registers = holds;
       }
 
@@ -83,26 +83,26 @@ module _ (heap : Heap) (state : State) (book : Book) (number : ℕ) (rule : Rule
       let now : Seat = seat_after (note_move number seat reply) (at heap state.words Phase) in
       let stands = rule.seats_stand number here in
       let silent : IsSilent seat = rw place at (seat_fits rule number here).answer_at_place in
-      let present : (graph_seat g number).left ≡ false = stands.told.counts.leaves ∙ in_flight rule number here (λ idle. absurd (cc (place, idle))) in
-      local_reply_keeps heap state book number Phase now (noted_reply reply) rule here machine (rw place tt) fits.0 (all_told stands.told.list (rw place at stands.told.list.awaits)) present
+      let present : (graph_seat g number).left ≡ false = stands.told.counts.leaves ∙ in_flight_has_not_left rule number here (λ idle. absurd (cc (place, idle))) in
+      keeps_rule_by_local_reply heap state book number Phase now (noted_reply reply) rule here machine (rw place tt) fits.0 (own_list_is_all_told stands.told.list (rw place at stands.told.list.awaits)) present
       (subst IsCommand (sym fits.1) tt)
       (subst (λ c. IsLocalReply heap book.history g number book.made book.owner book.fragments c (noted_reply reply) seat.registers) (sym fits.1) (local reply fits.2))
-      (no_leave_told number number seat.command (noted_reply reply) (λ leaves. absurd (cc (leaves, fits.1))))
+      (reply_is_no_leave number number seat.command (noted_reply reply) (λ leaves. absurd (cc (leaves, fits.1))))
       record { idle = refl; reserve = refl; mine = refl; answered = refl; asked = sym silent.none_asked; made = refl; sets = refl; left = refl }
-      (λ marks. roots_off_way (IsReachedNow heap state book) seat now refl tt)
+      (λ marks. roots_hold_off_way (IsReachedNow heap state book) seat now refl tt)
 
 -- all that is asked of it
-pub note_kind : (reply : CollectReply) → StepKind (places.Collecting (Noting reply))
-note_kind reply = record {
+pub step_kind_of_noting : (reply : CollectReply) → StepKind (places.Collecting (Noting reply))
+step_kind_of_noting reply = record {
   keeps = λ heap state book number rule here looks. note_keeps heap state book number rule here looks reply;
   shows = λ heap state number. shows_note number (seat_at state number) reply;
   looks = record {
-    follows = λ heap state number seat compares placed. load_follows heap state _ _ refl refl;
-    goes = λ heap state book rule number placed. seen_first heap state book rule number _ _ (λ other p comparing. cc (placed, comparing))
-        (ends heap number book.history (with_seen (at heap state.words Phase) (seat_at state number)) _ _ refl refl (one_own number));
+    follows = λ heap state number seat compares placed. looks_follow_phase_load heap state _ _ refl refl;
+    goes = λ heap state book rule number placed. looks_go_at_first_seen heap state book rule number _ _ (λ other p comparing. cc (placed, comparing))
+        (looks_go_at_end heap number book.history (with_seen (at heap state.words Phase) (seat_at state number)) _ _ refl refl (other_is_not_own number));
     comes = λ heap number seat found placed. tt;
   };
-  words = plain_words (places.Collecting (Noting reply)) (λ heap number seat. note_move number seat reply) (λ heap number seat. refl) (λ heap number seat is. is) (λ heap number seat low. low)
+  words = on_words_of_plain_step (places.Collecting (Noting reply)) (λ heap number seat. note_move number seat reply) (λ heap number seat. refl) (λ heap number seat is. is) (λ heap number seat low. low)
       (λ heap state book rule number here. only_loads (λ word. refl));
-  found = λ heap state book number stands here placed. poll_finds heap state book number stands here (λ idle. cc (placed, idle));
+  found = λ heap state book number stands here placed. tells_at_poll heap state book number stands here (λ idle. cc (placed, idle));
 }

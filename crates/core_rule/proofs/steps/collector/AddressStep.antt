@@ -5,12 +5,12 @@ use Rattle.core_machine.specs.collector.Marking.{scan_step, after_address}
 use Rattle.core_machine.specs.declared.collector.stage.Scan.{Scan}
 use Rattle.core_machine.specs.declared.collector.stage.SpineScan.{SpineScan}
 use Rattle.core_machine.specs.declared.collector.stage.Stage.TheVariants as stages
-use Rattle.core_rule.proofs.marking.Marks.{marks_at, none_dead}
-use Rattle.core_rule.proofs.marking.Scans.{spine_stands, spine_passes, spine_sweeps, spine_on_marks}
-use Rattle.core_rule.proofs.steps.collector.ColourTurn.{marking_loads}
+use Rattle.core_rule.proofs.marking.Marks.{marking_stands_at_stage, nothing_is_dead}
+use Rattle.core_rule.proofs.marking.Scans.{scan_stands_at_spine, pass_stands_at_spine, sweep_stands_at_spine, spine_scan_is_of_marking}
+use Rattle.core_rule.proofs.steps.collector.ColourTurn.{keeps_rule_by_marking_load}
 use Rattle.core_rule.proofs.steps.TurnSteps.{StageKeeps}
-use Rattle.core_rule.proofs.turns.FewWords.{few_spine}
-use Rattle.core_rule.proofs.steps.TurnKinds.{TurnKind, load_kind, spine_at_inside}
+use Rattle.core_rule.proofs.turns.FewWords.{spine_scan_has_few_words}
+use Rattle.core_rule.proofs.steps.TurnKinds.{TurnKind, turn_kind_of_load, inside_spine_scan_at}
 use Rattle.core_rule.proofs.turns.SpineTurns.{address_leaves}
 
 module _ (heap : Heap) (state : State) (book : Book) (rule : Rule heap state book) (scan : Scan) (count : ℕ) (addressing : state.collector.stage ≡ stages.Addressing scan count) where
@@ -31,21 +31,21 @@ module _ (heap : Heap) (state : State) (book : Book) (rule : Rule heap state boo
   few = subst IsFewWords addressing rule.marks_stand.heap_marks.few
 
   marks : MarkingStands heap state.words book.owner book.colour book.fragments state.collector.phase (after_address scan count found)
-  marks = marks_at heap state.words book.owner book.colour book.fragments state.collector.phase (after_address scan count found) fits.marks.for_marking (spine_on_marks begun)
+  marks = marking_stands_at_stage heap state.words book.owner book.colour book.fragments state.collector.phase (after_address scan count found) fits.marks.for_marking (spine_scan_is_of_marking begun)
       rule.marks_stand.heap_marks.grey
-      (spine_stands heap state.words book.owner book.colour book.fragments begun record { as_many = seen.1; there = refl } seen.0)
-      (few_spine begun few (omega arith) (omega (arith, fits.first_step))) (spine_passes book.colour begun) (spine_sweeps heap book.owner book.colour state.collector.phase begun)
-      (none_dead heap state book rule fits.marks.for_marking (subst HasMarked addressing))
+      (scan_stands_at_spine heap state.words book.owner book.colour book.fragments begun record { as_many = seen.1; there = refl } seen.0)
+      (spine_scan_has_few_words begun few (omega arith) (omega (arith, fits.first_step))) (pass_stands_at_spine book.colour begun) (sweep_stands_at_spine heap book.owner book.colour state.collector.phase begun)
+      (nothing_is_dead heap state book rule fits.marks.for_marking (subst HasMarked addressing))
 
 pub address_keeps : (scan : Scan) (count : ℕ) → StageKeeps (stages.Addressing scan count)
 address_keeps scan count heap state book rule addressing machine =
-    marking_loads heap state book rule (stages.Addressing scan count) _ addressing (Word scan.fragment 2) machine (marks heap state book rule scan count addressing) tt (spine_on_marks (begun heap state book rule scan count addressing))
+    keeps_rule_by_marking_load heap state book rule (stages.Addressing scan count) _ addressing (Word scan.fragment 2) machine (marks heap state book rule scan count addressing) tt (spine_scan_is_of_marking (begun heap state book rule scan count addressing))
 
 -- all that is asked of it
 pub address_kind : (scan : Scan) (count : ℕ) → TurnKind (stages.Addressing scan count)
-address_kind scan count = load_kind (stages.Addressing scan count) (λ heap collector. record { adds_none = refl; steps = λ word. refl; loaded = λ word. refl; beside = tt }) record {
+address_kind scan count = turn_kind_of_load (stages.Addressing scan count) (λ heap collector. record { adds_none = refl; steps = λ word. refl; loaded = λ word. refl; beside = tt }) record {
   keeps = address_keeps scan count;
   fewer = λ few. address_leaves scan count;
-  inside = λ heap state book rule cycle is. spine_at_inside heap state book rule cycle _;
+  inside = λ heap state book rule cycle is. inside_spine_scan_at heap state book rule cycle _;
   all = λ heap phase looked fits. fits.marks.all;
 }

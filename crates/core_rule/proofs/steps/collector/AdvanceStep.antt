@@ -7,17 +7,17 @@ use Rattle.core_rule.proofs.Terms.{SweepStands, HasMarked, IsSettled, IsKept, no
 use Rattle.heap_model.specs.PhasePlan.{barriers as barriers_phase, clearing as clearing_phase, sweep as sweep_phase}
 use Rattle.core_machine.specs.declared.collector.stage.Stage.TheVariants as stages
 use Rattle.core_machine.specs.collector.FitsTurns.{FitsStage}
-use Rattle.core_rule.proofs.cycle.NextPhase.{coloured_next}
-use Rattle.core_rule.proofs.entries.Legality.{legal_more, keeps_begins}
+use Rattle.core_rule.proofs.cycle.NextPhase.{coloured_in_next_phase}
+use Rattle.core_rule.proofs.entries.Legality.{legal_after_entry, keeps_space_of_advance}
 use Rattle.core_rule.proofs.entries.AtRest.{seat_fits}
-use Rattle.core_rule.proofs.marking.Marks.{all_answered}
-use Rattle.core_rule.proofs.halves.Leaving.{has_place_present, arrays_here, hands_here}
-use Rattle.core_rule.proofs.halves.LeftHalf.{let_go, spines_let_go, hand_let_go, address_let_go}
-use Rattle.core_rule.proofs.halves.PhaseSpaces.{EndsPhase, lets_other}
+use Rattle.core_rule.proofs.marking.Marks.{each_seat_answered_phase}
+use Rattle.core_rule.proofs.halves.Leaving.{placed_seat_has_not_left, arrays_in_next_spine_half, seat_spine_in_next_half}
+use Rattle.core_rule.proofs.halves.LeftHalf.{let_go, spines_stand_after_letting_go, hand_spine_after_letting_go, address_stands_after_letting_go}
+use Rattle.core_rule.proofs.halves.PhaseSpaces.{EndsPhase, lets_go_of_left_half}
 use Rattle.core_rule.proofs.steps.TurnSteps.{StageKeeps, TurnKeeps}
-use Rattle.core_rule.proofs.steps.collector.PhaseTurn.{BeginsNext, MayLetGo, words_next, later, graph, leads_next, all_answer, next_told, all_stay, phase_turns, marks_next}
-use Rattle.core_rule.proofs.steps.TurnKinds.{TurnKind, beside, begins_phase, keeps_whole, keeps_bits, beside_spines, looked_all}
-use Rattle.core_rule.proofs.turns.LookTurns.{advance_leaves}
+use Rattle.core_rule.proofs.steps.collector.PhaseTurn.{BeginsNext, MayLetGo, words_next, later, graph_same_next_phase, led_before_next_phase, all_have_answered, next_is_phase_after, may_let_go_of_none, keeps_rule_by_phase_turn, marking_stands_next_phase}
+use Rattle.core_rule.proofs.steps.TurnKinds.{TurnKind, beside, begins_phase, stage_keeps_whole, on_bits_of_same_bits, on_spines_beside, has_looked_at_stage}
+use Rattle.core_rule.proofs.turns.LookTurns.{advance_leaves_fewer}
 
 pub advance_begins : (now : ℕ) → BeginsNext now (Advance (now + 1))
 advance_begins now = record {
@@ -69,7 +69,7 @@ module _ (heap : Heap) (state : State) (book : Book) (rule : Rule heap state boo
   ]
 
   marks_then : MarkingStands heap (words_next heap state book rule has_looked.all (Advance (p + 1)) (advance_begins p)) book.owner book.colour book.fragments (p + 1) stages.Looking
-  marks_then = marks_next heap state book rule has_looked.all (Advance (p + 1)) (advance_begins p) alive_then after_then
+  marks_then = marking_stands_next_phase heap state book rule has_looked.all (Advance (p + 1)) (advance_begins p) alive_then after_then
 
   -- nothing is copied or returned then
   ends_phase : EndsPhase p state.collector.stage
@@ -80,12 +80,12 @@ module _ (heap : Heap) (state : State) (book : Book) (rule : Rule heap state boo
   keeps_with spine_owner may machine =
       let all = has_looked.all in
       let begins = advance_begins p in
-      phase_turns heap state book rule all (Advance (p + 1)) begins spine_owner may
-      (legal_more heap false book.history (Advance (p + 1)) rule.heap_stands.legal tt
-      (keeps_begins heap false book.history (p + 1)
-      (next_told heap state book rule all (Advance (p + 1)) begins, (λ whole. omega (arith, whole, has_looked.goes_on)), all_answer heap state book rule all (Advance (p + 1)) begins)))
-      (coloured_next heap state.words (words_next heap state book rule all (Advance (p + 1)) begins) book.owner book.colour book.fragments (phase book.history) within
-      (leads_next heap state book rule all (Advance (p + 1)) begins) rule.heap_stands.cycle.coloured)
+      keeps_rule_by_phase_turn heap state book rule all (Advance (p + 1)) begins spine_owner may
+      (legal_after_entry heap false book.history (Advance (p + 1)) rule.heap_stands.legal tt
+      (keeps_space_of_advance heap false book.history (p + 1)
+      (next_is_phase_after heap state book rule all (Advance (p + 1)) begins, (λ whole. omega (arith, whole, has_looked.goes_on)), all_have_answered heap state book rule all (Advance (p + 1)) begins)))
+      (coloured_in_next_phase heap state.words (words_next heap state book rule all (Advance (p + 1)) begins) book.owner book.colour book.fragments (phase book.history) within
+      (led_before_next_phase heap state book rule all (Advance (p + 1)) begins) rule.heap_stands.cycle.coloured)
       marks_then machine
 
   module _ (swept : p % cycle_phases ≡ sweep_phase) where
@@ -94,17 +94,17 @@ module _ (heap : Heap) (state : State) (book : Book) (rule : Rule heap state boo
 
     -- a seat that hasn't left has answered the sweep
     answered_sweep : (r : ℕ) → r < heap.seats → (seat_at state r).left ≡ false → (seat_at state r).answered % cycle_phases ≡ sweep_phase
-    answered_sweep r below present = ap (λ n. n % cycle_phases) (all_answered heap state book rule has_looked.all r below present) ∙ swept
+    answered_sweep r below present = ap (λ n. n % cycle_phases) (each_seat_answered_phase heap state book rule has_looked.all r below present) ∙ swept
 
     placed_answered : (r : ℕ) → r < heap.seats → HasPlace (seat_at state r) (seat_at state r).place → (seat_at state r).answered % cycle_phases ≡ sweep_phase
-    placed_answered r below has = answered_sweep r below (has_place_present heap (seat_at state r) (seat_fits rule r below) has)
+    placed_answered r below has = answered_sweep r below (placed_seat_has_not_left heap (seat_at state r) (seat_fits rule r below) has)
 
     -- so its spine stands in the half of the next one, and so do those of arrays
     hand_here : (r : ℕ) → r < heap.seats → HasPlace (seat_at state r) (seat_at state r).place → (seat_at state r).spine.half ≡ half
-    hand_here r below has = hands_here heap state book rule.space.halves r below (λ early. let fifth = placed_answered r below has in let third = early.behind in omega (arith, fifth, third)) has
+    hand_here r below has = seat_spine_in_next_half heap state book rule.space.halves r below (λ early. let fifth = placed_answered r below has in let third = early.behind in omega (arith, fifth, third)) has
 
     array_here : (i : ℕ) → i < length book.made → IsKept book.owner book.fragments i → (nodes_in heap book i).array ≡ true → (book.spines i).half ≡ half
-    array_here = arrays_here heap state book rule.space.halves (λ f waits. let third = ends_phase.waits f waits in omega (arith, third, swept))
+    array_here = arrays_in_next_spine_half heap state book rule.space.halves (λ f waits. let third = ends_phase.waits f waits in omega (arith, third, swept))
 
     abbrev begins : BeginsNext p (Advance (p + 1))
     begins = advance_begins p
@@ -119,7 +119,7 @@ module _ (heap : Heap) (state : State) (book : Book) (rule : Rule heap state boo
     nodes = nodes_in heap told
 
     same_graph : graph_of heap told.history ≡ graph_of heap book.history
-    same_graph = graph heap state book rule has_looked.all (Advance (p + 1)) begins
+    same_graph = graph_same_next_phase heap state book rule has_looked.all (Advance (p + 1)) begins
 
     abbrev lets : ℕ → ℕ → SpineOwner
     lets = let_go half book.spine_owner
@@ -130,7 +130,7 @@ module _ (heap : Heap) (state : State) (book : Book) (rule : Rule heap state boo
       owners = stands.owners;
       ids = stands.ids;
       objects = stands.objects;
-      spines = spines_let_go half book.spine_owner heap words heap.seats (length book.made) nodes book.owner book.fragments book.spines
+      spines = spines_stand_after_letting_go half book.spine_owner heap words heap.seats (length book.made) nodes book.owner book.fragments book.spines
           (λ i below kept kind. array_here i below kept (ap (λ (g : Graph). (node_at g book.made i).array) (sym same_graph) ∙ kind)) stands.spines;
       used = stands.used;
       cycle = stands.cycle;
@@ -144,7 +144,7 @@ module _ (heap : Heap) (state : State) (book : Book) (rule : Rule heap state boo
       where
         by : (left : Bool) → (seat_at state r).left ≡ left → AddressStands heap words nodes book.owner book.fragments book.spines lets (seat_at state r) (seat_at state r).place
         by true gone = subst (AddressStands heap words nodes book.owner book.fragments book.spines lets (seat_at state r)) (sym ((seat_fits rule r below).gone gone).idle) tt
-        by false present = address_let_go half book.spine_owner heap words nodes book.owner book.fragments book.spines (seat_at state r) (seat_at state r).place
+        by false present = address_stands_after_letting_go half book.spine_owner heap words nodes book.owner book.fragments book.spines (seat_at state r) (seat_at state r).place
             (λ late. let upto = late.upto in absurd (omega (arith, upto, answered_sweep r below present))) stands
 
     seat_lets : (r : ℕ) → r < heap.seats → SeatStands heap words told r (seat_at state r) → SeatStands heap words (record told { spine_owner = lets }) r (seat_at state r)
@@ -153,7 +153,7 @@ module _ (heap : Heap) (state : State) (book : Book) (rule : Rule heap state boo
         holding = stands.own.holding;
         stored = stands.own.stored;
         together = stands.own.together;
-        spine = hand_let_go half book.spine_owner heap words r (seat_at state r) (hand_here r below) stands.own.spine;
+        spine = hand_spine_after_letting_go half book.spine_owner heap words r (seat_at state r) (hand_here r below) stands.own.spine;
       };
       names = record { registers = stands.names.registers; way = stands.names.way; address = address_lets r below stands.names.address };
       told = stands.told;
@@ -164,7 +164,7 @@ module _ (heap : Heap) (state : State) (book : Book) (rule : Rule heap state boo
     may_let_go : MayLetGo heap state book rule has_looked.all (Advance (p + 1)) begins lets
     may_let_go = record {
       ends = ends_phase;
-      lets = lets_other half p book.spine_owner;
+      lets = lets_go_of_left_half half p book.spine_owner;
       alive = all_freed;
       answered = λ fifth. placed_answered;
       heap_lets = heap_lets;
@@ -176,17 +176,17 @@ pub advance_keeps : StageKeeps stages.Advancing
 advance_keeps heap state book rule advancing = elim (eqb_tells (state.collector.phase % cycle_phases) sweep_phase) as (λ _. TurnKeeps heap state book (turn_at heap state.collector stages.Advancing)) [
   | inl swept ↦ keeps_with heap state book rule advancing _ (may_let_go heap state book rule advancing swept.1)
   | inr other ↦ keeps_with heap state book rule advancing book.spine_owner
-      (all_stay heap state book rule (has_looked heap state book rule advancing).all _ (advance_begins state.collector.phase) (ends_phase heap state book rule advancing) other.1)
+      (may_let_go_of_none heap state book rule (has_looked heap state book rule advancing).all _ (advance_begins state.collector.phase) (ends_phase heap state book rule advancing) other.1)
 ]
 
 -- all that is asked of it
-pub advance_kind : TurnKind stages.Advancing
-advance_kind = record {
-  keeps = keeps_whole stages.Advancing advance_keeps;
-  fewer = λ few. advance_leaves;
+pub turn_kind_of_advancing : TurnKind stages.Advancing
+turn_kind_of_advancing = record {
+  keeps = stage_keeps_whole stages.Advancing advance_keeps;
+  fewer = λ few. advance_leaves_fewer;
   inside = λ heap state book rule cycle is. tt;
   shape = λ heap collector found. begins_phase;
-  looked = looked_all stages.Advancing (λ heap phase looked fits. fits.all);
-  bits = keeps_bits stages.Advancing (λ heap collector. beside (λ g below e. omega (arith, e, below)));
-  spines = beside_spines stages.Advancing (λ heap collector. tt);
+  looked = has_looked_at_stage stages.Advancing (λ heap phase looked fits. fits.all);
+  bits = on_bits_of_same_bits stages.Advancing (λ heap collector. beside (λ g below e. omega (arith, e, below)));
+  spines = on_spines_beside stages.Advancing (λ heap collector. tt);
 }

@@ -6,19 +6,19 @@ use Rattle.core_rule.proofs.Terms.{SweepStands, AreCleared, Rule}
 use Rattle.heap_model.specs.PhasePlan.{clearing as clearing_phase}
 use Rattle.core_machine.specs.collector.Sweeping.{taken_count_of, after_cleared}
 use Rattle.core_machine.specs.declared.collector.stage.Stage.TheVariants as stages
-use Rattle.core_rule.proofs.book.BookGoing.{colours_go}
-use Rattle.core_rule.proofs.frames.Clearing.{words_cleared, book_cleared, leaves_spines, heap_cleared, seat_cleared}
-use Rattle.core_rule.proofs.marking.Marks.{settled_phase}
+use Rattle.core_rule.proofs.book.BookGoing.{book_goes_on_with_colours}
+use Rattle.core_rule.proofs.frames.Clearing.{words_cleared, book_cleared, leaves_spines_after_clearing, heap_stands_after_clearing, seat_stands_after_clearing}
+use Rattle.core_rule.proofs.marking.Marks.{settled_phase_is_between}
 use Rattle.core_rule.proofs.marking.SweepMarks.{after_cleared_either}
-use Rattle.core_rule.proofs.budgets.BudgetFrames.{grants_same}
+use Rattle.core_rule.proofs.budgets.BudgetFrames.{same_grants_recoloured}
 use Rattle.core_rule.proofs.halves.HalvesFrames.{IsPlain}
-use Rattle.core_rule.proofs.halves.StagesOn.{plain_goes_on}
-use Rattle.core_rule.proofs.steps.collector.ColourTurn.{at_stage, agrees_at}
-use Rattle.core_rule.proofs.steps.TurnSteps.{StageKeeps, quiet, turn_steps, turn_space}
-use Rattle.core_rule.proofs.words.SweepWords.{cleared_further, cleared_grey, cleared_in, cleared_was}
-use Rattle.core_rule.proofs.steps.TurnKinds.{TurnKind, quiet_shape, cleared_inside, spares, keeps_whole, keeps_bits, beside_spines, looked_all}
-use Rattle.core_rule.proofs.turns.SweepTurns.{clear_leaves}
-use Rattle.core_rule.proofs.words.SweepBits.{cleared_low}
+use Rattle.core_rule.proofs.halves.StagesOn.{plain_stage_goes_on}
+use Rattle.core_rule.proofs.steps.collector.ColourTurn.{at_stage, collector_agrees_at_stage}
+use Rattle.core_rule.proofs.steps.TurnSteps.{StageKeeps, quiet, keeps_rule_after_turn, space_stands_after_turn}
+use Rattle.core_rule.proofs.words.SweepWords.{are_cleared_up_to_next, grey_before_clearing, cleared_in, marked_before_clearing}
+use Rattle.core_rule.proofs.steps.TurnKinds.{TurnKind, shape_of_quiet_step, inside_after_cleared, spares, stage_keeps_whole, on_bits_of_same_bits, on_spines_beside, has_looked_at_stage}
+use Rattle.core_rule.proofs.turns.SweepTurns.{clear_leaves_fewer}
+use Rattle.core_rule.proofs.words.SweepBits.{clearing_keeps_lower_bits}
 
 module _ (heap : Heap) (state : State) (book : Book) (rule : Rule heap state book) (group kept : ℕ) (clearing : state.collector.stage ≡ stages.Clearing group kept) where
   fits : IsClearing heap state.collector.phase state.collector.looked group kept
@@ -32,7 +32,7 @@ module _ (heap : Heap) (state : State) (book : Book) (rule : Rule heap state boo
 
   -- marking and the sweep are over
   unsettled : (stage : Stage) → ¬ IsSettled state.collector.phase stage
-  unsettled stage settled = let between = settled_phase state.collector.phase stage settled in omega (arith, between.upto, fits.for_clearing)
+  unsettled stage settled = let between = settled_phase_is_between state.collector.phase stage settled in omega (arith, between.upto, fits.for_clearing)
 
   abbrev now : Book
   now = book_cleared heap state book rule group fits.group_within
@@ -44,7 +44,7 @@ module _ (heap : Heap) (state : State) (book : Book) (rule : Rule heap state boo
   marks_at : (stage : Stage) → ScanStands heap words book.owner now.colour book.fragments stage → IsFewWords stage → PassStands now.colour stage
       → SweepStands heap book.owner now.colour state.collector.phase stage → MarkingStands heap words book.owner now.colour book.fragments state.collector.phase stage
   marks_at stage scan few pass sweep = record {
-    grey = λ f grey. rule.marks_stand.heap_marks.grey f (cleared_grey group book.colour f grey);
+    grey = λ f grey. rule.marks_stand.heap_marks.grey f (grey_before_clearing group book.colour f grey);
     scan = scan;
     few = few;
     pass = pass;
@@ -55,11 +55,11 @@ module _ (heap : Heap) (state : State) (book : Book) (rule : Rule heap state boo
 
   -- behind the last group nothing is marked
   cleared_all : heap.groups ≤ group + 1 → AreCleared now.colour heap.groups
-  cleared_all all f below = cleared_further group book.colour cleared f (omega (arith, all, below))
+  cleared_all all f below = are_cleared_up_to_next group book.colour cleared f (omega (arith, all, below))
 
   marks : (n : ℕ) → MarkingStands heap words book.owner now.colour book.fragments state.collector.phase (after_cleared heap group n)
   marks n = after_cleared_either (MarkingStands heap words book.owner now.colour book.fragments state.collector.phase) heap group n
-      (marks_at (stages.Clearing (group + 1) n) tt tt tt (cleared_further group book.colour cleared))
+      (marks_at (stages.Clearing (group + 1) n) tt tt tt (are_cleared_up_to_next group book.colour cleared))
       (λ all. marks_at (stages.Ending n) tt tt tt (cleared_all all))
 
 pub clear_keeps : (group kept : ℕ) → StageKeeps (stages.Clearing group kept)
@@ -69,28 +69,28 @@ clear_keeps group kept heap state book rule clearing machine =
     let words : List ℕ = words_cleared heap state book rule group fits.group_within in
     let now : Book = book_cleared heap state book rule group fits.group_within in
     let stage : Stage = after_cleared heap group (kept + taken_count_of (at heap state.words (Control group))) in
-    turn_steps heap state book words (quiet (at_stage state.collector stage)) now [] rule machine
+    keeps_rule_after_turn heap state book words (quiet (at_stage state.collector stage)) now [] rule machine
     (sym (append-nil book.history))
-    (heap_cleared heap state book rule group fits.group_within last)
-    (seat_cleared heap state book rule group fits.group_within last fits.all)
-    (agrees_at heap state book rule stage)
+    (heap_stands_after_clearing heap state book rule group fits.group_within last)
+    (seat_stands_after_clearing heap state book rule group fits.group_within last fits.all)
+    (collector_agrees_at_stage heap state book rule stage)
     record {
       heap_marks = marks heap state book rule group kept clearing (kept + taken_count_of (at heap state.words (Control group)));
       roots = λ r below is. absurd (omega (arith, is.phase, fits.for_clearing));
     }
-    (turn_space heap state book rule words (quiet (at_stage state.collector stage)) now (leaves_spines heap state book rule group fits.group_within) (grants_same heap book (cleared_in group book.colour) book.begun)
-    (plain_goes_on heap state.words words now state.collector (quiet (at_stage state.collector stage)) refl (subst IsPlain (sym clearing) tt)
-    (after_cleared_either IsPlain heap group (kept + taken_count_of (at heap state.words (Control group))) tt (λ all. tt)) (leaves_spines heap state book rule group fits.group_within).spines rule.space.halves.copy))
-    (colours_go heap state book (cleared_in group book.colour) (λ f i k owned below marked. inl (cleared_was group book.colour f marked)))
+    (space_stands_after_turn heap state book rule words (quiet (at_stage state.collector stage)) now (leaves_spines_after_clearing heap state book rule group fits.group_within) (same_grants_recoloured heap book (cleared_in group book.colour) book.begun)
+    (plain_stage_goes_on heap state.words words now state.collector (quiet (at_stage state.collector stage)) refl (subst IsPlain (sym clearing) tt)
+    (after_cleared_either IsPlain heap group (kept + taken_count_of (at heap state.words (Control group))) tt (λ all. tt)) (leaves_spines_after_clearing heap state book rule group fits.group_within).spines rule.space.halves.copy))
+    (book_goes_on_with_colours heap state book (cleared_in group book.colour) (λ f i k owned below marked. inl (marked_before_clearing group book.colour f marked)))
 
 -- all that is asked of it
-pub clear_kind : (group : ℕ) (kept : ℕ) → TurnKind (stages.Clearing group kept)
-clear_kind group kept = record {
-  keeps = keeps_whole (stages.Clearing group kept) (clear_keeps group kept);
-  fewer = λ few. clear_leaves group kept;
-  inside = λ heap state book rule cycle is. cleared_inside heap state book rule cycle group kept is;
-  shape = λ heap collector found. quiet_shape heap collector found (stages.Clearing group kept) refl refl;
-  looked = looked_all (stages.Clearing group kept) (λ heap phase looked fits. fits.all);
-  bits = keeps_bits (stages.Clearing group kept) (λ heap collector. spares group refl (λ word i above below. cleared_low word i below));
-  spines = beside_spines (stages.Clearing group kept) (λ heap collector. tt);
+pub turn_kind_of_clearing : (group : ℕ) (kept : ℕ) → TurnKind (stages.Clearing group kept)
+turn_kind_of_clearing group kept = record {
+  keeps = stage_keeps_whole (stages.Clearing group kept) (clear_keeps group kept);
+  fewer = λ few. clear_leaves_fewer group kept;
+  inside = λ heap state book rule cycle is. inside_after_cleared heap state book rule cycle group kept is;
+  shape = λ heap collector found. shape_of_quiet_step heap collector found (stages.Clearing group kept) refl refl;
+  looked = has_looked_at_stage (stages.Clearing group kept) (λ heap phase looked fits. fits.all);
+  bits = on_bits_of_same_bits (stages.Clearing group kept) (λ heap collector. spares group refl (λ word i above below. clearing_keeps_lower_bits word i below));
+  spines = on_spines_beside (stages.Clearing group kept) (λ heap collector. tt);
 }

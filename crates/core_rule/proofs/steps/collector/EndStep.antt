@@ -6,13 +6,13 @@ use Rattle.core_rule.proofs.Terms.{IsSettled}
 use Rattle.heap_model.specs.PhasePlan.{clearing as clearing_phase}
 use Rattle.core_machine.specs.declared.collector.stage.Stage.TheVariants as stages
 use Rattle.core_machine.specs.collector.FitsTurns.{FitsStage}
-use Rattle.core_rule.proofs.cycle.NextPhase.{coloured_rest}
-use Rattle.core_rule.proofs.entries.Legality.{legal_more, keeps_ends}
+use Rattle.core_rule.proofs.cycle.NextPhase.{coloured_at_rest}
+use Rattle.core_rule.proofs.entries.Legality.{legal_after_entry, keeps_space_of_end}
 use Rattle.core_rule.proofs.halves.PhaseSpaces.{EndsPhase}
 use Rattle.core_rule.proofs.steps.TurnSteps.{TurnKeeps}
-use Rattle.core_rule.proofs.steps.collector.PhaseTurn.{BeginsNext, words_next, all_stay, phase_turns, marks_next}
-use Rattle.core_rule.proofs.steps.TurnKinds.{TurnKind, beside, ends_cycle, keeps_bits, beside_spines, looked_all}
-use Rattle.core_rule.proofs.turns.SweepTurns.{end_leaves}
+use Rattle.core_rule.proofs.steps.collector.PhaseTurn.{BeginsNext, words_next, may_let_go_of_none, keeps_rule_by_phase_turn, marking_stands_next_phase}
+use Rattle.core_rule.proofs.steps.TurnKinds.{TurnKind, beside, ends_cycle, on_bits_of_same_bits, on_spines_beside, has_looked_at_stage}
+use Rattle.core_rule.proofs.turns.SweepTurns.{end_leaves_fewer}
 
 end_begins : (now cycle kept : ℕ) → now % cycle_phases ≡ clearing_phase → BeginsNext now (Ends cycle kept)
 end_begins now cycle kept last = record {
@@ -69,7 +69,7 @@ module _ (kept : ℕ) (heap : Heap) (state : State) (book : Book) (rule : Rule h
   ]
 
   marks_then : MarkingStands heap (words_next heap state book rule has_cleared.all entry (end_begins p (p / 7) kept has_cleared.for_clearing)) book.owner book.colour book.fragments (p + 1) stages.Looking
-  marks_then = marks_next heap state book rule has_cleared.all entry (end_begins p (p / 7) kept has_cleared.for_clearing) (λ unsettled. none_dead) not_after
+  marks_then = marking_stands_next_phase heap state book rule has_cleared.all entry (end_begins p (p / 7) kept has_cleared.for_clearing) (λ unsettled. none_dead) not_after
 
 -- the end of a cycle keeps the rule
 pub end_keeps : (kept : ℕ) (heap : Heap) (state : State) (book : Book) → Rule heap state book → state.collector.stage ≡ stages.Ending kept
@@ -79,21 +79,21 @@ end_keeps kept heap state book rule ending ends machine =
     let cycle : ℕ = state.collector.phase / 7 in
     let last_phase = (has_cleared kept heap state book rule ending).for_clearing in
     let begins = end_begins state.collector.phase cycle kept last_phase in
-    phase_turns heap state book rule all (Ends cycle kept) begins book.spine_owner
-    (all_stay heap state book rule all (Ends cycle kept) begins (ends_phase kept heap state book rule ending) (λ swept. omega (arith, swept, last_phase)))
-    (legal_more heap false book.history (Ends cycle kept) rule.heap_stands.legal tt (keeps_ends heap false book.history cycle kept ends))
-    (coloured_rest heap state.words (words_next heap state book rule all (Ends cycle kept) begins) book.owner book.colour book.fragments (phase book.history)
+    keeps_rule_by_phase_turn heap state book rule all (Ends cycle kept) begins book.spine_owner
+    (may_let_go_of_none heap state book rule all (Ends cycle kept) begins (ends_phase kept heap state book rule ending) (λ swept. omega (arith, swept, last_phase)))
+    (legal_after_entry heap false book.history (Ends cycle kept) rule.heap_stands.legal tt (keeps_space_of_end heap false book.history cycle kept ends))
+    (coloured_at_rest heap state.words (words_next heap state book rule all (Ends cycle kept) begins) book.owner book.colour book.fragments (phase book.history)
     (last kept heap state book rule ending) (all_white kept heap state book rule ending) rule.heap_stands.cycle.coloured)
     (marks_then kept heap state book rule ending) machine
 
 -- all that is asked of it
-pub end_kind : (kept : ℕ) → TurnKind (stages.Ending kept)
-end_kind kept = record {
+pub turn_kind_of_ending : (kept : ℕ) → TurnKind (stages.Ending kept)
+turn_kind_of_ending kept = record {
   keeps = λ heap state book rule ends is. end_keeps kept heap state book rule is (ends kept is);
-  fewer = λ few. end_leaves kept;
+  fewer = λ few. end_leaves_fewer kept;
   inside = λ heap state book rule cycle is. tt;
   shape = λ heap collector found. ends_cycle kept;
-  looked = looked_all (stages.Ending kept) (λ heap phase looked fits. fits.all);
-  bits = keeps_bits (stages.Ending kept) (λ heap collector. beside (λ g below e. omega (arith, e, below)));
-  spines = beside_spines (stages.Ending kept) (λ heap collector. tt);
+  looked = has_looked_at_stage (stages.Ending kept) (λ heap phase looked fits. fits.all);
+  bits = on_bits_of_same_bits (stages.Ending kept) (λ heap collector. beside (λ g below e. omega (arith, e, below)));
+  spines = on_spines_beside (stages.Ending kept) (λ heap collector. tt);
 }

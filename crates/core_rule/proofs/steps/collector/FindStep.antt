@@ -10,31 +10,31 @@ use Rattle.core_machine.specs.declared.collector.stage.ArrayAt.{ArrayAt}
 use Rattle.core_machine.specs.declared.collector.stage.Copying.TheVariants.{Naming, Locating, Claiming}
 use Rattle.core_machine.specs.declared.collector.stage.Stage.TheVariants as stages
 use Rattle.core_machine.specs.declared.collector.stage.Visit.{Visit}
-use Rattle.core_rule.proofs.copies.BegunArrays.{begun_name, begun_fits, begun_spine, begun_alone}
-use Rattle.core_rule.proofs.copies.CopyingStages.{IsFree, LeadsTo, copying_loads, leads_free, few_from, half_next, halves_apart}
-use Rattle.core_rule.proofs.copies.VisitsOn.{arrays_from, arrays_behind, found_from, leads_seen}
+use Rattle.core_rule.proofs.copies.BegunArrays.{begun_names_object, begun_spine_fits, begun_tells_spine, begun_by_one_object}
+use Rattle.core_rule.proofs.copies.CopyingStages.{IsFree, LeadsTo, keeps_rule_by_copying_load, leads_to_stage_without_copy, copied_array_has_few_words, next_spine_in_next_half, left_half_is_not_next}
+use Rattle.core_rule.proofs.copies.VisitsOn.{arrays_await_visit, arrays_to_visit_behind, copying_stands_from_stage, leads_to_seen_stage}
 use Rattle.core_rule.proofs.steps.TurnSteps.{StageKeeps}
-use Rattle.core_rule.proofs.steps.TurnKinds.{TurnKind, load_kind, Inside}
-use Rattle.core_rule.proofs.turns.CopyTurns.{copy_turn_leaves, naming_leaves, locating_leaves}
-use Rattle.core_rule.proofs.turns.WorkCases.{located_on}
+use Rattle.core_rule.proofs.steps.TurnKinds.{TurnKind, turn_kind_of_load, Inside}
+use Rattle.core_rule.proofs.turns.CopyTurns.{copy_turn_leaves_fewer, naming_leaves_fewer, locating_leaves_fewer}
+use Rattle.core_rule.proofs.turns.WorkCases.{after_located_cases}
 
 module _ (heap : Heap) (state : State) (book : Book) (rule : Rule heap state book) (visit : Visit) (words : ℕ) (naming : state.collector.stage ≡ stages.Copying (Naming visit words)) where
   found : VisitIsMarked book.colour visit × BeginsArray (node_at (graph_of heap book.history) book.made) book.owner (visited visit) words
-  found = found_from heap state book rule (Naming visit words) naming
+  found = copying_stands_from_stage heap state book rule (Naming visit words) naming
 
   abbrev named : ArrayAt
   named = record { visit = visit; words = words; id = id_of (at heap state.words (Word (visited visit) 1)) }
 
   name_leads : LeadsTo heap state book (stages.Copying (Locating named))
-  name_leads = leads_free heap state book rule (Naming visit words) naming record { of_copying = tt; few = few_from heap state book rule (Naming visit words) naming; none = refl; no_words = refl }
-      (stages.Copying (Locating named)) record { of_copying = tt; few = few_from heap state book rule (Naming visit words) naming; none = refl; no_words = refl }
-      (arrays_from heap state book rule (Naming visit words) naming)
-      record { marked = found.0; begins = found.1; named = begun_name heap state book rule (visited visit) words found.1 }
+  name_leads = leads_to_stage_without_copy heap state book rule (Naming visit words) naming record { of_copying = tt; few = copied_array_has_few_words heap state book rule (Naming visit words) naming; none = refl; no_words = refl }
+      (stages.Copying (Locating named)) record { of_copying = tt; few = copied_array_has_few_words heap state book rule (Naming visit words) naming; none = refl; no_words = refl }
+      (arrays_await_visit heap state book rule (Naming visit words) naming)
+      record { marked = found.0; begins = found.1; named = begun_names_object heap state book rule (visited visit) words found.1 }
 
 -- the load of the name keeps the rule
 pub name_copy_keeps : (visit : Visit) (words : ℕ) → StageKeeps (stages.Copying (Naming visit words))
 name_copy_keeps visit words heap state book rule naming machine =
-    copying_loads heap state book rule (Naming visit words) naming (stages.Copying (Locating (named heap state book rule visit words naming)))
+    keeps_rule_by_copying_load heap state book rule (Naming visit words) naming (stages.Copying (Locating (named heap state book rule visit words naming)))
     (name_leads heap state book rule visit words naming) (Word (visited visit) 1) machine
 
 module _ (heap : Heap) (state : State) (book : Book) (rule : Rule heap state book) (array : ArrayAt) (locating : state.collector.stage ≡ stages.Copying (Locating array)) where
@@ -42,25 +42,25 @@ module _ (heap : Heap) (state : State) (book : Book) (rule : Rule heap state boo
   from = spot_in (at heap state.words (Word (sentinel_at array) 2))
 
   located : HasFoundArray (node_at (graph_of heap book.history) book.made) book.made book.owner book.colour array
-  located = found_from heap state book rule (Locating array) locating
+  located = copying_stands_from_stage heap state book rule (Locating array) locating
 
   free : IsFree (stages.Copying (Locating array))
-  free = record { of_copying = tt; few = few_from heap state book rule (Locating array) locating; none = refl; no_words = refl }
+  free = record { of_copying = tt; few = copied_array_has_few_words heap state book rule (Locating array) locating; none = refl; no_words = refl }
 
   own : from ≡ book.spines located.begins.index
-  own = begun_spine heap state book rule (sentinel_at array) array.words located.begins
+  own = begun_tells_spine heap state book rule (sentinel_at array) array.words located.begins
 
   fits : FitsSpot (book.spines located.begins.index)
-  fits = begun_fits heap state book rule (sentinel_at array) array.words located.begins
+  fits = begun_spine_fits heap state book rule (sentinel_at array) array.words located.begins
 
   half : (next_spine heap state.words).half ≡ next_half state.collector.phase
-  half = half_next heap state book rule (Locating array) locating
+  half = next_spine_in_next_half heap state book rule (Locating array) locating
 
   -- a spine that doesn't stand in the half that was left stands in the other one
   in_this : from.half ≢ left_half state.collector.phase → (i : ℕ) → i < length book.made → fragment_at (book.fragments i) 0 ≡ sentinel_at array → IsKept book.owner book.fragments i
       → (node_at (graph_of heap book.history) book.made i).array ≡ true → (book.spines i).half ≡ (next_spine heap state.words).half
   in_this other i below same kept an_array =
-      let index = begun_alone heap state book rule (sentinel_at array) array.words located.begins i same kept in
+      let index = begun_by_one_object heap state book rule (sentinel_at array) array.words located.begins i same kept in
       let here : from.half ≡ (book.spines i).half = ap (λ (s : Spot). s.half) own ∙ ap (λ j. (book.spines j).half) (sym index) in
       let small : (book.spines i).half < 2 = subst (λ j. (book.spines j).half < 2) (sym index) fits.half_within in
       let apart : (book.spines i).half ≢ left_half state.collector.phase = λ left. other (here ∙ left) in
@@ -68,34 +68,34 @@ module _ (heap : Heap) (state : State) (book : Book) (rule : Rule heap state boo
 
   locate_leads : LeadsTo heap state book (after_located heap state.collector.phase array from)
   locate_leads = elim (eqb_tells from.half (left_half state.collector.phase)) as (λ _. LeadsTo heap state book (after_located heap state.collector.phase array from)) [
-    | inl left ↦ rw left.0 (leads_free heap state book rule (Locating array) locating free (stages.Copying (Claiming array from))
-        record { of_copying = tt; few = few_from heap state book rule (Locating array) locating; none = refl; no_words = refl }
-        (arrays_from heap state book rule (Locating array) locating)
-        record { found = located; own = own; left = λ same. halves_apart state.collector.phase (sym left.1 ∙ same ∙ half) })
-    | inr other ↦ rw other.0 (leads_seen heap state book rule (Locating array) locating free (record array.visit { place = array.visit.place + 1 }) located.marked
-        (arrays_behind heap state book rule array.visit (in_this other.1) (arrays_from heap state book rule (Locating array) locating)))
+    | inl left ↦ rw left.0 (leads_to_stage_without_copy heap state book rule (Locating array) locating free (stages.Copying (Claiming array from))
+        record { of_copying = tt; few = copied_array_has_few_words heap state book rule (Locating array) locating; none = refl; no_words = refl }
+        (arrays_await_visit heap state book rule (Locating array) locating)
+        record { found = located; own = own; left = λ same. left_half_is_not_next state.collector.phase (sym left.1 ∙ same ∙ half) })
+    | inr other ↦ rw other.0 (leads_to_seen_stage heap state book rule (Locating array) locating free (record array.visit { place = array.visit.place + 1 }) located.marked
+        (arrays_to_visit_behind heap state book rule array.visit (in_this other.1) (arrays_await_visit heap state book rule (Locating array) locating)))
   ]
 
 -- the load of the place keeps the rule
 pub find_keeps : (array : ArrayAt) → StageKeeps (stages.Copying (Locating array))
 find_keeps array heap state book rule locating machine =
-    copying_loads heap state book rule (Locating array) locating (after_located heap state.collector.phase array (from heap state book rule array locating)) (locate_leads heap state book rule array locating)
+    keeps_rule_by_copying_load heap state book rule (Locating array) locating (after_located heap state.collector.phase array (from heap state book rule array locating)) (locate_leads heap state book rule array locating)
     (Word (sentinel_at array) 2) machine
 
 -- all that is asked of it
-pub name_copy_kind : (visit : Visit) (words : ℕ) → TurnKind (stages.Copying (Naming visit words))
-name_copy_kind visit words = load_kind (stages.Copying (Naming visit words)) (λ heap collector. record { adds_none = refl; steps = λ word. refl; loaded = λ word. refl; beside = tt }) record {
+pub turn_kind_of_copy_naming : (visit : Visit) (words : ℕ) → TurnKind (stages.Copying (Naming visit words))
+turn_kind_of_copy_naming visit words = turn_kind_of_load (stages.Copying (Naming visit words)) (λ heap collector. record { adds_none = refl; steps = λ word. refl; loaded = λ word. refl; beside = tt }) record {
   keeps = name_copy_keeps visit words;
-  fewer = copy_turn_leaves (Naming visit words) (naming_leaves visit words);
+  fewer = copy_turn_leaves_fewer (Naming visit words) (naming_leaves_fewer visit words);
   inside = λ heap state book rule cycle is. tt;
   all = λ heap phase looked fits. fits.0.all;
 }
 
 -- all that is asked of it
-pub find_kind : (array : ArrayAt) → TurnKind (stages.Copying (Locating array))
-find_kind array = load_kind (stages.Copying (Locating array)) (λ heap collector. record { adds_none = refl; steps = λ word. refl; loaded = λ word. refl; beside = tt }) record {
+pub turn_kind_of_copy_locating : (array : ArrayAt) → TurnKind (stages.Copying (Locating array))
+turn_kind_of_copy_locating array = turn_kind_of_load (stages.Copying (Locating array)) (λ heap collector. record { adds_none = refl; steps = λ word. refl; loaded = λ word. refl; beside = tt }) record {
   keeps = find_keeps array;
-  fewer = copy_turn_leaves (Locating array) (locating_leaves array);
-  inside = λ heap state book rule cycle is. located_on (Inside heap state book rule cycle) (λ stage. tt) tt heap state.collector.phase array _;
+  fewer = copy_turn_leaves_fewer (Locating array) (locating_leaves_fewer array);
+  inside = λ heap state book rule cycle is. after_located_cases (Inside heap state book rule cycle) (λ stage. tt) tt heap state.collector.phase array _;
   all = λ heap phase looked fits. fits.0.all;
 }

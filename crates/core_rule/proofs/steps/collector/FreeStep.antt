@@ -7,24 +7,24 @@ use Rattle.core_rule.proofs.Terms.{nodes_in, returning, AfterMarking, MarkingSta
 use Rattle.heap_model.specs.PhasePlan.{sweep as sweep_phase}
 use Rattle.core_machine.specs.collector.Sweeping.{after_freed}
 use Rattle.core_machine.specs.declared.collector.stage.Stage.TheVariants as stages
-use Rattle.core_rule.proofs.entries.ToldTurns.{agrees_told}
-use Rattle.core_rule.proofs.book.BookGoing.{owners_go}
-use Rattle.core_rule.proofs.book.OwnersGo.{free_goes}
-use Rattle.core_rule.proofs.frames.Freeing.{words_freed, book_freed, graph_freed, same, leaves_spines, told_freed, heap_freed, seat_freed}
-use Rattle.core_rule.proofs.marking.SweepMarks.{after_swept_either, after_freed_either, freed_further}
+use Rattle.core_rule.proofs.entries.ToldTurns.{collector_agrees_after_entry}
+use Rattle.core_rule.proofs.book.BookGoing.{book_goes_on_with_owners}
+use Rattle.core_rule.proofs.book.OwnersGo.{owners_go_on_by_freeing}
+use Rattle.core_rule.proofs.frames.Freeing.{words_freed, book_freed, graph_same_after_freeing, same_kept_after_freeing, leaves_spines_after_freeing, same_told_after_freeing, heap_stands_after_freeing, seat_stands_after_freeing}
+use Rattle.core_rule.proofs.marking.SweepMarks.{after_swept_either, after_freed_either, marking_stands_after_freed}
 use Rattle.core_rule.proofs.objects.ObjectFrames.{SameKept}
-use Rattle.core_rule.proofs.owners.DeadOwners.{set_dead}
+use Rattle.core_rule.proofs.owners.DeadOwners.{set_bits_are_dead}
 use Rattle.core_rule.proofs.owners.DeadOwners as owners
-use Rattle.core_rule.proofs.spines.OtherWords.{LeavesPlaces, LeavesSpines, places_of}
-use Rattle.core_rule.proofs.dying.SweepSums.{at_place, dead_less}
-use Rattle.core_rule.proofs.dying.SweptSpace.{CopiesNone, Sweeps, space_swept}
+use Rattle.core_rule.proofs.spines.OtherWords.{LeavesPlaces, LeavesSpines, leaves_places_of_spines}
+use Rattle.core_rule.proofs.dying.SweepSums.{at_place, dead_sum_falls_by_group}
+use Rattle.core_rule.proofs.dying.SweptSpace.{CopiesNone, Sweeps, space_stands_after_sweep}
 use Rattle.core_rule.proofs.steps.Assemble.{Keeps}
-use Rattle.core_rule.proofs.owners.OwnerLemmas.{is_dead}
-use Rattle.core_rule.proofs.steps.TurnSteps.{StageKeeps, after_turn, turn_steps}
-use Rattle.core_rule.proofs.words.SetBits.{set_in, length-set}
-use Rattle.core_rule.proofs.steps.TurnKinds.{TurnKind, freed_inside, adds_one, frees_in_phase, keeps_whole, beside_spines, looked_all}
-use Rattle.core_rule.proofs.turns.SweepTurns.{free_leaves}
-use Rattle.core_rule.proofs.steps.collector.FreeBits.{free_bits}
+use Rattle.core_rule.proofs.owners.OwnerLemmas.{dead_bit_is_dead}
+use Rattle.core_rule.proofs.steps.TurnSteps.{StageKeeps, after_turn, keeps_rule_after_turn}
+use Rattle.core_rule.proofs.words.SetBits.{set_in, set_length_is_bit_count}
+use Rattle.core_rule.proofs.steps.TurnKinds.{TurnKind, inside_after_freed, adds_one, frees_steps_in_phase, stage_keeps_whole, on_spines_beside, has_looked_at_stage}
+use Rattle.core_rule.proofs.turns.SweepTurns.{free_leaves_fewer}
+use Rattle.core_rule.proofs.steps.collector.FreeBits.{on_bits_of_freeing}
 
 module _ (heap : Heap) (state : State) (book : Book) (rule : Rule heap state book) (group dead counted : ℕ) (freeing : state.collector.stage ≡ stages.Freeing group dead counted) where
   fits : IsFreeing heap state.collector.phase state.collector.looked group dead counted
@@ -44,7 +44,7 @@ module _ (heap : Heap) (state : State) (book : Book) (rule : Rule heap state boo
     where
       by : (n : ℕ) → count_ones dead ≡ n → 1 ≤ length (set_in group dead)
       by zero none = absurd (fits.some_dead (zero_from_ones dead none))
-      by (suc n) is = omega (arith, is, length-set group dead fits.dead_within)
+      by (suc n) is = omega (arith, is, set_length_is_bit_count group dead fits.dead_within)
 
   abbrev now : Book
   now = book_freed heap state book rule group dead fits.sweeps.group_within fits.dead_within told.1
@@ -57,12 +57,12 @@ module _ (heap : Heap) (state : State) (book : Book) (rule : Rule heap state boo
   freed n = record state.collector { stage = after_freed heap group counted; log = state.collector.log ++ Frees n ∷ [] }
 
   agrees : CollectorAgrees heap (freed (length (set_in group dead))) now.history
-  agrees = agrees_told heap book.history state.collector (after_freed heap group counted) (Frees (length (set_in group dead))) refl refl refl (λ number. refl) rule.collector_stands
+  agrees = collector_agrees_after_entry heap book.history state.collector (after_freed heap group counted) (Frees (length (set_in group dead))) refl refl refl (λ number. refl) rule.collector_stands
 
   marks : MarkingStands heap words now.owner book.colour book.fragments state.collector.phase (after_freed heap group counted)
-  marks = freed_further heap words now.owner book.colour book.fragments state.collector.phase fits.sweeps.for_sweep
-      (owners.after_freed book.owner (set_in group dead) (set_dead book.owner group dead fits.dead_within told.1) book.colour after) group counted
-      (owners.freed_further book.owner group dead fits.dead_within told.1 told.0)
+  marks = marking_stands_after_freed heap words now.owner book.colour book.fragments state.collector.phase fits.sweeps.for_sweep
+      (owners.after_marking_when_freed book.owner (set_in group dead) (set_bits_are_dead book.owner group dead fits.dead_within told.1) book.colour after) group counted
+      (owners.are_freed_up_to_next book.owner group dead fits.dead_within told.1 told.0)
 
   abbrev spine_words : ℕ → ℕ
   spine_words = words_of_object (nodes_in heap book)
@@ -81,22 +81,22 @@ module _ (heap : Heap) (state : State) (book : Book) (rule : Rule heap state boo
   copies_none = after_freed_either CopiesNone heap group counted (after_swept_either CopiesNone heap group tt (λ last. tt)) tt
 
   leaves : LeavesSpines heap state.words words
-  leaves = leaves_spines heap state book rule group dead fits.sweeps.group_within fits.dead_within told.1
+  leaves = leaves_spines_after_freeing heap state book rule group dead fits.sweeps.group_within fits.dead_within told.1
 
   places : LeavesPlaces heap state.words words
-  places = places_of heap state.words words leaves
+  places = leaves_places_of_spines heap state.words words leaves
 
   kept_on : SameKept book.owner now.owner
-  kept_on = same heap state book rule group dead fits.sweeps.group_within fits.dead_within told.1
+  kept_on = same_kept_after_freeing heap state book rule group dead fits.sweeps.group_within fits.dead_within told.1
 
   -- so no words are returned yet
   sweeps_on : Sweeps heap state book rule fits.sweeps.for_sweep (subst CopiesNone (sym freeing) tt) (after_freed heap group counted) copies_none words places (freed (length (set_in group dead))).log now.history
-      (graph_freed heap state book rule group dead fits.sweeps.group_within fits.dead_within told.1) now.owner kept_on 0
+      (graph_same_after_freeing heap state book rule group dead fits.sweeps.group_within fits.dead_within told.1) now.owner kept_on 0
   sweeps_on =
-      let history = told_freed heap state book rule group dead fits.sweeps.group_within fits.dead_within told.1 in
+      let history = same_told_after_freeing heap state book rule group dead fits.sweeps.group_within fits.dead_within told.1 in
       let none : returning state.collector.stage ≡ 0 = rw freeing refl in
-      let less = dead_less heap spine_words book.owner group dead fits.sweeps.group_within fits.dead_within told.1 in
-      let same_graph = ap (λ (g : Graph). dead_sum heap (words_of_object (node_at g book.made)) now.owner) (graph_freed heap state book rule group dead fits.sweeps.group_within fits.dead_within told.1) in
+      let less = dead_sum_falls_by_group heap spine_words book.owner group dead fits.sweeps.group_within fits.dead_within told.1 in
+      let same_graph = ap (λ (g : Graph). dead_sum heap (words_of_object (node_at g book.made)) now.owner) (graph_same_after_freeing heap state book rule group dead fits.sweeps.group_within fits.dead_within told.1) in
       record {
         less = omega (arith, none, less, same_graph, counts, returns_next);
         budget = omega (arith, leaves.budget);
@@ -108,32 +108,32 @@ module _ (heap : Heap) (state : State) (book : Book) (rule : Rule heap state boo
 
   keeps : IsMachine heap (after_turn state words (freed (length (set_in group dead))))
       → Keeps heap state (after_turn state words (freed (length (set_in group dead)))) book book.begun (Frees (length (set_in group dead)) ∷ [])
-  keeps machine = turn_steps heap state book words (freed (length (set_in group dead))) now (Frees (length (set_in group dead)) ∷ []) rule machine refl
-      (heap_freed heap state book rule group dead fits.sweeps.group_within fits.dead_within told.1 sweeps some after)
-      (seat_freed heap state book rule group dead fits.sweeps.group_within fits.dead_within told.1)
+  keeps machine = keeps_rule_after_turn heap state book words (freed (length (set_in group dead))) now (Frees (length (set_in group dead)) ∷ []) rule machine refl
+      (heap_stands_after_freeing heap state book rule group dead fits.sweeps.group_within fits.dead_within told.1 sweeps some after)
+      (seat_stands_after_freeing heap state book rule group dead fits.sweeps.group_within fits.dead_within told.1)
       agrees
       record { heap_marks = marks; roots = λ r below is. absurd (omega (arith, is.phase, fits.sweeps.for_sweep)) }
-      (space_swept heap state book rule fits.sweeps.for_sweep (subst CopiesNone (sym freeing) tt) (after_freed heap group counted) copies_none words places (freed (length (set_in group dead))).log now.history
-      (graph_freed heap state book rule group dead fits.sweeps.group_within fits.dead_within told.1) now.owner kept_on 0 sweeps_on)
-      (owners_go heap state book now.history book.begun now.owner (free_goes (length book.made) book.owner (set_in group dead)
-      (λ f there. is_dead (book.owner f) (set_dead book.owner group dead fits.dead_within told.1 f there))))
+      (space_stands_after_sweep heap state book rule fits.sweeps.for_sweep (subst CopiesNone (sym freeing) tt) (after_freed heap group counted) copies_none words places (freed (length (set_in group dead))).log now.history
+      (graph_same_after_freeing heap state book rule group dead fits.sweeps.group_within fits.dead_within told.1) now.owner kept_on 0 sweeps_on)
+      (book_goes_on_with_owners heap state book now.history book.begun now.owner (owners_go_on_by_freeing (length book.made) book.owner (set_in group dead)
+      (λ f there. dead_bit_is_dead (book.owner f) (set_bits_are_dead book.owner group dead fits.dead_within told.1 f there))))
 
   -- so many fragments are told to be freed as there are bits
   free_kept : IsMachine heap (after_turn state words (freed (count_ones dead))) → Keeps heap state (after_turn state words (freed (count_ones dead))) book book.begun (Frees (count_ones dead) ∷ [])
   free_kept = subst (λ n. IsMachine heap (after_turn state words (freed n)) → Keeps heap state (after_turn state words (freed n)) book book.begun (Frees n ∷ []))
-      (length-set group dead fits.dead_within) keeps
+      (set_length_is_bit_count group dead fits.dead_within) keeps
 
 pub free_keeps : (group dead counted : ℕ) → StageKeeps (stages.Freeing group dead counted)
 free_keeps group dead counted heap state book rule freeing machine = free_kept heap state book rule group dead counted freeing machine
 
 -- all that is asked of it
-pub free_kind : (group : ℕ) (dead : ℕ) (counted : ℕ) → TurnKind (stages.Freeing group dead counted)
-free_kind group dead counted = record {
-  keeps = keeps_whole (stages.Freeing group dead counted) (free_keeps group dead counted);
-  fewer = λ few. free_leaves group dead counted;
-  inside = λ heap state book rule cycle is. freed_inside heap state book rule cycle group counted;
-  shape = λ heap collector found. adds_one (stages.Freeing group dead counted) (Frees (count_ones dead)) (frees_in_phase heap (count_ones dead)) refl refl;
-  looked = looked_all (stages.Freeing group dead counted) (λ heap phase looked fits. fits.sweeps.all);
-  bits = free_bits group dead counted;
-  spines = beside_spines (stages.Freeing group dead counted) (λ heap collector. tt);
+pub turn_kind_of_freeing : (group : ℕ) (dead : ℕ) (counted : ℕ) → TurnKind (stages.Freeing group dead counted)
+turn_kind_of_freeing group dead counted = record {
+  keeps = stage_keeps_whole (stages.Freeing group dead counted) (free_keeps group dead counted);
+  fewer = λ few. free_leaves_fewer group dead counted;
+  inside = λ heap state book rule cycle is. inside_after_freed heap state book rule cycle group counted;
+  shape = λ heap collector found. adds_one (stages.Freeing group dead counted) (Frees (count_ones dead)) (frees_steps_in_phase heap (count_ones dead)) refl refl;
+  looked = has_looked_at_stage (stages.Freeing group dead counted) (λ heap phase looked fits. fits.sweeps.all);
+  bits = on_bits_of_freeing group dead counted;
+  spines = on_spines_beside (stages.Freeing group dead counted) (λ heap collector. tt);
 }

@@ -10,15 +10,15 @@ use Rattle.core_machine.specs.declared.table.address.Address.TheVariants.{Answer
 use Rattle.core_machine.specs.declared.collector.stage.Copying.TheVariants.{Visiting}
 use Rattle.core_machine.specs.declared.collector.stage.Stage.TheVariants as stages
 use Rattle.core_machine.specs.seat.Fits.{FitsStage}
-use Rattle.core_rule.proofs.marking.Marks.{settled_moves}
-use Rattle.core_rule.proofs.marking.SweepMarks.{unswept_stands}
+use Rattle.core_rule.proofs.marking.Marks.{settled_at_other_stage}
+use Rattle.core_rule.proofs.marking.SweepMarks.{sweep_stands_unswept}
 use Rattle.core_rule.proofs.halves.HalvesFrames.{StageGoesOn}
-use Rattle.core_rule.proofs.halves.StagesOn.{IsIdle, idle_goes_on}
-use Rattle.core_rule.proofs.steps.Assemble.{few_answers}
-use Rattle.core_rule.proofs.turns.WorkCases.{work_either}
-use Rattle.core_rule.proofs.steps.TurnSteps.{StageKeeps, after_turn, load_turns}
-use Rattle.core_rule.proofs.steps.TurnKinds.{TurnKind, look_inside, only_loads, adds_nothing, keeps_whole, keeps_bits, beside_spines}
-use Rattle.core_rule.proofs.turns.LookTurns.{look_leaves}
+use Rattle.core_rule.proofs.halves.StagesOn.{IsIdle, idle_stage_goes_on}
+use Rattle.core_rule.proofs.steps.Assemble.{last_answer_within_phase}
+use Rattle.core_rule.proofs.turns.WorkCases.{first_work_cases}
+use Rattle.core_rule.proofs.steps.TurnSteps.{StageKeeps, after_turn, keeps_rule_by_load_turn}
+use Rattle.core_rule.proofs.steps.TurnKinds.{TurnKind, inside_after_look, only_loads, adds_nothing, stage_keeps_whole, on_bits_of_same_bits, on_spines_beside}
+use Rattle.core_rule.proofs.turns.LookTurns.{look_leaves_fewer}
 use Rattle.heap_model.specs.declared.calls.collector_calls.Turn.TheVariants as answers
 
 -- the word of a seat that hasn't left tells that it has answered the phase
@@ -82,12 +82,12 @@ module _ (heap : Heap) (state : State) (book : Book) (rule : Rule heap state boo
         pass = pass;
         sweep_stands = sweep;
         alive = λ going. rule.marks_stand.heap_marks.alive
-            (λ settled. going (settled_moves state.collector.phase state.collector.stage stage (λ third. subst HasMarked looking) settled));
-        after = λ settled. rule.marks_stand.heap_marks.after (settled_moves state.collector.phase stage state.collector.stage goes settled);
+            (λ settled. going (settled_at_other_stage state.collector.phase state.collector.stage stage (λ third. subst HasMarked looking) settled));
+        after = λ settled. rule.marks_stand.heap_marks.after (settled_at_other_stage state.collector.phase stage state.collector.stage goes settled);
       };
       roots = λ r below marks answered. rule.marks_stand.roots r below record { phase = marks.phase; goes_on = subst HasMarked looking } answered;
     };
-    spines = idle_goes_on heap state.words state.words book state.collector (record state.collector { stage = stage; looked = looked }) refl
+    spines = idle_stage_goes_on heap state.words state.words book state.collector (record state.collector { stage = stage; looked = looked }) refl
         record { from_before = λ third advances. absurd (cc (looking, advances)); to_before = λ third advances. goes third (subst HasMarked (sym advances) tt) }
         (subst IsIdle (sym looking) tt) idle (λ f waits. awaits (subst (λ stage. AwaitsCopy state.collector.phase stage f) looking waits) f) (λ half offset. refl) rule.space.halves.copy;
   }
@@ -101,13 +101,13 @@ module _ (heap : Heap) (state : State) (book : Book) (rule : Rule heap state boo
 
   -- it begins the phase's work, or goes on to the next phase
   stands_last : StandsAt (after_last_look heap state.collector)
-  stands_last = work_either (λ stage most. StandsAt (at_work stage)) heap.groups state.collector.phase
+  stands_last = first_work_cases (λ stage most. StandsAt (at_work stage)) heap.groups state.collector.phase
       (λ third. stands_stage (stages.Passing 0 false) heap.seats (λ is e. e) (λ fourth. absurd (omega (arith, fourth, third))) tt tt tt (λ f grey. (f, grey, omega arith)) tt)
       (λ copies. stands_stage (stages.Copying (Visiting 0)) heap.seats (λ is e. e) (λ fourth f. omega arith) tt tt tt tt tt)
       (λ sweeps. stands_stage (stages.Sweeping 0) heap.seats (λ is e. e) (λ fourth. absurd (omega (arith, fourth, sweeps))) tt tt tt tt (λ f i k none. absurd (omega (arith, none))))
       (λ clears. stands_stage (stages.Clearing 0 0) heap.seats (λ is e. e) (λ fourth. absurd (omega (arith, fourth, clears))) tt tt tt tt (λ f none. absurd (omega (arith, none))))
       (λ nothing. stands_stage (first_work 0) heap.seats (λ third. absurd (nothing.unmarked third)) (λ fourth. absurd (nothing.uncopied fourth)) tt tt tt tt
-      (unswept_stands heap book.owner book.colour state.collector.phase (first_work 0) tt nothing.unswept))
+      (sweep_stands_unswept heap book.owner book.colour state.collector.phase (first_work 0) tt nothing.unswept))
 
   stands_counted : StandsAt (after_counted_look heap state.collector)
   stands_counted = elim (leb_tells (suc (state.collector.looked + 1)) heap.seats) as (λ _. StandsAt (after_counted_look heap state.collector)) [
@@ -133,11 +133,11 @@ look_keeps heap state book rule looking machine =
     let told = stands.cycle.answers_told in
     let early : phase book.history < LEFT = omega (arith, rule.collector_stands.phase_told, rule.machine.collector_fit.phase_within) in
     let tells : has_answered_of collector.phase found ≡ true → has_left number book.history ≡ false → last_answer number book.history ≡ phase book.history
-    = λ seen present. word_tells (phase book.history) (last_answer number book.history) (few_answers heap state.words book number (seat_at state number) stands present) early
+    = λ seen present. word_tells (phase book.history) (last_answer number book.history) (last_answer_within_phase heap state.words book number (seat_at state number) stands present) early
     (subst (λ w. has_answered_of (phase book.history) w ≡ true) (told.word ∙ rw (sym told.leaves ∙ present) (sym told.told))
     (subst (λ p. has_answered_of p found ≡ true) rule.collector_stands.phase_told seen)) in
     let after = look_stands heap state book rule looking found in
-    load_turns heap state book (Answer number) (after_look heap collector found) rule machine (look_seen heap collector book.history rule.collector_stands found tells)
+    keeps_rule_by_load_turn heap state book (Answer number) (after_look heap collector found) rule machine (look_seen heap collector book.history rule.collector_stands found tells)
     after.marks after.spines
 
 -- its answer ends no cycle
@@ -146,13 +146,13 @@ no_end true seat answer p cycle kept same = cc same
 no_end false seat answer p cycle kept same = cc same
 
 -- all that is asked of it
-pub look_kind : TurnKind stages.Looking
-look_kind = record {
-  keeps = keeps_whole stages.Looking look_keeps;
-  fewer = λ few. look_leaves;
-  inside = λ heap state book rule cycle is. look_inside heap state book rule cycle _;
+pub turn_kind_of_looking : TurnKind stages.Looking
+turn_kind_of_looking = record {
+  keeps = stage_keeps_whole stages.Looking look_keeps;
+  fewer = λ few. look_leaves_fewer;
+  inside = λ heap state book rule cycle is. inside_after_look heap state book rule cycle _;
   shape = λ heap collector found. adds_nothing stages.Looking refl (no_end (has_answered_of collector.phase found) collector.looked found collector.phase);
   looked = λ heap phase looked fits. inl refl;
-  bits = keeps_bits stages.Looking (λ heap collector. only_loads (λ word. refl));
-  spines = beside_spines stages.Looking (λ heap collector. tt);
+  bits = on_bits_of_same_bits stages.Looking (λ heap collector. only_loads (λ word. refl));
+  spines = on_spines_beside stages.Looking (λ heap collector. tt);
 }

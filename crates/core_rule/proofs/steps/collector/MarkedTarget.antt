@@ -2,8 +2,8 @@
 use Rattle.std.proofs.Common.{◌≡◌, ℕ, ◌*◌, ◌<◌, ◌%◌, inl, inr, sym, ap, ◌∙◌, subst, arith}
 use Rattle.core_rule.proofs.Terms.{cycle_phases, Heap, phase, State, Book, Colour, fragment_at, IsMarked, MayMark, IsPart, Borne, Kept, Rule}
 use Rattle.heap_model.specs.PhasePlan.{marking as marking_phase}
-use Rattle.core_rule.proofs.colours.OneBit.{bits_marked}
-use Rattle.core_rule.proofs.colours.ShadeColours.{with_mark, mark_keeps, mark_marks, mark_away, marks_shade, coloured_shade}
+use Rattle.core_rule.proofs.colours.OneBit.{bits_after_mark}
+use Rattle.core_rule.proofs.colours.ShadeColours.{with_mark, mark_keeps_marked, mark_marks_fragment, mark_keeps_other_colour, marks_after_shade, coloured_after_shade}
 use Rattle.core_rule.proofs.frames.Recoloured.{Recolours}
 use Rattle.core_rule.proofs.marking.SeatShades.{words_marked}
 
@@ -21,18 +21,18 @@ module _ (heap : Heap) (state : State) (book : Book) (rule : Rule heap state boo
   -- the object's first fragment is marked then
   first : IsMarked coloured (fragment_at (book.fragments part_of.index) 0)
   first = elim may.first as (λ _. IsMarked coloured (fragment_at (book.fragments part_of.index) 0)) [
-    | inl head ↦ subst (IsMarked coloured) ((rule.heap_stands.objects.back m part_of.index part_of.place part_of.kept).3 ∙ ap (fragment_at (book.fragments part_of.index)) head) (mark_marks book.colour m)
-    | inr marked ↦ mark_keeps book.colour m _ marked
+    | inl head ↦ subst (IsMarked coloured) ((rule.heap_stands.objects.back m part_of.index part_of.place part_of.kept).3 ∙ ap (fragment_at (book.fragments part_of.index)) head) (mark_marks_fragment book.colour m)
+    | inr marked ↦ mark_keeps_marked book.colour m _ marked
   ]
 
-  pub target_recolours : Recolours heap (words_marked heap state book rule m within) book coloured
-  target_recolours = record {
-    bits = bits_marked heap state.words book.owner 32 m rule.machine.table within (omega arith) rule.heap_stands.control_words;
-    marks = marks_shade heap state.words book.owner book.colour m rule.machine.table within rule.heap_stands.cycle.marks;
-    right = coloured_shade heap state.words book.owner book.colour m rule.machine.table within book.fragments (phase book.history) part_of.index part_of.place part_of.kept first
+  pub marked_target_recolours : Recolours heap (words_marked heap state book rule m within) book coloured
+  marked_target_recolours = record {
+    bits = bits_after_mark heap state.words book.owner 32 m rule.machine.table within (omega arith) rule.heap_stands.control_words;
+    marks = marks_after_shade heap state.words book.owner book.colour m rule.machine.table within rule.heap_stands.cycle.marks;
+    right = coloured_after_shade heap state.words book.owner book.colour m rule.machine.table within book.fragments (phase book.history) part_of.index part_of.place part_of.kept first
         (λ rests. omega (arith, third, rests)) rule.heap_stands.cycle.coloured;
-    keeps = mark_keeps book.colour m;
-    births = λ r x borne. mark_away book.colour m x (λ same. apart r (sym borne ∙ ap book.owner same ∙ part_of.kept));
+    keeps = mark_keeps_marked book.colour m;
+    births = λ r x borne. mark_keeps_other_colour book.colour m x (λ same. apart r (sym borne ∙ ap book.owner same ∙ part_of.kept));
   }
     where
       apart : (r : ℕ) {i k : ℕ} → Borne r ≡ Kept i k → ⊥

@@ -8,16 +8,16 @@ use Rattle.core_machine.specs.collector.Marking.{part_after, scan_step, after_sc
 use Rattle.core_machine.specs.declared.collector.stage.Scan.{Scan}
 use Rattle.core_machine.specs.declared.collector.stage.Stage.TheVariants as stages
 use Rattle.core_rule.specs.marking.Sources.{TellsNoSpine}
-use Rattle.core_rule.proofs.colours.SourceCases.{word_leads, lead_of_word}
+use Rattle.core_rule.proofs.colours.SourceCases.{leads_by_word, word_pointer_of_lead}
 use Rattle.core_rule.proofs.marking.MarkingStages.{OfMarking}
-use Rattle.core_rule.proofs.marking.Marks.{marks_at, none_dead}
-use Rattle.core_rule.proofs.marking.Scans.{scan_stands, scan_passes, scan_sweeps, scan_on_marks}
-use Rattle.core_rule.proofs.marking.ScannedWords.{may_mark, comes_after, seen_next, array_first, array_few, sentinel_seen}
-use Rattle.core_rule.proofs.steps.collector.ColourTurn.{marking_loads}
+use Rattle.core_rule.proofs.marking.Marks.{marking_stands_at_stage, nothing_is_dead}
+use Rattle.core_rule.proofs.marking.Scans.{scan_stands_at_word, pass_stands_while_scanning, sweep_stands_while_scanning, scan_is_of_marking}
+use Rattle.core_rule.proofs.marking.ScannedWords.{grey_target_may_be_marked, next_part_comes_after, seen_up_to_next, array_length_is_objects, array_has_few_cells, sentinel_words_are_seen}
+use Rattle.core_rule.proofs.steps.collector.ColourTurn.{keeps_rule_by_marking_load}
 use Rattle.core_rule.proofs.steps.TurnSteps.{StageKeeps}
-use Rattle.core_rule.proofs.turns.FewWords.{few_at}
-use Rattle.core_rule.proofs.steps.TurnKinds.{TurnKind, load_kind, scan_inside}
-use Rattle.core_rule.proofs.turns.MarkingTurns.{scan_leaves}
+use Rattle.core_rule.proofs.turns.FewWords.{scan_has_few_words}
+use Rattle.core_rule.proofs.steps.TurnKinds.{TurnKind, turn_kind_of_load, inside_after_scan}
+use Rattle.core_rule.proofs.turns.MarkingTurns.{scan_leaves_fewer}
 
 module _ (heap : Heap) (state : State) (book : Book) (rule : Rule heap state book) (scan : Scan) (scanning : state.collector.stage ≡ stages.Scanning scan) where
   abbrev f : ℕ
@@ -55,29 +55,29 @@ module _ (heap : Heap) (state : State) (book : Book) (rule : Rule heap state boo
   marks_after : (stage : Stage) → OfMarking stage → ScanStands heap state.words book.owner book.colour book.fragments stage → IsFewWords stage → PassStands book.colour stage
       → SweepStands heap book.owner book.colour state.collector.phase stage → MarksNow stage
   marks_after stage goes scans few passes sweeps = (
-    marks_at heap state.words book.owner book.colour book.fragments state.collector.phase stage fits.marks.for_marking goes
-        rule.marks_stand.heap_marks.grey scans few passes sweeps (none_dead heap state book rule fits.marks.for_marking (subst HasMarked scanning)),
+    marking_stands_at_stage heap state.words book.owner book.colour book.fragments state.collector.phase stage fits.marks.for_marking goes
+        rule.marks_stand.heap_marks.grey scans few passes sweeps (nothing_is_dead heap state book rule fits.marks.for_marking (subst HasMarked scanning)),
     goes,
   )
 
   lead : (g : ℕ) → WordPointsTo heap state.words f scan.part g → pointer_in scan.part word ≡ Some g
-  lead g leads = lead_of_word heap state.words f scan.part g fits.part_within leads
+  lead g leads = word_pointer_of_lead heap state.words f scan.part g fits.part_within leads
 
   few_steps : scan.steps ≤ 6
   few_steps = omega (arith, fits.few_steps, fits.part_within)
 
   -- what the word of a fragment without a spine leads to, if it leads anywhere, is marked next
   loaded : TellsNoSpine heap state.words f → (found : Option ℕ) → pointer_in scan.part word ≡ found → MarksNow (after_scan_load scan next found)
-  loaded none None is = marks_after (after_scan_load scan next None) (scan_on_marks (scan_step scan) next)
-      (scan_stands heap state.words book.owner book.colour book.fragments (scan_step scan) next none
-      (seen_next heap state book rule f part_of state.words book.colour scan.part next (λ p g leads. leads) seen (λ g leads. absurd (cc (is, lead g leads))) (comes_after heap state book rule f part_of scan.part)))
-      (few_at (scan_step scan) next (omega (arith, few_steps)))
-      (scan_passes book.colour (scan_step scan) next) (scan_sweeps heap book.owner book.colour state.collector.phase (scan_step scan) next)
+  loaded none None is = marks_after (after_scan_load scan next None) (scan_is_of_marking (scan_step scan) next)
+      (scan_stands_at_word heap state.words book.owner book.colour book.fragments (scan_step scan) next none
+      (seen_up_to_next heap state book rule f part_of state.words book.colour scan.part next (λ p g leads. leads) seen (λ g leads. absurd (cc (is, lead g leads))) (next_part_comes_after heap state book rule f part_of scan.part)))
+      (scan_has_few_words (scan_step scan) next (omega (arith, few_steps)))
+      (pass_stands_while_scanning book.colour (scan_step scan) next) (sweep_stands_while_scanning heap book.owner book.colour state.collector.phase (scan_step scan) next)
   loaded none (Some m) is = marks_after (stages.Shading (scan_step scan) m next) tt (
     seen,
     (λ g leads. inl (sym is ∙ lead g leads)),
-    may_mark heap state book rule f part_of cycle seen.grey scan.part m (word_leads heap state.words f scan.part m fits.fragment_within fits.part_within is),
-    comes_after heap state book rule f part_of scan.part,
+    grey_target_may_be_marked heap state book rule f part_of cycle seen.grey scan.part m (leads_by_word heap state.words f scan.part m fits.fragment_within fits.part_within is),
+    next_part_comes_after heap state book rule f part_of scan.part,
     none,
   )
       tt tt tt
@@ -85,10 +85,10 @@ module _ (heap : Heap) (state : State) (book : Book) (rule : Rule heap state boo
   -- of a fragment whose first word is an array's meta the place of its spine is loaded next
   located : (cells : ℕ) → array_length_of (at heap state.words (Word f 0)) ≡ Some cells → MarksNow (stages.Addressing (scan_step scan) (array_words cells))
   located cells told =
-      let first = array_first heap state book rule f part_of cells told in
+      let first = array_length_is_objects heap state book rule f part_of cells told in
       marks_after (stages.Addressing (scan_step scan) (array_words cells)) tt
-      (sentinel_seen heap state book rule f part_of seen.grey first.0 first.1, ap (λ length. option_map_or array_words length 0) (sym told))
-      (omega (arith, array_few heap state book rule f part_of first.1, first.2)) tt tt
+      (sentinel_words_are_seen heap state book rule f part_of seen.grey first.0 first.1, ap (λ length. option_map_or array_words length 0) (sym told))
+      (omega (arith, array_has_few_cells heap state book rule f part_of first.1, first.2)) tt tt
 
   abbrev MarksAt : Option ℕ → Type 0
   MarksAt length = MarksNow (after_first_load scan length next (pointer_in scan.part word))
@@ -112,13 +112,13 @@ module _ (heap : Heap) (state : State) (book : Book) (rule : Rule heap state boo
 pub scan_keeps : (scan : Scan) → StageKeeps (stages.Scanning scan)
 scan_keeps scan heap state book rule scanning machine =
     let on = goes_on heap state book rule scan scanning in
-    marking_loads heap state book rule (stages.Scanning scan) _ scanning (Word scan.fragment scan.part) machine on.0 tt on.1
+    keeps_rule_by_marking_load heap state book rule (stages.Scanning scan) _ scanning (Word scan.fragment scan.part) machine on.0 tt on.1
 
 -- all that is asked of it
-pub scan_kind : (scan : Scan) → TurnKind (stages.Scanning scan)
-scan_kind scan = load_kind (stages.Scanning scan) (λ heap collector. record { adds_none = refl; steps = λ word. refl; loaded = λ word. refl; beside = tt }) record {
+pub turn_kind_of_scanning : (scan : Scan) → TurnKind (stages.Scanning scan)
+turn_kind_of_scanning scan = turn_kind_of_load (stages.Scanning scan) (λ heap collector. record { adds_none = refl; steps = λ word. refl; loaded = λ word. refl; beside = tt }) record {
   keeps = scan_keeps scan;
-  fewer = λ few. scan_leaves scan;
-  inside = λ heap state book rule cycle is. scan_inside heap state book rule cycle scan is _ _;
+  fewer = λ few. scan_leaves_fewer scan;
+  inside = λ heap state book rule cycle is. inside_after_scan heap state book rule cycle scan is _ _;
   all = λ heap phase looked fits. fits.marks.all;
 }

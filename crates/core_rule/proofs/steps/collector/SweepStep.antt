@@ -7,18 +7,18 @@ use Rattle.core_rule.proofs.Terms.{words_of_object, nodes_in, AwaitsCopy, AfterM
 use Rattle.heap_model.specs.PhasePlan.{sweep as sweep_phase}
 use Rattle.core_machine.specs.collector.Sweeping.{dead_bits_of, next_place_of, after_swept, after_examined}
 use Rattle.core_machine.specs.declared.collector.stage.Stage.TheVariants as stages
-use Rattle.core_machine.proofs.table_lemmas.DeadBits.{dead_few}
+use Rattle.core_machine.proofs.table_lemmas.DeadBits.{dead_bits_within_group}
 use Rattle.core_machine.proofs.table_lemmas.Free.{sum_upto-none, sum_upto-more}
-use Rattle.core_rule.proofs.marking.DeadPlaces.{are_dead}
-use Rattle.core_rule.proofs.marking.SweepMarks.{after_swept_either, examined_further}
-use Rattle.core_rule.proofs.owners.OwnerLemmas.{is_dead}
+use Rattle.core_rule.proofs.marking.DeadPlaces.{dead_bits_are_dead}
+use Rattle.core_rule.proofs.marking.SweepMarks.{after_swept_either, marking_stands_after_examined}
+use Rattle.core_rule.proofs.owners.OwnerLemmas.{dead_bit_is_dead}
 use Rattle.core_rule.proofs.halves.HalvesFrames.{StageGoesOn}
-use Rattle.core_rule.proofs.halves.StagesOn.{IsQuiet, quiet_goes_on}
-use Rattle.core_rule.proofs.dying.SweepSums.{at_place, counts_on}
-use Rattle.core_rule.proofs.steps.collector.ColourTurn.{at_stage, load_turns_on}
+use Rattle.core_rule.proofs.halves.StagesOn.{IsQuiet, quiet_stage_goes_on}
+use Rattle.core_rule.proofs.dying.SweepSums.{at_place, sweep_counts_after_examined}
+use Rattle.core_rule.proofs.steps.collector.ColourTurn.{at_stage, keeps_rule_by_load_on}
 use Rattle.core_rule.proofs.steps.TurnSteps.{StageKeeps}
-use Rattle.core_rule.proofs.steps.TurnKinds.{TurnKind, load_kind, examined_inside}
-use Rattle.core_rule.proofs.turns.SweepTurns.{sweep_leaves, examine_leaves}
+use Rattle.core_rule.proofs.steps.TurnKinds.{TurnKind, turn_kind_of_load, inside_after_examined}
+use Rattle.core_rule.proofs.turns.SweepTurns.{sweep_leaves_fewer, examine_leaves_fewer}
 
 module _ (heap : Heap) (state : State) (book : Book) (rule : Rule heap state book) (sweeps : state.collector.phase % cycle_phases ≡ sweep_phase) (group dead : ℕ) where
   -- nothing is copied or returned where the sweep goes on in its group
@@ -34,7 +34,7 @@ module _ (heap : Heap) (state : State) (book : Book) (rule : Rule heap state boo
       → SweepCounts (words_of_object (nodes_in heap book)) book.owner (after_examined heap group dead counted next)
       → StageGoesOn heap state.words book state.collector (at_stage state.collector (after_examined heap group dead counted next))
   spines_on from was before waits counted next counts =
-      quiet_goes_on heap state.words state.words book state.collector (at_stage state.collector (after_examined heap group dead counted next)) refl
+      quiet_stage_goes_on heap state.words state.words book state.collector (at_stage state.collector (after_examined heap group dead counted next)) refl
       record { from_before = λ third. absurd (omega (arith, third, sweeps)); to_before = λ third. absurd (omega (arith, third, sweeps)) }
       (subst IsQuiet (sym was) before) (still_quiet counted next) (λ f waiting. absurd (waits f (subst (λ stage. AwaitsCopy state.collector.phase stage f) was waiting))) counts
       (λ half offset. refl) rule.space.halves.copy
@@ -50,19 +50,19 @@ module _ (heap : Heap) (state : State) (book : Book) (rule : Rule heap state boo
   freed = subst (SweepStands heap book.owner book.colour state.collector.phase) sweeping rule.marks_stand.heap_marks.sweep_stands
 
   told : AreDead book.owner group (dead_bits_of (at heap state.words (Control group)))
-  told = are_dead heap state.words book.owner book.colour group rule.machine.table sweeps.group_within rule.heap_stands.control_words rule.heap_stands.cycle.marks after
+  told = dead_bits_are_dead heap state.words book.owner book.colour group rule.machine.table sweeps.group_within rule.heap_stands.control_words rule.heap_stands.cycle.marks after
 
 pub sweep_keeps : (group : ℕ) → StageKeeps (stages.Sweeping group)
 sweep_keeps group heap state book rule sweeping machine =
     let bits : ℕ = dead_bits_of (at heap state.words (Control group)) in
     let for_sweep = (sweeps heap state book rule group sweeping).for_sweep in
     let told = told heap state book rule group sweeping in
-    load_turns_on heap state book rule (stages.Sweeping group) (after_examined heap group bits 0 (next_place_of bits 0)) sweeping (Control group) machine
-    (examined_further heap state.words book.owner book.colour book.fragments state.collector.phase for_sweep (after heap state book rule group sweeping)
-    group bits (dead_few (at heap state.words (Control group))) (freed heap state book rule group sweeping) told 0 (next_place_of bits 0))
+    keeps_rule_by_load_on heap state book rule (stages.Sweeping group) (after_examined heap group bits 0 (next_place_of bits 0)) sweeping (Control group) machine
+    (marking_stands_after_examined heap state.words book.owner book.colour book.fragments state.collector.phase for_sweep (after heap state book rule group sweeping)
+    group bits (dead_bits_within_group (at heap state.words (Control group))) (freed heap state book rule group sweeping) told 0 (next_place_of bits 0))
     (λ e. e)
     (spines_on heap state book rule for_sweep group bits (stages.Sweeping group) sweeping tt (λ f waits. waits) 0 (next_place_of bits 0)
-    (counts_on heap (words_of_object (nodes_in heap book)) book.owner group bits told 0 0 (sym (sum_upto-none _)) (omega arith) (next_place_of bits 0) refl))
+    (sweep_counts_after_examined heap (words_of_object (nodes_in heap book)) book.owner group bits told 0 0 (sym (sum_upto-none _)) (omega arith) (next_place_of bits 0) refl))
 
 module _ (heap : Heap) (state : State) (book : Book) (rule : Rule heap state book) (group dead place counted : ℕ) (examining : state.collector.stage ≡ stages.Examining group dead place counted) where
   examines : IsExamining heap state.collector.phase state.collector.looked group dead place counted
@@ -87,7 +87,7 @@ module _ (heap : Heap) (state : State) (book : Book) (rule : Rule heap state boo
   -- the word that it finds tells the words of the array that begins there, if one does
   tells : spine_words_in word ≡ dead_weight words (book.owner f)
   tells =
-      let is = is_dead (book.owner f) (sym (seen.1 place examines.place_within) ∙ examines.is_dead) in
+      let is = dead_bit_is_dead (book.owner f) (sym (seen.1 place examines.place_within) ∙ examines.is_dead) in
       (rule.heap_stands.spines.tells f is.0 is.1 is.2).1.told ∙ ap (dead_weight words) (sym is.2)
 
   counts_more : counted + spine_words_in word ≡ sum_upto (place + 1) (at_place heap words book.owner group dead seen.1)
@@ -101,30 +101,30 @@ examine_keeps group dead place counted heap state book rule examining machine =
     let told = seen heap state book rule group dead place counted examining in
     let more : ℕ = counted + spine_words_in (at heap state.words (Word (16 * group + place) 0)) in
     let next : Option ℕ = next_place_of dead (place + 1) in
-    load_turns_on heap state book rule (stages.Examining group dead place counted) (after_examined heap group dead more next) examining (Word (16 * group + place) 0) machine
-    (examined_further heap state.words book.owner book.colour book.fragments state.collector.phase fits.sweeps.for_sweep
+    keeps_rule_by_load_on heap state book rule (stages.Examining group dead place counted) (after_examined heap group dead more next) examining (Word (16 * group + place) 0) machine
+    (marking_stands_after_examined heap state.words book.owner book.colour book.fragments state.collector.phase fits.sweeps.for_sweep
     (rule.marks_stand.heap_marks.after (inr (inr fits.sweeps.for_sweep))) group dead fits.dead_within told.0 told.1 more next)
     (λ e. e)
     (spines_on heap state book rule fits.sweeps.for_sweep group dead (stages.Examining group dead place counted) examining tt (λ f waits. waits) more next
-    (counts_on heap (words_of_object (nodes_in heap book)) book.owner group dead told.1 more (place + 1) (counts_more heap state book rule group dead place counted examining) (omega (arith, fits.place_within)) next refl))
+    (sweep_counts_after_examined heap (words_of_object (nodes_in heap book)) book.owner group dead told.1 more (place + 1) (counts_more heap state book rule group dead place counted examining) (omega (arith, fits.place_within)) next refl))
 
 -- all that is asked of it
-pub sweep_kind : (group : ℕ) → TurnKind (stages.Sweeping group)
-sweep_kind group = load_kind (stages.Sweeping group) (λ heap collector. record { adds_none = refl; steps = λ word. refl; loaded = λ word. refl; beside = tt }) record {
+pub turn_kind_of_sweeping : (group : ℕ) → TurnKind (stages.Sweeping group)
+turn_kind_of_sweeping group = turn_kind_of_load (stages.Sweeping group) (λ heap collector. record { adds_none = refl; steps = λ word. refl; loaded = λ word. refl; beside = tt }) record {
   keeps = sweep_keeps group;
-  fewer = λ few. sweep_leaves group;
+  fewer = λ few. sweep_leaves_fewer group;
   inside = λ heap state book rule cycle is.
       let dead : ℕ = dead_bits_of (at heap state.words (Control group)) in
-      examined_inside heap state book rule cycle group dead 0 (next_place_of dead 0);
+      inside_after_examined heap state book rule cycle group dead 0 (next_place_of dead 0);
   all = λ heap phase looked fits. fits.all;
 }
 
 -- all that is asked of it
-pub examine_kind : (group : ℕ) (dead : ℕ) (place : ℕ) (counted : ℕ) → TurnKind (stages.Examining group dead place counted)
-examine_kind group dead place counted = load_kind (stages.Examining group dead place counted) (λ heap collector. record { adds_none = refl; steps = λ word. refl; loaded = λ word. refl; beside = tt }) record {
+pub turn_kind_of_examining : (group : ℕ) (dead : ℕ) (place : ℕ) (counted : ℕ) → TurnKind (stages.Examining group dead place counted)
+turn_kind_of_examining group dead place counted = turn_kind_of_load (stages.Examining group dead place counted) (λ heap collector. record { adds_none = refl; steps = λ word. refl; loaded = λ word. refl; beside = tt }) record {
   keeps = examine_keeps group dead place counted;
-  fewer = λ few. examine_leaves group dead place counted;
+  fewer = λ few. examine_leaves_fewer group dead place counted;
   inside = λ heap state book rule cycle is.
-      examined_inside heap state book rule cycle group dead (counted + spine_words_in (at heap state.words (Word (16 * group + place) 0))) (next_place_of dead (place + 1));
+      inside_after_examined heap state book rule cycle group dead (counted + spine_words_in (at heap state.words (Word (16 * group + place) 0))) (next_place_of dead (place + 1));
   all = λ heap phase looked fits. fits.sweeps.all;
 }

@@ -6,13 +6,13 @@ use Rattle.core_machine.specs.collector.Copying.{marked_bits_of, after_visit}
 use Rattle.core_machine.specs.declared.collector.stage.Copying.TheVariants.{Visiting}
 use Rattle.core_machine.specs.declared.collector.stage.Stage.TheVariants as stages
 use Rattle.core_machine.specs.declared.collector.stage.Visit.{Visit}
-use Rattle.core_rule.proofs.copies.CopyingStages.{LeadsTo, copying_loads, fits_from, after_marking}
-use Rattle.core_rule.proofs.copies.Visits.{has_bit, are_marked}
-use Rattle.core_rule.proofs.copies.VisitsOn.{ArraysOr, arrays_from, leads_seen, kept_marked}
+use Rattle.core_rule.proofs.copies.CopyingStages.{LeadsTo, keeps_rule_by_copying_load, fits_copying_from, copying_is_after_marking}
+use Rattle.core_rule.proofs.copies.Visits.{marked_has_visit_bit, visit_bits_are_marked}
+use Rattle.core_rule.proofs.copies.VisitsOn.{ArraysOr, arrays_await_visit, leads_to_seen_stage, kept_is_marked}
 use Rattle.core_rule.proofs.steps.TurnSteps.{StageKeeps}
-use Rattle.core_rule.proofs.steps.TurnKinds.{TurnKind, load_kind, Inside}
-use Rattle.core_rule.proofs.turns.CopyTurns.{copy_turn_leaves, visiting_leaves}
-use Rattle.core_rule.proofs.turns.WorkCases.{seen_on}
+use Rattle.core_rule.proofs.steps.TurnKinds.{TurnKind, turn_kind_of_load, Inside}
+use Rattle.core_rule.proofs.turns.CopyTurns.{copy_turn_leaves_fewer, visiting_leaves_fewer}
+use Rattle.core_rule.proofs.turns.WorkCases.{after_seen_cases}
 
 module _ (heap : Heap) (state : State) (book : Book) (rule : Rule heap state book) (group : ℕ) (visiting : state.collector.stage ≡ stages.Copying (Visiting group)) where
   abbrev begun : Visit
@@ -23,7 +23,7 @@ module _ (heap : Heap) (state : State) (book : Book) (rule : Rule heap state boo
 
   -- an array that was to be visited has its bit where its group's turn has come
   to_visit : ArraysOr heap state book rule (IsToVisit begun)
-  to_visit i below kept an_array = elim (arrays_from heap state book rule (Visiting group) visiting i below kept an_array) [
+  to_visit i below kept an_array = elim (arrays_await_visit heap state book rule (Visiting group) visiting i below kept an_array) [
     | inl here ↦ inl here
     | inr waits ↦ inr (by waits)
   ]
@@ -34,24 +34,24 @@ module _ (heap : Heap) (state : State) (book : Book) (rule : Rule heap state boo
         | inr here ↦ let same : group ≡ head i / 16 = omega (arith, waits, here) in inr (
           same,
           omega arith,
-          has_bit heap state.words book.colour group rule.machine.table (fits_from heap state book rule (Visiting group) visiting) rule.heap_stands.cycle.marks (head i) (sym same)
-              (kept_marked book.owner book.colour (after_marking heap state book rule (Visiting group) visiting) (head i) i 0 kept),
+          marked_has_visit_bit heap state.words book.colour group rule.machine.table (fits_copying_from heap state book rule (Visiting group) visiting) rule.heap_stands.cycle.marks (head i) (sym same)
+              (kept_is_marked book.owner book.colour (copying_is_after_marking heap state book rule (Visiting group) visiting) (head i) i 0 kept),
         )
       ]
 
   visit_leads : LeadsTo heap state book (after_visit heap group (at heap state.words (Control group)))
-  visit_leads = leads_seen heap state book rule (Visiting group) visiting record { of_copying = tt; few = tt; none = refl; no_words = refl } begun
-      (are_marked heap state.words book.colour group rule.machine.table (fits_from heap state book rule (Visiting group) visiting) rule.heap_stands.cycle.marks 0) to_visit
+  visit_leads = leads_to_seen_stage heap state book rule (Visiting group) visiting record { of_copying = tt; few = tt; none = refl; no_words = refl } begun
+      (visit_bits_are_marked heap state.words book.colour group rule.machine.table (fits_copying_from heap state book rule (Visiting group) visiting) rule.heap_stands.cycle.marks 0) to_visit
 
 pub visit_keeps : (group : ℕ) → StageKeeps (stages.Copying (Visiting group))
 visit_keeps group heap state book rule visiting machine =
-    copying_loads heap state book rule (Visiting group) visiting (after_visit heap group (at heap state.words (Control group))) (visit_leads heap state book rule group visiting) (Control group) machine
+    keeps_rule_by_copying_load heap state book rule (Visiting group) visiting (after_visit heap group (at heap state.words (Control group))) (visit_leads heap state book rule group visiting) (Control group) machine
 
 -- all that is asked of it
-pub visit_kind : (group : ℕ) → TurnKind (stages.Copying (Visiting group))
-visit_kind group = load_kind (stages.Copying (Visiting group)) (λ heap collector. record { adds_none = refl; steps = λ word. refl; loaded = λ word. refl; beside = tt }) record {
+pub turn_kind_of_copy_visiting : (group : ℕ) → TurnKind (stages.Copying (Visiting group))
+turn_kind_of_copy_visiting group = turn_kind_of_load (stages.Copying (Visiting group)) (λ heap collector. record { adds_none = refl; steps = λ word. refl; loaded = λ word. refl; beside = tt }) record {
   keeps = visit_keeps group;
-  fewer = copy_turn_leaves (Visiting group) (visiting_leaves group);
-  inside = λ heap state book rule cycle is. seen_on (Inside heap state book rule cycle) (λ stage. tt) tt heap _ _ _;
+  fewer = copy_turn_leaves_fewer (Visiting group) (visiting_leaves_fewer group);
+  inside = λ heap state book rule cycle is. after_seen_cases (Inside heap state book rule cycle) (λ stage. tt) tt heap _ _ _;
   all = λ heap phase looked fits. fits.0.all;
 }

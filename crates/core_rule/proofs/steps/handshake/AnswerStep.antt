@@ -14,26 +14,26 @@ use Rattle.core_machine.specs.seat.Looks.{forgotten}
 use Rattle.core_machine.specs.Move.{plain_move}
 use Rattle.core_machine.specs.declared.step.Step.TheVariants as steps
 use Rattle.core_machine.specs.declared.step.HandshakeStep.TheVariants.{AnswerStore}
-use Rattle.core_rule.proofs.spines.OtherWords.{spines_left_answer}
-use Rattle.core_rule.proofs.entries.AnswerEntries.{graph_reply, accepts_reply, keeps_reply}
-use Rattle.core_rule.proofs.book.BookGoing.{book_stays}
-use Rattle.core_rule.proofs.steps.Assemble.{seat_steps, step_space, MoveKeeps, StepKeeps}
-use Rattle.core_rule.proofs.entries.PhasesTold.{answers_by}
-use Rattle.core_rule.proofs.entries.AtRest.{spent_own, few_own}
-use Rattle.core_rule.proofs.cycle.CycleHistory.{cycle_own}
-use Rattle.core_rule.proofs.hand.Bodies.{bare_hand}
-use Rattle.core_rule.proofs.hand.EmptyHand.{gathers_none}
-use Rattle.core_rule.proofs.entries.InFlight.{began_idle, began_past}
-use Rattle.core_rule.proofs.entries.Others.{of_other}
-use Rattle.core_rule.proofs.entries.OwnEntries.{own_grows, counts_own}
-use Rattle.core_rule.proofs.entries.PhaseEntries.{no_leave_told}
-use Rattle.core_rule.proofs.frames.Replying.{heap_told, other_told, grants_told}
-use Rattle.core_rule.proofs.graph.SameNodes.{SameNodes, nodes_same}
+use Rattle.core_rule.proofs.spines.OtherWords.{leaves_spines_after_answer}
+use Rattle.core_rule.proofs.entries.AnswerEntries.{graph_same_after_reply, accepts_reply, keeps_space_of_reply}
+use Rattle.core_rule.proofs.book.BookGoing.{book_goes_on_with_history}
+use Rattle.core_rule.proofs.steps.Assemble.{keeps_rule_after_step, space_stands_after_step, MoveKeeps, StepKeeps}
+use Rattle.core_rule.proofs.entries.PhasesTold.{command_polls_or_collects}
+use Rattle.core_rule.proofs.entries.AtRest.{spent_within_taken, taken_is_few_unspent}
+use Rattle.core_rule.proofs.cycle.CycleHistory.{seat_in_cycle_after_own}
+use Rattle.core_rule.proofs.hand.Bodies.{bare_seat_holds_reserve}
+use Rattle.core_rule.proofs.hand.EmptyHand.{gathers_right_unbegun}
+use Rattle.core_rule.proofs.entries.InFlight.{began_idle_after_reply, began_after_entry}
+use Rattle.core_rule.proofs.entries.Others.{seat_is_not_other}
+use Rattle.core_rule.proofs.entries.OwnEntries.{own_list_grows, counts_agree_after_own}
+use Rattle.core_rule.proofs.entries.PhaseEntries.{reply_is_no_leave}
+use Rattle.core_rule.proofs.frames.Replying.{heap_stands_after_reply, other_seat_stands_after_reply, same_grants_after_reply}
+use Rattle.core_rule.proofs.graph.SameNodes.{SameNodes, same_nodes_of_equal}
 use Rattle.core_rule.proofs.frames.SeatFrames.{with_entry}
-use Rattle.core_rule.proofs.budgets.BudgetFrames.{grants_on}
-use Rattle.core_rule.proofs.budgets.NoneMade.{none_weights}
-use Rattle.core_rule.proofs.steps.StepKinds.{StepKind, beside, shows_answer, answer_follows, answer_goes, from_usual, over_usual, plain_words}
-use Rattle.core_rule.proofs.steps.handshake.AnswerParts.{stands, rest, answers, asks, present, small, own, graph, next, heap_middle, makes, grants_middle, own_cycle, own_part, holds, mine_middle, other_middle, marks_on}
+use Rattle.core_rule.proofs.budgets.BudgetFrames.{same_grants_twice}
+use Rattle.core_rule.proofs.budgets.NoneMade.{same_weights_where_none_made}
+use Rattle.core_rule.proofs.steps.StepKinds.{StepKind, beside, shows_answer, looks_follow_answer, looks_go_at_answer, comes_from_usual, polling_over_is_usual, on_words_of_plain_step}
+use Rattle.core_rule.proofs.steps.handshake.AnswerParts.{answering_seat_stands, answering_is_at_rest, seat_is_answering, asks_near_phase, answering_has_not_left, seat_number_is_small, answer_is_own_entry, middle_graph_is_same, asked_is_next_answer, heap_stands_in_middle, answering_makes_none, same_grants_in_middle, seat_in_cycle_after_answer, own_stands_after_answer, answering_registers_hold_values, own_list_in_middle, other_seat_stands_in_middle, marks_go_on_after_answer}
 
 -- the answer of a call of this command
 abbrev answering : ℕ → Seat → Command → Move
@@ -68,24 +68,24 @@ module _ (heap : Heap) (state : State) (book : Book) (number : ℕ) (rule : Rule
   collect_kept : MoveKeeps heap state book number (answering number seat commands.Collect)
   collect_kept machine =
       let now : Seat = ended seat.looks (first ∷ []) in
-      seat_steps heap state book number words now middle (first ∷ []) rule here machine refl refl (heap_middle heap state book number rule here place)
+      keeps_rule_after_step heap state book number words now middle (first ∷ []) rule here machine refl refl (heap_stands_in_middle heap state book number rule here place)
       record {
-        own = (own_part heap state book number rule here place) seat.looks (first ∷ []);
-        names = record { registers = rw (graph heap state book number rule here place) (λ i awake. (holds heap state book number rule here place) i); way = tt; address = tt };
+        own = (own_stands_after_answer heap state book number rule here place) seat.looks (first ∷ []);
+        names = record { registers = rw (middle_graph_is_same heap state book number rule here place) (λ i awake. (answering_registers_hold_values heap state book number rule here place) i); way = tt; address = tt };
         told = record {
-          list = record { awaited = []; own = append-nil now.mine ∙ (mine_middle heap state book number rule here place); awaits = refl };
-          counts = counts_own g (graph_of heap middle.history) book.history number seat now (stands heap state book number rule here place).told.counts first (own heap state book number rule here place)
-              (rw (graph heap state book number rule here place) (stands heap state book number rule here place).told.counts.numbered) (rw (graph heap state book number rule here place) (stands heap state book number rule here place).told.counts.stamped) (rw (graph heap state book number rule here place) (stands heap state book number rule here place).told.counts.leaves)
-              (omega (arith, bare_hand seat.reserve seat.hand seat.body (spent_of number book.history) (taken_of number book.history) (rest heap state book number rule here place).empty_hand (rest heap state book number rule here place).no_body (stands heap state book number rule here place).told.counts.unborn, (stands heap state book number rule here place).told.counts.unborn));
-          began = began_idle book.history first number (book.begun number) seat.place (stands heap state book number rule here place).told.began;
-          gathers = gathers_none heap book.owner number (drop (book.begun number) middle.history) now.cursor 0 0 refl refl;
+          list = record { awaited = []; own = append-nil now.mine ∙ (own_list_in_middle heap state book number rule here place); awaits = refl };
+          counts = counts_agree_after_own g (graph_of heap middle.history) book.history number seat now (answering_seat_stands heap state book number rule here place).told.counts first (answer_is_own_entry heap state book number rule here place)
+              (rw (middle_graph_is_same heap state book number rule here place) (answering_seat_stands heap state book number rule here place).told.counts.numbered) (rw (middle_graph_is_same heap state book number rule here place) (answering_seat_stands heap state book number rule here place).told.counts.stamped) (rw (middle_graph_is_same heap state book number rule here place) (answering_seat_stands heap state book number rule here place).told.counts.leaves)
+              (omega (arith, bare_seat_holds_reserve seat.reserve seat.hand seat.body (spent_of number book.history) (taken_of number book.history) (answering_is_at_rest heap state book number rule here place).empty_hand (answering_is_at_rest heap state book number rule here place).no_body (answering_seat_stands heap state book number rule here place).told.counts.unborn, (answering_seat_stands heap state book number rule here place).told.counts.unborn));
+          began = began_idle_after_reply book.history first number (book.begun number) seat.place (answering_seat_stands heap state book number rule here place).told.began;
+          gathers = gathers_right_unbegun heap book.owner number (drop (book.begun number) middle.history) now.cursor 0 0 refl refl;
           used = tt;
         };
-        cycle = (own_cycle heap state book number rule here place) seat.looks (first ∷ []);
+        cycle = (seat_in_cycle_after_answer heap state book number rule here place) seat.looks (first ∷ []);
       }
-      (other_middle heap state book number rule here place) ((marks_on heap state book number rule here place) middle.history seat.looks (first ∷ []))
-      (step_space heap state book number rule here words now middle (spines_left_answer heap state.words p number (small heap state book number rule here place)) (none_weights seat now (makes heap state book number rule here place) tt) (grants_middle heap state book number rule here place) (λ f dark. dark))
-      (book_stays heap state book middle.history book.begun)
+      (other_seat_stands_in_middle heap state book number rule here place) ((marks_go_on_after_answer heap state book number rule here place) middle.history seat.looks (first ∷ []))
+      (space_stands_after_step heap state book number rule here words now middle (leaves_spines_after_answer heap state.words p number (seat_number_is_small heap state book number rule here place)) (same_weights_where_none_made seat now (answering_makes_none heap state book number rule here place) tt) (same_grants_in_middle heap state book number rule here place) (λ f dark. dark))
+      (book_goes_on_with_history heap state book middle.history book.begun)
 
   -- and that of a poll with its reply
   abbrev second : Entry
@@ -98,56 +98,56 @@ module _ (heap : Heap) (state : State) (book : Book) (number : ℕ) (rule : Rule
   now = ended (forgotten seat.looks) (first ∷ second ∷ [])
 
   graph_then : graph_of heap later.history ≡ graph_of heap middle.history
-  graph_then = graph_reply heap book number p commands.Poll refl
+  graph_then = graph_same_after_reply heap book number p commands.Poll refl
 
   nodes_then : SameNodes (graph_of heap middle.history) (graph_of heap later.history)
-  nodes_then = nodes_same (graph_of heap middle.history) (graph_of heap later.history) graph_then
+  nodes_then = same_nodes_of_equal (graph_of heap middle.history) (graph_of heap later.history) graph_then
 
   heap_later : HeapStands heap words later
   heap_later =
-      heap_told heap words middle second refl nodes_then (accepts_reply heap book number p commands.Poll refl (present heap state book number rule here place))
-      (keeps_reply heap book number p commands.Poll refl (asks heap state book number rule here place).now (next heap state book number rule here place) (spent_own heap state book number rule here (rest heap state book number rule here place)) (few_own heap state book number rule here (rest heap state book number rule here place))) (heap_middle heap state book number rule here place)
+      heap_stands_after_reply heap words middle second refl nodes_then (accepts_reply heap book number p commands.Poll refl (answering_has_not_left heap state book number rule here place))
+      (keeps_space_of_reply heap book number p commands.Poll refl (asks_near_phase heap state book number rule here place).now (asked_is_next_answer heap state book number rule here place) (spent_within_taken heap state book number rule here (answering_is_at_rest heap state book number rule here place)) (taken_is_few_unspent heap state book number rule here (answering_is_at_rest heap state book number rule here place))) (heap_stands_in_middle heap state book number rule here place)
 
   own_stands : SeatStands heap words later number now
   own_stands =
       let counts_middle : CountsAgree (graph_of heap middle.history) middle.history number seat
-      = counts_own g (graph_of heap middle.history) book.history number seat seat (stands heap state book number rule here place).told.counts first (own heap state book number rule here place)
-      (rw (graph heap state book number rule here place) (stands heap state book number rule here place).told.counts.numbered) (rw (graph heap state book number rule here place) (stands heap state book number rule here place).told.counts.stamped) (rw (graph heap state book number rule here place) (stands heap state book number rule here place).told.counts.leaves) (omega arith) in
+      = counts_agree_after_own g (graph_of heap middle.history) book.history number seat seat (answering_seat_stands heap state book number rule here place).told.counts first (answer_is_own_entry heap state book number rule here place)
+      (rw (middle_graph_is_same heap state book number rule here place) (answering_seat_stands heap state book number rule here place).told.counts.numbered) (rw (middle_graph_is_same heap state book number rule here place) (answering_seat_stands heap state book number rule here place).told.counts.stamped) (rw (middle_graph_is_same heap state book number rule here place) (answering_seat_stands heap state book number rule here place).told.counts.leaves) (omega arith) in
       record {
-        own = (own_part heap state book number rule here place) (forgotten seat.looks) (first ∷ second ∷ []);
-        names = record { registers = rw (graph_then ∙ (graph heap state book number rule here place)) (λ i awake. (holds heap state book number rule here place) i); way = tt; address = tt };
+        own = (own_stands_after_answer heap state book number rule here place) (forgotten seat.looks) (first ∷ second ∷ []);
+        names = record { registers = rw (graph_then ∙ (middle_graph_is_same heap state book number rule here place)) (λ i awake. (answering_registers_hold_values heap state book number rule here place) i); way = tt; address = tt };
         told = record {
           list = record {
             awaited = [];
             own = append-nil now.mine ∙ sym (append_assoc seat.mine (first ∷ []) (second ∷ []))
-                ∙ own_grows number middle.history (seat.mine ++ first ∷ []) second (own heap state book number rule here place) (mine_middle heap state book number rule here place);
+                ∙ own_list_grows number middle.history (seat.mine ++ first ∷ []) second (answer_is_own_entry heap state book number rule here place) (own_list_in_middle heap state book number rule here place);
             awaits = refl;
           };
-          counts = counts_own (graph_of heap middle.history) (graph_of heap later.history) middle.history number seat now counts_middle second (own heap state book number rule here place)
+          counts = counts_agree_after_own (graph_of heap middle.history) (graph_of heap later.history) middle.history number seat now counts_middle second (answer_is_own_entry heap state book number rule here place)
               (rw graph_then counts_middle.numbered) (rw graph_then counts_middle.stamped) (rw graph_then counts_middle.leaves)
-              (omega (arith, bare_hand seat.reserve seat.hand seat.body (spent_of number middle.history) (taken_of number middle.history) (rest heap state book number rule here place).empty_hand (rest heap state book number rule here place).no_body counts_middle.unborn));
-          began = began_idle middle.history second number (book.begun number) seat.place (began_past book.history first number (book.begun number) seat.place seat.place refl (λ busy. busy) (stands heap state book number rule here place).told.began);
-          gathers = gathers_none heap book.owner number (drop (book.begun number) later.history) now.cursor 0 0 refl refl;
+              (omega (arith, bare_seat_holds_reserve seat.reserve seat.hand seat.body (spent_of number middle.history) (taken_of number middle.history) (answering_is_at_rest heap state book number rule here place).empty_hand (answering_is_at_rest heap state book number rule here place).no_body counts_middle.unborn));
+          began = began_idle_after_reply middle.history second number (book.begun number) seat.place (began_after_entry book.history first number (book.begun number) seat.place seat.place refl (λ busy. busy) (answering_seat_stands heap state book number rule here place).told.began);
+          gathers = gathers_right_unbegun heap book.owner number (drop (book.begun number) later.history) now.cursor 0 0 refl refl;
           used = tt;
         };
-        cycle = cycle_own heap words book.owner book.colour middle.history second refl number now ((own_cycle heap state book number rule here place) (forgotten seat.looks) (first ∷ second ∷ [])) refl
-            (no_leave_told number number commands.Poll (replies.Phase p) (λ leaves. cc leaves));
+        cycle = seat_in_cycle_after_own heap words book.owner book.colour middle.history second refl number now ((seat_in_cycle_after_answer heap state book number rule here place) (forgotten seat.looks) (first ∷ second ∷ [])) refl
+            (reply_is_no_leave number number commands.Poll (replies.Phase p) (λ leaves. cc leaves));
       }
 
   other_stands : (r : ℕ) → r < heap.seats → r ≢ number → SeatStands heap state.words book r (seat_at state r) → SeatStands heap words later r (seat_at state r)
   other_stands r below apart other =
-      other_told heap words middle second refl nodes_then r (seat_at state r) (of_other number r apart) (ap (λ (x : Graph). graph_seat x r) graph_then) ((other_middle heap state book number rule here place) r below apart other)
+      other_seat_stands_after_reply heap words middle second refl nodes_then r (seat_at state r) (seat_is_not_other number r apart) (ap (λ (x : Graph). graph_seat x r) graph_then) ((other_seat_stands_in_middle heap state book number rule here place) r below apart other)
 
   poll_kept : MoveKeeps heap state book number (answering number seat commands.Poll)
-  poll_kept machine = seat_steps heap state book number words now later (first ∷ second ∷ []) rule here machine (append_assoc book.history (first ∷ []) (second ∷ [])) refl heap_later own_stands other_stands
-      ((marks_on heap state book number rule here place) later.history (forgotten seat.looks) (first ∷ second ∷ []))
-      (step_space heap state book number rule here words now later (spines_left_answer heap state.words p number (small heap state book number rule here place)) (none_weights seat now (makes heap state book number rule here place) tt)
-      (grants_on heap book middle later (grants_middle heap state book number rule here place) (grants_told heap words middle second refl nodes_then refl)) (λ f dark. dark))
-      (book_stays heap state book later.history book.begun)
+  poll_kept machine = keeps_rule_after_step heap state book number words now later (first ∷ second ∷ []) rule here machine (append_assoc book.history (first ∷ []) (second ∷ [])) refl heap_later own_stands other_stands
+      ((marks_go_on_after_answer heap state book number rule here place) later.history (forgotten seat.looks) (first ∷ second ∷ []))
+      (space_stands_after_step heap state book number rule here words now later (leaves_spines_after_answer heap state.words p number (seat_number_is_small heap state book number rule here place)) (same_weights_where_none_made seat now (answering_makes_none heap state book number rule here place) tt)
+      (same_grants_twice heap book middle later (same_grants_in_middle heap state book number rule here place) (same_grants_after_reply heap words middle second refl nodes_then refl)) (λ f dark. dark))
+      (book_goes_on_with_history heap state book later.history book.begun)
 
   -- so each answer keeps the rule
   pub answer_kept : MoveKeeps heap state book number (answer_move number seat)
-  answer_kept = elim (answers_by seat.command (answers heap state book number rule here place).0.polls) as (λ _. MoveKeeps heap state book number (answer_move number seat)) [
+  answer_kept = elim (command_polls_or_collects seat.command (seat_is_answering heap state book number rule here place).0.polls) as (λ _. MoveKeeps heap state book number (answer_move number seat)) [
     | inl polls ↦ subst (λ c. MoveKeeps heap state book number (answering number seat c)) (sym polls) poll_kept
     | inr collects ↦ subst (λ c. MoveKeeps heap state book number (answering number seat c)) (sym collects) collect_kept
   ]
@@ -156,17 +156,17 @@ pub answer_keeps : StepKeeps (places.Polling Answering) (λ heap. answer_move)
 answer_keeps heap state book number rule here place = answer_kept heap state book number rule here place
 
 -- all that is asked of it
-pub answer_kind : StepKind (places.Polling Answering)
-answer_kind = record {
+pub step_kind_of_answering : StepKind (places.Polling Answering)
+step_kind_of_answering = record {
   keeps = λ heap state book number rule here looks. answer_keeps heap state book number rule here;
   shows = λ heap state number. shows_answer refl;
   looks = record {
-    follows = λ heap state number seat compares placed. answer_follows heap state number seat _ tt seat.asked;
-    goes = λ heap state book rule number placed. answer_goes heap state book rule number (seat_at state number).command _ _ _ (λ named. cc (placed, named));
+    follows = λ heap state number seat compares placed. looks_follow_answer heap state number seat _ tt seat.asked;
+    goes = λ heap state book rule number placed. looks_go_at_answer heap state book rule number (seat_at state number).command _ _ _ (λ named. cc (placed, named));
     comes = λ heap number seat found placed.
-        from_usual _ (polling_over seat.command (record seat { answered = seat.asked })).place (over_usual seat.command (record seat { answered = seat.asked }));
+        comes_from_usual _ (polling_over seat.command (record seat { answered = seat.asked })).place (polling_over_is_usual seat.command (record seat { answered = seat.asked }));
   };
-  words = plain_words (places.Polling Answering) (λ heap. answer_move) (λ heap number seat. refl) (λ heap number seat is. is) (λ heap number seat low. low)
+  words = on_words_of_plain_step (places.Polling Answering) (λ heap. answer_move) (λ heap number seat. refl) (λ heap number seat is. is) (λ heap number seat low. low)
       (λ heap state book rule number here. beside (λ g below e. omega (arith, e, here, rule.machine.limits.seats_fit)));
   found = λ heap state book number stands here placed. tt;
 }

@@ -8,23 +8,23 @@ use Rattle.core_machine.specs.declared.place.Leaving.TheVariants.{Emptying}
 use Rattle.core_machine.specs.declared.place.Place.TheVariants as places
 use Rattle.core_machine.specs.seat.HandshakeMoves.{empty_move}
 use Rattle.core_machine.specs.Moves.{seat_after}
-use Rattle.core_rule.proofs.book.BookGoing.{owners_go}
-use Rattle.core_rule.proofs.book.OwnersGo.{give_goes}
-use Rattle.core_rule.proofs.frames.SeatFrames.{registers_owners}
-use Rattle.core_rule.proofs.steps.Assemble.{seat_steps, step_space, StepKeeps}
-use Rattle.core_rule.proofs.entries.AtRest.{seat_fits, in_flight, own_reserve, none_awaited}
-use Rattle.core_rule.proofs.hand.EmptyHand.{nothing_together, gathers_none}
-use Rattle.core_rule.proofs.frames.GivingBack.{words_given, book_given, graph_given, kept_given, leaves_spines, grants_given, heap_given, cycle_given, other_given, marks_given}
-use Rattle.core_rule.proofs.entries.InFlight.{began_past}
-use Rattle.core_rule.proofs.entries.OwnEntries.{counts_own, own_grows}
-use Rattle.core_rule.proofs.hand.ReserveGiven.{reserve_held, reserve_once, holding_emptied, emptied_bits}
-use Rattle.core_rule.proofs.entries.SeatLists.{whole_list, all_told}
-use Rattle.core_rule.proofs.hand.StoredFrames.{stored_control}
-use Rattle.core_rule.proofs.budgets.NoneMade.{MakesNone, none_has_place, none_weights}
-use Rattle.core_rule.proofs.spines.SpineFrames.{spine_away}
-use Rattle.core_rule.proofs.steps.StepKinds.{StepKind, spares, shows_one, gives, on_its_way, plain_words, born_bits}
-use Rattle.core_rule.proofs.words.WordBits.{untaken_born}
-use Rattle.core_machine.proofs.table_lemmas.Masks.{mask-lt}
+use Rattle.core_rule.proofs.book.BookGoing.{book_goes_on_with_owners}
+use Rattle.core_rule.proofs.book.OwnersGo.{owners_go_on_by_giving}
+use Rattle.core_rule.proofs.frames.SeatFrames.{registers_stay_with_owners}
+use Rattle.core_rule.proofs.steps.Assemble.{keeps_rule_after_step, space_stands_after_step, StepKeeps}
+use Rattle.core_rule.proofs.entries.AtRest.{seat_fits, in_flight_has_not_left, reserve_and_spent_is_taken, place_awaits_none}
+use Rattle.core_rule.proofs.hand.EmptyHand.{together_where_empty, gathers_right_unbegun}
+use Rattle.core_rule.proofs.frames.GivingBack.{words_given, book_given, graph_same_after_giving, same_kept_after_giving, leaves_spines_after_giving, same_grants_after_giving, heap_stands_after_giving, seat_in_cycle_after_giving, other_seat_stands_after_giving, marks_go_on_after_giving}
+use Rattle.core_rule.proofs.entries.InFlight.{began_after_entry}
+use Rattle.core_rule.proofs.entries.OwnEntries.{counts_agree_after_own, own_list_grows}
+use Rattle.core_rule.proofs.hand.ReserveGiven.{reserve_fragment_is_taken, reserve_has_each_once, holding_after_emptying, bits_after_emptying}
+use Rattle.core_rule.proofs.entries.SeatLists.{own_list_where_all_told, own_list_is_all_told}
+use Rattle.core_rule.proofs.hand.StoredFrames.{is_stored_after_control}
+use Rattle.core_rule.proofs.budgets.NoneMade.{MakesNone, no_place_where_none_made, same_weights_where_none_made}
+use Rattle.core_rule.proofs.spines.SpineFrames.{spine_in_hand_away}
+use Rattle.core_rule.proofs.steps.StepKinds.{StepKind, spares, shows_one, gives, on_looks_of_way, on_words_of_plain_step, born_bits_stay}
+use Rattle.core_rule.proofs.words.WordBits.{giving_keeps_born_bits}
+use Rattle.core_machine.proofs.table_lemmas.Masks.{mask_is_small}
 
 -- the give back keeps the rule
 pub empty_keeps : StepKeeps (places.Leaving Emptying) (λ heap. empty_move)
@@ -37,63 +37,63 @@ empty_keeps heap state book number rule here place machine =
     let g : Graph = graph_of heap book.history in
     let at_place : IsAtRest seat × (seat.command ≡ commands.Leave) × (0 < length seat.reserve) = rw place at (seat_fits rule number here).at_place in
     let rest : IsAtRest seat = at_place.0 in
-    let present : (graph_seat g number).left ≡ false = stands.told.counts.leaves ∙ in_flight rule number here (λ idle. absurd (cc (place, idle))) in
-    let told : seat.mine ≡ filter (is_of number) book.history = all_told stands.told.list (rw place at stands.told.list.awaits) in
+    let present : (graph_seat g number).left ≡ false = stands.told.counts.leaves ∙ in_flight_has_not_left rule number here (λ idle. absurd (cc (place, idle))) in
+    let told : seat.mine ≡ filter (is_of number) book.history = own_list_is_all_told stands.told.list (rw place at stands.told.list.awaits) in
     let below : seat.cursor < heap.groups = (seat_fits rule number here).own.cursor_within in
-    let held = reserve_held book.owner number fs seat.hand seat.body stands.own.holding in
-    let once = reserve_once book.owner number fs seat.hand seat.body stands.own.holding in
-    let graph = graph_given heap state book number rule here seat.cursor fs below held once in
-    let kept = kept_given heap state book number rule here seat.cursor fs below held once in
+    let held = reserve_fragment_is_taken book.owner number fs seat.hand seat.body stands.own.holding in
+    let once = reserve_has_each_once book.owner number fs seat.hand seat.body stands.own.holding in
+    let graph = graph_same_after_giving heap state book number rule here seat.cursor fs below held once in
+    let kept = same_kept_after_giving heap state book number rule here seat.cursor fs below held once in
     let later : Book = book_given heap state book number rule here seat.cursor fs below held once in
-    let own : length fs + spent_of number book.history ≡ taken_of number book.history = own_reserve heap state book number rule here rest in
+    let own : length fs + spent_of number book.history ≡ taken_of number book.history = reserve_and_spent_is_taken heap state book number rule here rest in
     let words : List ℕ = words_given heap state book number rule here seat.cursor fs below held once in
     let makes : MakesNone seat.place = rw place tt in
-    seat_steps heap state book number words now later (entry ∷ []) rule here machine refl refl
-    (heap_given heap state book number rule here seat.cursor fs below held once
-    (emptied_bits book.owner number fs seat.hand seat.body stands.own.holding heap state.words seat.cursor rule.machine.table below (seat_fits rule number here).own.reserve_of_cursor rule.heap_stands.control_words)
+    keeps_rule_after_step heap state book number words now later (entry ∷ []) rule here machine refl refl
+    (heap_stands_after_giving heap state book number rule here seat.cursor fs below held once
+    (bits_after_emptying book.owner number fs seat.hand seat.body stands.own.holding heap state.words seat.cursor rule.machine.table below (seat_fits rule number here).own.reserve_of_cursor rule.heap_stands.control_words)
     present at_place.2 (omega (arith, own)))
     record {
       own = record {
-        holding = holding_emptied book.owner number fs seat.hand seat.body stands.own.holding;
-        stored = stored_control heap state.words number seat seat.cursor _ below stands.own.stored;
-        together = nothing_together heap seat.cursor seat.tried seat.hand seat.body rest.empty_hand rest.no_body;
-        spine = spine_away heap state.words words book.spine_owner number seat now (none_has_place seat seat.place makes) (λ has. has) stands.own.spine;
+        holding = holding_after_emptying book.owner number fs seat.hand seat.body stands.own.holding;
+        stored = is_stored_after_control heap state.words number seat seat.cursor _ below stands.own.stored;
+        together = together_where_empty heap seat.cursor seat.tried seat.hand seat.body rest.empty_hand rest.no_body;
+        spine = spine_in_hand_away heap state.words words book.spine_owner number seat now (no_place_where_none_made seat seat.place makes) (λ has. has) stands.own.spine;
       };
       names = record {
-        registers = rw graph (λ r fresh. registers_owners book.owner later.owner kept book.made book.fragments g number seat.registers seat.place (target_of seat.command) stands.names.registers r
-            (none_awaited seat.place (places.Leaving Emptying) (target_of seat.command) r place (λ none. none)));
+        registers = rw graph (λ r fresh. registers_stay_with_owners book.owner later.owner kept book.made book.fragments g number seat.registers seat.place (target_of seat.command) stands.names.registers r
+            (place_awaits_none seat.place (places.Leaving Emptying) (target_of seat.command) r place (λ none. none)));
         way = tt;
         address = tt;
       };
       told = record {
-        list = whole_list (graph_of heap later.history) later.history book.made later.owner book.fragments number now refl (own_grows number book.history seat.mine entry (eq-eqb number number refl) told);
-        counts = rw graph (counts_own g g book.history number seat now stands.told.counts entry (eq-eqb number number refl)
+        list = own_list_where_all_told (graph_of heap later.history) later.history book.made later.owner book.fragments number now refl (own_list_grows number book.history seat.mine entry (eq-eqb number number refl) told);
+        counts = rw graph (counts_agree_after_own g g book.history number seat now stands.told.counts entry (eq-eqb number number refl)
             stands.told.counts.numbered stands.told.counts.stamped stands.told.counts.leaves (omega arith));
-        began = began_past book.history entry number (book.begun number) seat.place now.place refl (λ still. subst IsAnswered place) stands.told.began;
-        gathers = gathers_none heap later.owner number (drop (book.begun number) later.history) seat.cursor seat.tried seat.given rest.none_tried rest.none_given;
+        began = began_after_entry book.history entry number (book.begun number) seat.place now.place refl (λ still. subst IsAnswered place) stands.told.began;
+        gathers = gathers_right_unbegun heap later.owner number (drop (book.begun number) later.history) seat.cursor seat.tried seat.given rest.none_tried rest.none_given;
         used = tt;
       };
-      cycle = cycle_given heap state book number rule here seat.cursor fs below held once now record { answered = refl; left = refl; asked = refl } tt;
+      cycle = seat_in_cycle_after_giving heap state book number rule here seat.cursor fs below held once now record { answered = refl; left = refl; asked = refl } tt;
     }
-    (other_given heap state book number rule here seat.cursor fs below held once)
-    (marks_given heap state book number rule here seat.cursor fs below held once now refl refl tt)
-    (step_space heap state book number rule here words now later (leaves_spines heap state book number rule here seat.cursor fs below held once) (none_weights seat now makes tt)
-    (grants_given heap state book number rule here seat.cursor fs below held once) (λ f dark. dark))
-    (owners_go heap state book later.history book.begun later.owner (give_goes (length book.made) book.owner fs number held))
+    (other_seat_stands_after_giving heap state book number rule here seat.cursor fs below held once)
+    (marks_go_on_after_giving heap state book number rule here seat.cursor fs below held once now refl refl tt)
+    (space_stands_after_step heap state book number rule here words now later (leaves_spines_after_giving heap state book number rule here seat.cursor fs below held once) (same_weights_where_none_made seat now makes tt)
+    (same_grants_after_giving heap state book number rule here seat.cursor fs below held once) (λ f dark. dark))
+    (book_goes_on_with_owners heap state book later.history book.begun later.owner (owners_go_on_by_giving (length book.made) book.owner fs number held))
 
 -- all that is asked of it
-pub empty_kind : StepKind (places.Leaving Emptying)
-empty_kind = record {
+pub step_kind_of_emptying : StepKind (places.Leaving Emptying)
+step_kind_of_emptying = record {
   keeps = λ heap state book number rule here looks. empty_keeps heap state book number rule here;
   shows = λ heap state number. shows_one _ (gives _);
-  looks = on_its_way (places.Leaving Emptying) (λ heap. empty_move) (λ heap number seat. refl) record {
+  looks = on_looks_of_way (places.Leaving Emptying) (λ heap. empty_move) (λ heap number seat. refl) record {
     unnamed = λ e. cc e;
     blind = λ heap number seat. tt;
     mute = λ heap number seat words found r. refl;
     stays = λ heap number seat found placed. record { looks = refl; elsewhere = tt };
     comes = λ heap number seat found. tt;
   };
-  words = plain_words (places.Leaving Emptying) (λ heap. empty_move) (λ heap number seat. refl) (λ heap number seat is. is) (λ heap number seat low. low)
-      (λ heap state book rule number here. spares _ refl (λ word i above below. born_bits word _ (λ j small. untaken_born word j small _ (mask-lt _)) i above below));
+  words = on_words_of_plain_step (places.Leaving Emptying) (λ heap. empty_move) (λ heap number seat. refl) (λ heap number seat is. is) (λ heap number seat low. low)
+      (λ heap state book rule number here. spares _ refl (λ word i above below. born_bits_stay word _ (λ j small. giving_keeps_born_bits word j small _ (mask_is_small _)) i above below));
   found = λ heap state book number stands here placed. tt;
 }

@@ -16,27 +16,27 @@ use Rattle.core_machine.specs.seat.HandshakeMoves.{poll_move, phase_told}
 use Rattle.core_machine.specs.seat.Fits.{AnswersThePhase}
 use Rattle.core_machine.specs.seat.Handshake.{roots, answer_next, polling_over, after_phase_load}
 use Rattle.core_machine.specs.seat.Looks.{seen_phase}
-use Rattle.core_machine.proofs.table_lemmas.Addresses.{put-at}
-use Rattle.core_rule.proofs.budgets.BudgetFrames.{grants_same}
-use Rattle.core_rule.proofs.colours.SpineStays.{same_sources}
-use Rattle.core_rule.proofs.marking.Marks.{roots_off_way, leaves_words, marks_off_way}
-use Rattle.core_rule.proofs.book.BookGoing.{book_stays}
-use Rattle.core_rule.proofs.steps.Assemble.{Keeps, seat_steps, step_space, StepKeeps}
-use Rattle.core_rule.proofs.roots.Roots.{roots_marked}
-use Rattle.core_rule.proofs.entries.AtRest.{seat_fits, in_flight, none_awaited}
-use Rattle.core_rule.proofs.entries.InFlight.{began_on}
+use Rattle.core_machine.proofs.table_lemmas.Addresses.{put_of_read_changes_nothing}
+use Rattle.core_rule.proofs.budgets.BudgetFrames.{same_grants_recoloured}
+use Rattle.core_rule.proofs.colours.SpineStays.{same_sources_of_itself}
+use Rattle.core_rule.proofs.marking.Marks.{roots_hold_off_way, leaves_by_same_sources, marks_go_on_off_way}
+use Rattle.core_rule.proofs.book.BookGoing.{book_goes_on_with_history}
+use Rattle.core_rule.proofs.steps.Assemble.{Keeps, keeps_rule_after_step, space_stands_after_step, StepKeeps}
+use Rattle.core_rule.proofs.roots.Roots.{roots_stand_at_answer}
+use Rattle.core_rule.proofs.entries.AtRest.{seat_fits, in_flight_has_not_left, place_awaits_none}
+use Rattle.core_rule.proofs.entries.InFlight.{began_without_entry}
 use Rattle.core_rule.proofs.graph.LocalReplies.{IsLocalReply, HoldAll}
-use Rattle.core_rule.proofs.steps.LocalStep.{local_reply_keeps}
-use Rattle.core_rule.proofs.entries.OwnEntries.{counts_same}
-use Rattle.core_rule.proofs.entries.PhaseEntries.{no_leave_told}
-use Rattle.core_rule.proofs.graph.PutRegister.{only_none}
-use Rattle.core_rule.proofs.entries.SeatLists.{all_told}
-use Rattle.core_rule.proofs.entries.PhasesTold.{answers_by}
-use Rattle.core_rule.proofs.budgets.NoneMade.{none_has_place, none_weights}
-use Rattle.core_rule.proofs.spines.OtherWords.{spines_left_none}
-use Rattle.core_rule.proofs.spines.SpineFrames.{spine_away}
-use Rattle.core_rule.proofs.steps.QuietLoads.{quiet_ends}
-use Rattle.core_rule.proofs.steps.StepKinds.{StepKind, only_loads, shows_poll, poll_follows, seen_first, polling_goes, from_usual, phase_usual, poll_finds, plain_words}
+use Rattle.core_rule.proofs.steps.LocalStep.{keeps_rule_by_local_reply}
+use Rattle.core_rule.proofs.entries.OwnEntries.{counts_agree_without_entry}
+use Rattle.core_rule.proofs.entries.PhaseEntries.{reply_is_no_leave}
+use Rattle.core_rule.proofs.graph.PutRegister.{only_registers_of_itself}
+use Rattle.core_rule.proofs.entries.SeatLists.{own_list_is_all_told}
+use Rattle.core_rule.proofs.entries.PhasesTold.{command_polls_or_collects}
+use Rattle.core_rule.proofs.budgets.NoneMade.{no_place_where_none_made, same_weights_where_none_made}
+use Rattle.core_rule.proofs.spines.OtherWords.{leaves_spines_of_itself}
+use Rattle.core_rule.proofs.spines.SpineFrames.{spine_in_hand_away}
+use Rattle.core_rule.proofs.steps.QuietLoads.{keeps_rule_by_quiet_end}
+use Rattle.core_rule.proofs.steps.StepKinds.{StepKind, only_loads, shows_poll, looks_follow_poll, looks_go_at_first_seen, looks_go_at_polling, comes_from_usual, phase_load_is_usual, tells_at_poll, on_words_of_plain_step}
 
 -- the seat after the load, by whether it has answered the phase found
 abbrev polled : ℕ → Command → Seat → ℕ → Bool → Seat
@@ -79,16 +79,16 @@ module _ (heap : Heap) (state : State) (book : Book) (number : ℕ) (rule : Rule
   asks = rw place at (seat_fits rule number here).answer_at_place
 
   stays : seat.left ≡ false
-  stays = in_flight rule number here (λ idle. absurd (cc (place, idle)))
+  stays = in_flight_has_not_left rule number here (λ idle. absurd (cc (place, idle)))
 
   is_phase : found ≡ phase book.history
   is_phase = rule.heap_stands.cycle.word
 
   mine_told : seat.mine ≡ filter (is_of number) book.history
-  mine_told = all_told stands.told.list (rw place at stands.told.list.awaits)
+  mine_told = own_list_is_all_told stands.told.list (rw place at stands.told.list.awaits)
 
   holds : HoldAll heap book.history g number book.made book.owner book.fragments g seat.registers
-  holds i = stands.names.registers i (none_awaited seat.place (places.Polling Asking) (target_of seat.command) i place (λ none. none))
+  holds i = stands.names.registers i (place_awaits_none seat.place (places.Polling Asking) (target_of seat.command) i place (λ none. none))
 
   -- the seat has answered the phase: a poll tells it
   poll_tells : found ≡ seat.answered → seat.command ≡ commands.Poll → PollKeeps heap state book number commands.Poll true
@@ -97,22 +97,22 @@ module _ (heap : Heap) (state : State) (book : Book) (number : ℕ) (rule : Rule
       = record {
         plain = record { none = refl; space = tt; spine = tt; phases = (is_phase, same ∙ sym stands.cycle.answers_told.told); most = refl };
         says = tt;
-        only = only_none g number;
+        only = only_registers_of_itself g number;
         registers = holds;
       } in
       let next = λ (c : Command). with_entries (after_call (with_seen found seat)) (entries.Said number c (replies.Phase found) ∷ []) in
       subst (λ c. IsMachine heap (record state { words = put heap state.words Phase found; seats = slice_set state.seats number (next c) })
       → Keeps heap state (record state { words = put heap state.words Phase found; seats = slice_set state.seats number (next c) }) book book.begun (entries.Said number c (replies.Phase found) ∷ [])) polls
-      (λ machine. local_reply_keeps heap state book number Phase (next seat.command) (replies.Phase found) rule here machine (rw place tt) rest mine_told (stands.told.counts.leaves ∙ stays)
+      (λ machine. keeps_rule_by_local_reply heap state book number Phase (next seat.command) (replies.Phase found) rule here machine (rw place tt) rest mine_told (stands.told.counts.leaves ∙ stays)
       (subst IsCommand (sym polls) tt)
       (subst (λ c. IsLocalReply heap book.history g number book.made book.owner book.fragments c (replies.Phase found) seat.registers) (sym polls) local)
-      (no_leave_told number number seat.command (replies.Phase found) (λ leaves. absurd (cc (leaves, polls))))
+      (reply_is_no_leave number number seat.command (replies.Phase found) (λ leaves. absurd (cc (leaves, polls))))
       record { idle = refl; reserve = refl; mine = refl; answered = refl; asked = sym asks.0.none_asked; made = refl; sets = refl; left = refl }
-      (λ marks. roots_off_way (IsReached heap state.words book.owner book.colour) seat (next seat.command) refl tt))
+      (λ marks. roots_hold_off_way (IsReached heap state.words book.owner book.colour) seat (next seat.command) refl tt))
 
   -- and a collect doesn't
   collect_ends : PollKeeps heap state book number commands.Collect true
-  collect_ends = quiet_ends heap state book number rule here Phase (seen_phase found seat.looks) (rw place tt) rest asks.0 (rw place (λ same. same)) (λ r awaited. subst (λ x. IsAwaited x (target_of seat.command) r) place awaited) mine_told
+  collect_ends = keeps_rule_by_quiet_end heap state book number rule here Phase (seen_phase found seat.looks) (rw place tt) rest asks.0 (rw place (λ same. same)) (λ r awaited. subst (λ x. IsAwaited x (target_of seat.command) r) place awaited) mine_told
 
   -- it hasn't, so that it is one phase behind
   own_cycle : found ≢ seat.answered
@@ -129,7 +129,7 @@ module _ (heap : Heap) (state : State) (book : Book) (number : ℕ) (rule : Rule
         flight = record {
           set = λ making snapped. tt;
           shaded = λ running. tt;
-          roots = λ begins. roots_marked book.colour (record seat { asked = found }) begins (λ r before. absurd (omega (arith, before, asks.0.none_shaded)));
+          roots = λ begins. roots_stand_at_answer book.colour (record seat { asked = found }) begins (λ r before. absurd (omega (arith, before, asks.0.none_shaded)));
         };
         births = stands.cycle.births;
       }
@@ -138,30 +138,30 @@ module _ (heap : Heap) (state : State) (book : Book) (number : ℕ) (rule : Rule
   poll_goes apart machine =
       let next : Seat = polled number seat.command seat found false in
       subst (λ words. IsMachine heap (record state { words = words; seats = slice_set state.seats number next })
-      → Keeps heap state (record state { words = words; seats = slice_set state.seats number next }) book book.begun []) (sym (put-at heap state.words Phase))
-      (λ same. seat_steps heap state book number state.words next book [] rule here same (sym (append-nil book.history)) refl rule.heap_stands
+      → Keeps heap state (record state { words = words; seats = slice_set state.seats number next }) book book.begun []) (sym (put_of_read_changes_nothing heap state.words Phase))
+      (λ same. keeps_rule_after_step heap state book number state.words next book [] rule here same (sym (append-nil book.history)) refl rule.heap_stands
       record {
         own = record {
           holding = stands.own.holding;
           stored = stands.own.stored;
           together = stands.own.together;
-          spine = spine_away heap state.words state.words book.spine_owner number seat next (none_has_place seat seat.place (rw place tt)) (λ has. has) stands.own.spine;
+          spine = spine_in_hand_away heap state.words state.words book.spine_owner number seat next (no_place_where_none_made seat seat.place (rw place tt)) (λ has. has) stands.own.spine;
         };
         names = record { registers = λ i awake. holds i; way = tt; address = tt };
         told = record {
           list = record { awaited = []; own = append-nil next.mine ∙ append-nil seat.mine ∙ mine_told; awaits = refl };
-          counts = counts_same g book.history number seat next refl refl refl refl stands.told.counts;
-          began = began_on book.history number (book.begun number) seat.place next.place (rw place (λ same. same)) stands.told.began;
+          counts = counts_agree_without_entry g book.history number seat next refl refl refl refl stands.told.counts;
+          began = began_without_entry book.history number (book.begun number) seat.place next.place (rw place (λ same. same)) stands.told.began;
           gathers = stands.told.gathers;
           used = tt;
         };
         cycle = own_cycle apart;
       }
       (λ r below apart other. other)
-      (marks_off_way heap state book rule number here state.words book next (leaves_words heap state book rule state.words (same_sources heap state.words)) refl refl tt)
-      (step_space heap state book number rule here state.words next book (spines_left_none heap state.words) (none_weights seat next (rw place tt) tt)
-      (grants_same heap book book.colour book.begun) (λ f dark. dark))
-      (book_stays heap state book book.history book.begun)) machine
+      (marks_go_on_off_way heap state book rule number here state.words book next (leaves_by_same_sources heap state book rule state.words (same_sources_of_itself heap state.words)) refl refl tt)
+      (space_stands_after_step heap state book number rule here state.words next book (leaves_spines_of_itself heap state.words) (same_weights_where_none_made seat next (rw place tt) tt)
+      (same_grants_recoloured heap book book.colour book.begun) (λ f dark. dark))
+      (book_goes_on_with_history heap state book book.history book.begun)) machine
 
   poll_kept : PollKeeps heap state book number seat.command (found == seat.answered)
   poll_kept = elim (eqb_tells found seat.answered) as (λ _. PollKeeps heap state book number seat.command (found == seat.answered)) [
@@ -170,7 +170,7 @@ module _ (heap : Heap) (state : State) (book : Book) (number : ℕ) (rule : Rule
   ]
     where
       tells : found ≡ seat.answered → PollKeeps heap state book number seat.command true
-      tells same = elim (answers_by seat.command asks.1) as (λ _. PollKeeps heap state book number seat.command true) [
+      tells same = elim (command_polls_or_collects seat.command asks.1) as (λ _. PollKeeps heap state book number seat.command true) [
         | inl polls ↦ subst (λ c. PollKeeps heap state book number c true) (sym polls) (poll_tells same polls)
         | inr collects ↦ subst (λ c. PollKeeps heap state book number c true) (sym collects) collect_ends
       ]
@@ -180,17 +180,17 @@ pub poll_keeps : StepKeeps (places.Polling Asking) (λ heap. poll_move)
 poll_keeps heap state book number rule here place = poll_kept heap state book number rule here place
 
 -- all that is asked of it
-pub poll_kind : StepKind (places.Polling Asking)
-poll_kind = record {
+pub step_kind_of_poll_asking : StepKind (places.Polling Asking)
+step_kind_of_poll_asking = record {
   keeps = λ heap state book number rule here looks. poll_keeps heap state book number rule here;
   shows = λ heap state number. shows_poll number (seat_at state number) (places.Polling Asking) ((at heap state.words Phase) == (seat_at state number).answered) (at heap state.words Phase);
   looks = record {
-    follows = λ heap state number seat compares placed. poll_follows heap state number seat ((at heap state.words Phase) == seat.answered) (at heap state.words Phase) refl;
-    goes = λ heap state book rule number placed. seen_first heap state book rule number _ _ (λ other p comparing. cc (placed, comparing))
-        (polling_goes heap number book.history (with_seen (at heap state.words Phase) (seat_at state number)) ((at heap state.words Phase) == (seat_at state number).answered) (at heap state.words Phase) _ (λ named. cc (placed, named)));
-    comes = λ heap number seat found placed. from_usual _ (after_phase_load (with_seen found seat) found).place (phase_usual (with_seen found seat) found);
+    follows = λ heap state number seat compares placed. looks_follow_poll heap state number seat ((at heap state.words Phase) == seat.answered) (at heap state.words Phase) refl;
+    goes = λ heap state book rule number placed. looks_go_at_first_seen heap state book rule number _ _ (λ other p comparing. cc (placed, comparing))
+        (looks_go_at_polling heap number book.history (with_seen (at heap state.words Phase) (seat_at state number)) ((at heap state.words Phase) == (seat_at state number).answered) (at heap state.words Phase) _ (λ named. cc (placed, named)));
+    comes = λ heap number seat found placed. comes_from_usual _ (after_phase_load (with_seen found seat) found).place (phase_load_is_usual (with_seen found seat) found);
   };
-  words = plain_words (places.Polling Asking) (λ heap. poll_move) (λ heap number seat. refl) (λ heap number seat is. is) (λ heap number seat low. low)
+  words = on_words_of_plain_step (places.Polling Asking) (λ heap. poll_move) (λ heap number seat. refl) (λ heap number seat is. is) (λ heap number seat low. low)
       (λ heap state book rule number here. only_loads (λ word. refl));
-  found = λ heap state book number stands here placed. poll_finds heap state book number stands here (λ idle. cc (placed, idle));
+  found = λ heap state book number stands here placed. tells_at_poll heap state book number stands here (λ idle. cc (placed, idle));
 }

@@ -11,17 +11,17 @@ use Rattle.core_machine.specs.seat.HandshakeMoves.{root_move}
 use Rattle.core_machine.specs.seat.Fits.{SeatIsAnswering as FitsAnswers}
 use Rattle.core_machine.specs.seat.Handshake.{roots, answer_place}
 use Rattle.core_rule.proofs.book.BookGoing.{by_register}
-use Rattle.core_rule.proofs.marking.Marks.{roots_off_way}
+use Rattle.core_rule.proofs.marking.Marks.{roots_hold_off_way}
 use Rattle.core_rule.proofs.steps.Assemble.{StepKeeps, seat_fits}
-use Rattle.core_rule.proofs.cycle.CycleFrames.{cycle_by_flight}
-use Rattle.core_rule.proofs.colours.Births.{births_stay}
-use Rattle.core_rule.proofs.roots.Roots.{FrontMarked, front_more, roots_all, roots_marked}
-use Rattle.core_rule.proofs.ways.LoadedObjects.{KeptHead, RefersTo, refers_kept, heads_refer}
-use Rattle.core_rule.proofs.entries.SeatLists.{list_more}
+use Rattle.core_rule.proofs.cycle.CycleFrames.{seat_in_cycle_by_flight}
+use Rattle.core_rule.proofs.colours.Births.{born_colours_stay}
+use Rattle.core_rule.proofs.roots.Roots.{FrontMarked, front_marked_after_shade, roots_are_register_heads, roots_stand_at_answer}
+use Rattle.core_rule.proofs.ways.LoadedObjects.{KeptHead, RefersTo, referred_is_kept_head, each_head_is_referred}
+use Rattle.core_rule.proofs.entries.SeatLists.{own_list_after_entry}
 use Rattle.core_rule.proofs.colours.ShadeColours.{with_mark}
-use Rattle.core_rule.proofs.steps.ShadeStep.{shading, words_shaded, shade_keeps, answer_shaded, borne_unshaded}
-use Rattle.core_rule.proofs.steps.StepKinds.{StepKind, spares, way_kind, plain_words}
-use Rattle.core_rule.proofs.colours.OneBit.{bit_above}
+use Rattle.core_rule.proofs.steps.ShadeStep.{shading, words_shaded, keeps_rule_by_shade, answer_same_after_shade, borne_colour_same_after_shade}
+use Rattle.core_rule.proofs.steps.StepKinds.{StepKind, spares, step_kind_of_way, on_words_of_plain_step}
+use Rattle.core_rule.proofs.colours.OneBit.{lower_bit_stays}
 
 -- whoever goes on to shade or to answer asks for the phase
 asks_on : (phase answer asked : ℕ) (seat : Seat) → Asks phase answer asked → PollingStands phase answer asked (answer_place seat)
@@ -43,47 +43,47 @@ root_keeps heap state book number rule here place machine =
     let asks : Asks p seat.answered seat.asked = subst (λ x. AnswerStands p seat.answered seat.asked x) place stands.cycle.answer in
     let third : (seat.asked % cycle_phases == marking_phase) ≡ true = roots_third (seat.asked % cycle_phases == marking_phase) (heads_of seat.registers) seat.shaded fits.1 in
     let is_third : seat.asked % cycle_phases ≡ marking_phase = eqb-true (seat.asked % cycle_phases) marking_phase third in
-    let all : roots seat ≡ heads_of seat.registers = roots_all seat is_third in
+    let all : roots seat ≡ heads_of seat.registers = roots_are_register_heads seat is_third in
     let f : ℕ = slice_index_or (roots seat) seat.shaded 0 in
     let busy : ¬ IsAnswered seat.place = λ done. subst IsAnswered place done in
     let held : (r : ℕ) → HoldsValue book.made book.owner book.fragments (register_in seat.registers r) (register_value g number r)
     = λ r. stands.names.registers r (λ awaited. subst (λ x. IsAwaited x (target_of seat.command) r) place awaited) in
     let refers : (r : ℕ) × RefersTo book.made book.owner book.fragments (register_value g number r) f
     = subst (λ (fs : List ℕ). (r : ℕ) × RefersTo book.made book.owner book.fragments (register_value g number r) (slice_index_or fs seat.shaded 0)) (sym all)
-    (heads_refer book.made book.owner book.fragments seat.registers (λ r. register_value g number r) held seat.shaded (subst (λ (fs : List ℕ). seat.shaded < length fs) all fits.1)) in
-    let head : KeptHead book.made book.owner book.fragments f = refers_kept book.made book.owner book.fragments (register_value g number refers.0) f refers.1 in
+    (each_head_is_referred book.made book.owner book.fragments seat.registers (λ r. register_value g number r) held seat.shaded (subst (λ (fs : List ℕ). seat.shaded < length fs) all fits.1)) in
+    let head : KeptHead book.made book.owner book.fragments f = referred_is_kept_head book.made book.owner book.fragments (register_value g number refers.0) f refers.1 in
     let front : FrontMarked book.colour seat.registers seat.shaded
     = subst (λ x. seat.asked % cycle_phases ≡ marking_phase → WhilePolling (RootsStand book.colour seat) x) place stands.cycle.flight.roots is_third in
     let new : Seat = shading seat (seat.shaded + 1) (places.Polling (answer_place (record seat { shaded = seat.shaded + 1 }))) in
-    shade_keeps heap state book number rule here f head.index head.kept head.is (seat.shaded + 1) (places.Polling (answer_place (record seat { shaded = seat.shaded + 1 })))
+    keeps_rule_by_shade heap state book number rule here f head.index head.kept head.is (seat.shaded + 1) (places.Polling (answer_place (record seat { shaded = seat.shaded + 1 })))
     (λ rests. omega (arith, rests, asks.now, is_third)) machine
     (λ r unawaited. held r)
-    (list_more g book.made book.owner book.fragments number seat book.history busy stands.told.list g book.history new [] [] [] refl refl (sym (append-nil (filter (is_of number) book.history))) refl)
+    (own_list_after_entry g book.made book.owner book.fragments number seat book.history busy stands.told.list g book.history new [] [] [] refl refl (sym (append-nil (filter (is_of number) book.history))) refl)
     tt (rw place tt) tt tt busy
-    (cycle_by_flight heap state.words (words_shaded heap state book number rule here f head.index head.kept head.is) book.owner book.owner book.colour (with_mark book.colour f) p
+    (seat_in_cycle_by_flight heap state.words (words_shaded heap state book number rule here f head.index head.kept head.is) book.owner book.owner book.colour (with_mark book.colour f) p
     (last_answer number book.history) (has_left number book.history) number seat new
-    record { answered = refl; left = refl; asked = refl } (answer_shaded heap state book number rule here f head.index head.kept head.is number here)
+    record { answered = refl; left = refl; asked = refl } (answer_same_after_shade heap state book number rule here f head.index head.kept head.is number here)
     (asks_on p seat.answered seat.asked (record seat { shaded = seat.shaded + 1 }) asks)
     record {
       set = λ making snapped. tt;
       shaded = λ running. tt;
-      roots = λ begins. roots_marked (with_mark book.colour f) (record seat { shaded = seat.shaded + 1 }) begins
+      roots = λ begins. roots_stand_at_answer (with_mark book.colour f) (record seat { shaded = seat.shaded + 1 }) begins
           (subst (λ (x : ℕ). FrontMarked (with_mark book.colour x) seat.registers (seat.shaded + 1)) (ap (λ (fs : List ℕ). slice_index_or fs seat.shaded 0) (sym all))
-          (front_more book.colour seat.registers seat.shaded front));
+          (front_marked_after_shade book.colour seat.registers seat.shaded front));
     }
-    (births_stay book.owner book.owner book.colour (with_mark book.colour f) number seat.answered (λ x borne. (borne, borne_unshaded heap state book number rule here f head.index head.kept head.is number x borne)) stands.cycle.births) stands.cycle)
+    (born_colours_stay book.owner book.owner book.colour (with_mark book.colour f) number seat.answered (λ x borne. (borne, borne_colour_same_after_shade heap state book number rule here f head.index head.kept head.is number x borne)) stands.cycle.births) stands.cycle)
     (λ marks answered. absurd (omega (arith, asks.next, asks.now, rule.collector_stands.phase_told, answered)))
-    (λ marks. roots_off_way (IsReached heap state.words book.owner book.colour) seat new refl tt)
+    (λ marks. roots_hold_off_way (IsReached heap state.words book.owner book.colour) seat new refl tt)
     (λ last. omega (arith, asks.next, is_third, last))
     (by_register number refers.0 refers.1)
 
 -- all that is asked of it
-pub root_kind : StepKind (places.Polling Shading)
-root_kind = way_kind (places.Polling Shading) (λ heap number. root_move) (λ heap number seat. refl) (λ e. cc e) (λ heap number seat. tt) (λ heap number seat words found. refl) record {
+pub step_kind_of_shading : StepKind (places.Polling Shading)
+step_kind_of_shading = step_kind_of_way (places.Polling Shading) (λ heap number. root_move) (λ heap number seat. refl) (λ e. cc e) (λ heap number seat. tt) (λ heap number seat words found. refl) record {
   keeps = root_keeps;
   stays = λ heap number seat found placed. record { looks = refl; elsewhere = tt };
   comes = λ heap number seat found. tt;
-  words = plain_words (places.Polling Shading) (λ heap number. root_move) (λ heap number seat. refl) (λ heap number seat is. is) (λ heap number seat low. low)
-      (λ heap state book rule number here. spares _ refl (λ word i above below. bit_above word 32 _ i below));
+  words = on_words_of_plain_step (places.Polling Shading) (λ heap number. root_move) (λ heap number seat. refl) (λ heap number seat is. is) (λ heap number seat low. low)
+      (λ heap state book rule number here. spares _ refl (λ word i above below. lower_bit_stays word 32 _ i below));
   found = λ heap state book number stands here placed. tt;
 }

@@ -4,11 +4,11 @@ use Rattle.core_rule.proofs.Terms.{Heap, last_answer, Bearing, State, seat_at, s
 use Rattle.core_rule.proofs.Terms.{HasWord, address_of, Book, HasBirthColour, IsBorn, Rule}
 use Rattle.core_machine.specs.declared.place.Place.TheVariants as places
 use Rattle.core_machine.specs.Moves.{seat_after}
-use Rattle.core_rule.proofs.colours.BornBits.{birth_colours}
+use Rattle.core_rule.proofs.colours.BornBits.{born_has_birth_colour}
 use Rattle.core_rule.proofs.steps.Assemble.{MoveKeeps}
-use Rattle.core_rule.proofs.steps.making.BirthStep.{birth_keeps}
-use Rattle.core_rule.proofs.steps.making.LastBirthStep.{last_birth_keeps}
-use Rattle.core_rule.proofs.steps.StepKinds.{StepKind, IsStore, SeatShows, shows_none, shows_plain, birth_follows, birth_goes, ComesFrom, birth_finds}
+use Rattle.core_rule.proofs.steps.making.BirthStep.{birth_keeps_rule}
+use Rattle.core_rule.proofs.steps.making.LastBirthStep.{last_birth_keeps_rule}
+use Rattle.core_rule.proofs.steps.StepKinds.{StepKind, IsStore, SeatShows, shows_none, shows_plain, looks_follow_birth, looks_go_at_birth, ComesFrom, tells_at_birth}
 
 -- the birth that is due
 abbrev bearing : ℕ → Seat → Bool → Move
@@ -16,8 +16,8 @@ bearing number seat last = if last then last_birth_move number seat else birth_m
 
 bearing_keeps : (heap : Heap) (state : State) (book : Book) (number : ℕ) → Rule heap state book → number < heap.seats → (seat_at state number).place ≡ places.Making Bearing
     → (last : Bool) → is_last_birth (seat_at state number) ≡ last → MoveKeeps heap state book number (bearing number (seat_at state number) last)
-bearing_keeps heap state book number rule here placed true last machine = last_birth_keeps heap state book number rule here placed last machine
-bearing_keeps heap state book number rule here placed false more machine = birth_keeps heap state book number rule here placed more machine
+bearing_keeps heap state book number rule here placed true last machine = last_birth_keeps_rule heap state book number rule here placed last machine
+bearing_keeps heap state book number rule here placed false more machine = birth_keeps_rule heap state book number rule here placed more machine
 
 bearing_shows : (heap : Heap) (state : State) (number : ℕ) (last : Bool)
     → SeatShows number (seat_at state number) (places.Making Bearing) (entries_shown heap state (Some (bearing number (seat_at state number) last)))
@@ -32,8 +32,8 @@ bearing_comes number seat found placed false = subst (ComesFrom (places.Making B
 bearing_colours : (heap : Heap) (state : State) (book : Book) → Rule heap state book → (number : ℕ) → number < heap.seats → (f : ℕ) → f < 16 * heap.groups → ¬ IsBorn heap state.words f → (last : Bool)
     → IsBorn heap (state_after_due heap state number (Some (bearing number (seat_at state number) last))).words f
     → HasBirthColour heap (state_after_due heap state number (Some (bearing number (seat_at state number) last))).words f (last_answer number book.history)
-bearing_colours heap state book rule number here f within unborn true born = birth_colours heap state book rule f within unborn number here born
-bearing_colours heap state book rule number here f within unborn false born = birth_colours heap state book rule f within unborn number here born
+bearing_colours heap state book rule number here f within unborn true born = born_has_birth_colour heap state book rule f within unborn number here born
+bearing_colours heap state book rule number here f within unborn false born = born_has_birth_colour heap state book rule f within unborn number here born
 
 bearing_stores : (number : ℕ) (seat : Seat) (last : Bool) → ¬ IsStore (Some (bearing number seat last).step)
 bearing_stores number seat true is = is
@@ -44,13 +44,13 @@ bearing_there heap number seat true there = there
 bearing_there heap number seat false there = there
 
 -- all that is asked of it
-pub bearing_kind : StepKind (places.Making Bearing)
-bearing_kind = record {
+pub step_kind_of_bearing : StepKind (places.Making Bearing)
+step_kind_of_bearing = record {
   keeps = λ heap state book number rule here looks placed machine. bearing_keeps heap state book number rule here placed (is_last_birth (seat_at state number)) refl machine;
   shows = λ heap state number. bearing_shows heap state number (is_last_birth (seat_at state number));
   looks = record {
-    follows = λ heap state number seat compares placed. birth_follows heap state number seat (is_last_birth seat);
-    goes = λ heap state book rule number placed. birth_goes heap state book rule number (is_last_birth (seat_at state number)) placed;
+    follows = λ heap state number seat compares placed. looks_follow_birth heap state number seat (is_last_birth seat);
+    goes = λ heap state book rule number placed. looks_go_at_birth heap state book rule number (is_last_birth (seat_at state number)) placed;
     comes = λ heap number seat found placed. bearing_comes number seat found placed (is_last_birth seat);
   };
   words = record {
@@ -58,5 +58,5 @@ bearing_kind = record {
     stores = λ heap number seat is. absurd (bearing_stores number seat (is_last_birth seat) is);
     there = λ heap state book rule number here placed low. bearing_there heap number (seat_at state number) (is_last_birth (seat_at state number)) low;
   };
-  found = λ heap state book number stands here placed. birth_finds heap state book number stands here (λ idle. cc (placed, idle)) (is_last_birth (seat_at state number));
+  found = λ heap state book number stands here placed. tells_at_birth heap state book number stands here (λ idle. cc (placed, idle)) (is_last_birth (seat_at state number));
 }

@@ -10,25 +10,25 @@ use Rattle.heap_words.specs.declared.spot.Spot.{Spot}
 use Rattle.core_machine.specs.declared.place.Place.TheVariants as places
 use Rattle.core_machine.proofs.table_lemmas.Addresses.{at-put_same}
 use Rattle.core_rule.specs.hand.Together.{AreTogether}
-use Rattle.core_rule.proofs.spines.NoPlaces.{away_range}
-use Rattle.core_rule.proofs.halves.HalvesFrames.{halves_stay}
-use Rattle.core_rule.proofs.budgets.BudgetFrames.{grants_same}
-use Rattle.core_rule.proofs.cycle.MakingCycle.{cycle_goes_on}
-use Rattle.core_rule.proofs.entries.InFlight.{awaits_none, began_on, is_busy}
-use Rattle.core_rule.proofs.entries.OwnEntries.{counts_same}
-use Rattle.core_rule.proofs.entries.SeatLists.{making_list, list_of_making}
-use Rattle.core_rule.proofs.book.BookGoing.{book_stays}
-use Rattle.core_rule.proofs.hand.ClaimOrder.{together_goes_on}
-use Rattle.core_rule.proofs.hand.EmptyHand.{none_stored}
-use Rattle.core_rule.proofs.hand.GoesOn.{StaysMaking, holding_goes_on, length_goes_on, gathers_goes_on, same_goes_on, unplaced_goes_on}
-use Rattle.core_rule.proofs.marking.Marks.{leaves_words, marks_off_way}
-use Rattle.core_rule.proofs.budgets.BudgetSteps.{HasWeights, budgets_change, budget_small, budget_grows}
-use Rattle.core_rule.proofs.spines.SpineFrames.{spine_away}
-use Rattle.core_rule.proofs.budgets.UsedFound.{finds_budget}
-use Rattle.core_rule.proofs.budgets.WeightSums.{need_few}
-use Rattle.core_rule.proofs.frames.BudgetWritten.{budget_words, budget_places, budget_sources, heap_budget, seat_budget}
-use Rattle.core_rule.proofs.steps.Assemble.{Keeps, seat_steps, StepKeeps, seat_fits}
-use Rattle.core_rule.proofs.steps.StepKinds.{StepKind, beside, from_grant, stays_budget, way_kind, plain_words}
+use Rattle.core_rule.proofs.spines.NoPlaces.{same_range_away}
+use Rattle.core_rule.proofs.halves.HalvesFrames.{halves_stand_after_step}
+use Rattle.core_rule.proofs.budgets.BudgetFrames.{same_grants_recoloured}
+use Rattle.core_rule.proofs.cycle.MakingCycle.{seat_in_cycle_goes_on}
+use Rattle.core_rule.proofs.entries.InFlight.{making_awaits_none, began_without_entry, making_is_not_answered}
+use Rattle.core_rule.proofs.entries.OwnEntries.{counts_agree_without_entry}
+use Rattle.core_rule.proofs.entries.SeatLists.{making_list_is_all_told, own_list_of_making}
+use Rattle.core_rule.proofs.book.BookGoing.{book_goes_on_with_history}
+use Rattle.core_rule.proofs.hand.ClaimOrder.{together_after_going_on}
+use Rattle.core_rule.proofs.hand.EmptyHand.{is_stored_where_none}
+use Rattle.core_rule.proofs.hand.GoesOn.{StaysMaking, holding_goes_on, held_length_goes_on, gathers_right_goes_on, stays_making_goes_on, unplaced_goes_on}
+use Rattle.core_rule.proofs.marking.Marks.{leaves_by_same_sources, marks_go_on_off_way}
+use Rattle.core_rule.proofs.budgets.BudgetSteps.{HasWeights, budgets_stand_after_change, budget_word_is_small, grown_budget_fits_word}
+use Rattle.core_rule.proofs.spines.SpineFrames.{spine_in_hand_away}
+use Rattle.core_rule.proofs.budgets.UsedFound.{finds_spine_by_budget}
+use Rattle.core_rule.proofs.budgets.WeightSums.{spine_need_within_limit}
+use Rattle.core_rule.proofs.frames.BudgetWritten.{budget_words, budget_words_leave_places, same_sources_after_budget, heap_stands_after_budget, seat_stands_after_budget}
+use Rattle.core_rule.proofs.steps.Assemble.{Keeps, keeps_rule_after_step, StepKeeps, seat_fits}
+use Rattle.core_rule.proofs.steps.StepKinds.{StepKind, beside, comes_from_grant, stays_found_after_budget, step_kind_of_way, on_words_of_plain_step}
 
 module _ (heap : Heap) (state : State) (book : Book) (number : ℕ) (rule : Rule heap state book) (here : number < heap.seats) (place : (seat_at state number).place ≡ places.Making Granting) where
   abbrev seat : Seat
@@ -59,10 +59,10 @@ module _ (heap : Heap) (state : State) (book : Book) (number : ℕ) (rule : Rule
   -- what it asks for is added to the budget
   grown : at heap words Budget ≡ found + needs
   grown = at-put_same heap state.words Budget _ rule.machine.table tt
-      ∙ budget_grows found needs (budget_small heap state book rule.machine rule.space.budgets) (need_few seat.command fits.1.in_range)
+      ∙ grown_budget_fits_word found needs (budget_word_is_small heap state book rule.machine rule.space.budgets) (spine_need_within_limit seat.command fits.1.in_range)
 
   same_place : next_spine heap words ≡ next_spine heap state.words
-  same_place = ap spot_in (budget_places heap state book rule ((found + needs) % 2 ^ 64)).spot
+  same_place = ap spot_in (budget_words_leave_places heap state book rule ((found + needs) % 2 ^ 64)).spot
 
   -- the seat goes on with what it has, where its budget stands
   goes : (next : Seat) → StaysMaking seat next → Holding book.owner number next.reserve next.hand next.body → AreTogether heap next.cursor next.tried next.hand next.body
@@ -75,40 +75,40 @@ module _ (heap : Heap) (state : State) (book : Book) (number : ℕ) (rule : Rule
   goes next stays holding together as_many gathers no_place used budgets machine =
       let new : Seat = with_entries next [] in
       let same = stays.same in
-      let after = seat_budget heap state book rule ((found + needs) % 2 ^ 64) number here in
-      seat_steps heap state book number words new book [] rule here machine (sym (append-nil book.history)) refl
-      (heap_budget heap state book rule ((found + needs) % 2 ^ 64))
+      let after = seat_stands_after_budget heap state book rule ((found + needs) % 2 ^ 64) number here in
+      keeps_rule_after_step heap state book number words new book [] rule here machine (sym (append-nil book.history)) refl
+      (heap_stands_after_budget heap state book rule ((found + needs) % 2 ^ 64))
       record {
         own = record {
           holding = holding;
-          stored = none_stored heap words number new (same.stored ∙ fits.0.none_stored);
+          stored = is_stored_where_none heap words number new (same.stored ∙ fits.0.none_stored);
           together = together;
-          spine = spine_away heap state.words words book.spine_owner number seat new (λ has. rw place at has) no_place stands.own.spine;
+          spine = spine_in_hand_away heap state.words words book.spine_owner number seat new (λ has. rw place at has) no_place stands.own.spine;
         };
         names = record {
-          registers = rw same.registers (λ r fresh. stands.names.registers r (awaits_none Granting seat.place (target_of seat.command) r place));
+          registers = rw same.registers (λ r fresh. stands.names.registers r (making_awaits_none Granting seat.place (target_of seat.command) r place));
           way = rw stays.placed tt;
           address = rw stays.placed tt;
         };
         told = record {
-          list = list_of_making g book.history book.made book.owner book.fragments number new stays.making stays.placed
-              (append-nil next.mine ∙ same.mine ∙ making_list g book.history book.made book.owner book.fragments number seat Granting place stands.told.list);
-          counts = counts_same g book.history number seat new same.made same.sets same.left as_many stands.told.counts;
-          began = began_on book.history number (book.begun number) seat.place next.place (is_busy Granting seat.place place) stands.told.began;
+          list = own_list_of_making g book.history book.made book.owner book.fragments number new stays.making stays.placed
+              (append-nil next.mine ∙ same.mine ∙ making_list_is_all_told g book.history book.made book.owner book.fragments number seat Granting place stands.told.list);
+          counts = counts_agree_without_entry g book.history number seat new same.made same.sets same.left as_many stands.told.counts;
+          began = began_without_entry book.history number (book.begun number) seat.place next.place (making_is_not_answered Granting seat.place place) stands.told.began;
           gathers = gathers;
           used = used;
         };
-        cycle = cycle_goes_on heap words words book.owner book.owner book.colour (phase book.history) (last_answer number book.history) (has_left number book.history) number seat new
+        cycle = seat_in_cycle_goes_on heap words words book.owner book.owner book.colour (phase book.history) (last_answer number book.history) (has_left number book.history) number seat new
             record { answered = same.answered; left = same.left; asked = same.asked } (rw stays.placed tt) refl (λ f borne. borne) after.cycle;
       }
-      (λ r below apart other. seat_budget heap state book rule ((found + needs) % 2 ^ 64) r below)
-      (marks_off_way heap state book rule number here words book new (leaves_words heap state book rule words (budget_sources heap state book rule ((found + needs) % 2 ^ 64))) same.answered same.registers (rw stays.placed tt))
+      (λ r below apart other. seat_stands_after_budget heap state book rule ((found + needs) % 2 ^ 64) r below)
+      (marks_go_on_off_way heap state book rule number here words book new (leaves_by_same_sources heap state book rule words (same_sources_after_budget heap state book rule ((found + needs) % 2 ^ 64))) same.answered same.registers (rw stays.placed tt))
       record {
         budgets = budgets;
-        halves = halves_stay heap state book number words new book here rule.machine.seated (budget_places heap state book rule ((found + needs) % 2 ^ 64)) (away_range seat new no_place)
-            (grants_same heap book book.colour book.begun) (λ f dark. dark) rule.space.halves;
+        halves = halves_stand_after_step heap state book number words new book here rule.machine.seated (budget_words_leave_places heap state book rule ((found + needs) % 2 ^ 64)) (same_range_away seat new no_place)
+            (same_grants_recoloured heap book book.colour book.begun) (λ f dark. dark) rule.space.halves;
       }
-      (book_stays heap state book book.history book.begun)
+      (book_goes_on_with_history heap state book book.history book.begun)
 
   -- they were too many
   refused : heap.spine < found + needs → IsMachine heap (record state { words = words; seats = slice_set state.seats number (with_entries (record seat { used = found; place = places.Making Withdrawing }) []) })
@@ -122,9 +122,9 @@ module _ (heap : Heap) (state : State) (book : Book) (number : ℕ) (rule : Rule
         placed = refl;
       }
       stands.own.holding stands.own.together refl stands.told.gathers (λ has. has)
-      (finds_budget heap state book rule.machine rule.space.budgets number here nothing, omega (arith, budget_small heap state book rule.machine rule.space.budgets))
-      (budgets_change heap state book number here rule.machine.seated words (with_entries next []) 0 0 0 nothing 0 0 needs record { given_is = refl; placed_is = refl; refused_is = refl }
-      book (grants_same heap book book.colour book.begun) (ap (λ (s : Spot). s.half) same_place) (ap (λ (s : Spot). s.offset + 0) same_place) (omega (arith, grown)) (omega (arith, rule.space.budgets.low)) rule.space.budgets)
+      (finds_spine_by_budget heap state book rule.machine rule.space.budgets number here nothing, omega (arith, budget_word_is_small heap state book rule.machine rule.space.budgets))
+      (budgets_stand_after_change heap state book number here rule.machine.seated words (with_entries next []) 0 0 0 nothing 0 0 needs record { given_is = refl; placed_is = refl; refused_is = refl }
+      book (same_grants_recoloured heap book book.colour book.begun) (ap (λ (s : Spot). s.half) same_place) (ap (λ (s : Spot). s.offset + 0) same_place) (omega (arith, grown)) (omega (arith, rule.space.budgets.low)) rule.space.budgets)
 
   -- they were granted, and the seat gathers
   granted : found + needs ≤ heap.spine → IsMachine heap (record state { words = words; seats = slice_set state.seats number (with_entries (gather_next heap seat) []) })
@@ -132,15 +132,15 @@ module _ (heap : Heap) (state : State) (book : Book) (number : ℕ) (rule : Rule
   granted few =
       let next : Seat = gather_next heap seat in
       let unplaced = unplaced_goes_on heap seat fits.1.an_object in
-      goes next (same_goes_on heap seat)
+      goes next (stays_making_goes_on heap seat)
       (holding_goes_on heap book.owner number seat fits.0.no_body stands.own.holding)
-      (together_goes_on heap seat fits.0.no_body (seat_fits rule number here).own.cursor_within (seat_fits rule number here).own.reserve_of_cursor stands.own.together)
-      (length_goes_on heap seat fits.0.no_body)
-      (gathers_goes_on heap book.owner number (drop (book.begun number) book.history) seat fits.0.none_given stands.told.gathers)
+      (together_after_going_on heap seat fits.0.no_body (seat_fits rule number here).own.cursor_within (seat_fits rule number here).own.reserve_of_cursor stands.own.together)
+      (held_length_goes_on heap seat fits.0.no_body)
+      (gathers_right_goes_on heap book.owner number (drop (book.begun number) book.history) seat fits.0.none_given stands.told.gathers)
       unplaced.no_place (unplaced.none_used heap book.history number)
-      (budgets_change heap state book number here rule.machine.seated words (with_entries next []) 0 0 0 nothing needs 0 0
+      (budgets_stand_after_change heap state book number here rule.machine.seated words (with_entries next []) 0 0 0 nothing needs 0 0
       record { given_is = unplaced.granted; placed_is = unplaced.placed (next_spine heap state.words).half; refused_is = unplaced.refused }
-      book (grants_same heap book book.colour book.begun) (ap (λ (s : Spot). s.half) same_place) (ap (λ (s : Spot). s.offset + 0) same_place) (omega (arith, grown))
+      book (same_grants_recoloured heap book book.colour book.begun) (ap (λ (s : Spot). s.half) same_place) (ap (λ (s : Spot). s.offset + 0) same_place) (omega (arith, grown))
       (omega (arith, few, rule.space.budgets.word)) rule.space.budgets)
 
   abbrev Answered : Bool → Type 0
@@ -158,12 +158,12 @@ pub grant_keeps : StepKeeps (places.Making Granting) grant_move
 grant_keeps heap state book number rule here place = answered heap state book number rule here place
 
 -- all that is asked of it
-pub grant_kind : StepKind (places.Making Granting)
-grant_kind = way_kind (places.Making Granting) grant_move (λ heap number seat. refl) (λ e. cc e) (λ heap number seat. tt) (λ heap number seat words found. refl) record {
+pub step_kind_of_granting : StepKind (places.Making Granting)
+step_kind_of_granting = step_kind_of_way (places.Making Granting) grant_move (λ heap number seat. refl) (λ e. cc e) (λ heap number seat. tt) (λ heap number seat words found. refl) record {
   keeps = grant_keeps;
-  stays = λ heap number seat found placed. stays_budget heap seat found;
-  comes = λ heap number seat found. from_grant heap seat found;
-  words = plain_words (places.Making Granting) grant_move (λ heap number seat. refl) (λ heap number seat is. is) (λ heap number seat low. low)
+  stays = λ heap number seat found placed. stays_found_after_budget heap seat found;
+  comes = λ heap number seat found. comes_from_grant heap seat found;
+  words = on_words_of_plain_step (places.Making Granting) grant_move (λ heap number seat. refl) (λ heap number seat is. is) (λ heap number seat low. low)
       (λ heap state book rule number here. beside (λ g below e. omega (arith, e, below)));
-  found = λ heap state book number stands here placed. omega (arith, budget_small heap state book stands.rule.machine stands.rule.space.budgets);
+  found = λ heap state book number stands here placed. omega (arith, budget_word_is_small heap state book stands.rule.machine stands.rule.space.budgets);
 }

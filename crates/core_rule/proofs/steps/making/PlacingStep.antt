@@ -8,24 +8,24 @@ use Rattle.core_rule.proofs.Terms.{spine_need, at, Book, granted_at, placed_at, 
 use Rattle.core_machine.specs.declared.place.Place.TheVariants as places
 use Rattle.core_machine.specs.declared.table.address.Address.TheVariants.{Spot}
 use Rattle.core_machine.specs.Moves.{seat_after}
-use Rattle.core_rule.proofs.colours.LeadsFrames.{leads_same, same_ahead}
-use Rattle.core_rule.proofs.cycle.MakingCycle.{cycle_goes_on}
-use Rattle.core_rule.proofs.entries.InFlight.{awaits_none, began_on, is_busy}
-use Rattle.core_rule.proofs.entries.OwnEntries.{counts_same}
-use Rattle.core_rule.proofs.entries.SeatLists.{making_list, list_of_making}
-use Rattle.core_rule.proofs.book.BookGoing.{spines_go}
-use Rattle.core_rule.proofs.frames.BesideFrames.{beside_aside, arrays_stay, heap_beside, seat_beside}
-use Rattle.core_rule.proofs.hand.EmptyHand.{none_stored}
-use Rattle.core_rule.proofs.marking.Marks.{leaves_words, marks_off_way}
-use Rattle.core_rule.proofs.budgets.BudgetFrames.{stepped, grants_same}
-use Rattle.core_rule.proofs.budgets.BudgetSteps.{budgets_change, budgets_owners}
-use Rattle.core_rule.proofs.halves.HalvesMoves.{halves_seat}
-use Rattle.core_rule.proofs.budgets.OffsetWithin.{offset_within}
-use Rattle.core_rule.proofs.spines.SpineFrames.{spine_words_stay}
-use Rattle.core_rule.proofs.spines.SpotClaims.{spot_after, words_claimed, owner_claimed, book_claimed, same_claimed, next_claimed, leaves_claimed, places_claimed, spines_claimed, spine_claimed, halves_claimed}
-use Rattle.core_rule.proofs.steps.Assemble.{seat_steps, StepKeeps, seat_fits}
+use Rattle.core_rule.proofs.colours.LeadsFrames.{led_before_where_same, same_sources_ahead}
+use Rattle.core_rule.proofs.cycle.MakingCycle.{seat_in_cycle_goes_on}
+use Rattle.core_rule.proofs.entries.InFlight.{making_awaits_none, began_without_entry, making_is_not_answered}
+use Rattle.core_rule.proofs.entries.OwnEntries.{counts_agree_without_entry}
+use Rattle.core_rule.proofs.entries.SeatLists.{making_list_is_all_told, own_list_of_making}
+use Rattle.core_rule.proofs.book.BookGoing.{book_goes_on_with_spine_owners}
+use Rattle.core_rule.proofs.frames.BesideFrames.{leaves_beside_word_aside, arrays_stay, heap_stands_beside, seat_stands_beside}
+use Rattle.core_rule.proofs.hand.EmptyHand.{is_stored_where_none}
+use Rattle.core_rule.proofs.marking.Marks.{leaves_by_same_sources, marks_go_on_off_way}
+use Rattle.core_rule.proofs.budgets.BudgetFrames.{stepped, same_grants_recoloured}
+use Rattle.core_rule.proofs.budgets.BudgetSteps.{budgets_stand_after_change, budgets_stand_with_spine_owners}
+use Rattle.core_rule.proofs.halves.HalvesMoves.{halves_stand_with_seat}
+use Rattle.core_rule.proofs.budgets.OffsetWithin.{offset_within_granted_and_placed}
+use Rattle.core_rule.proofs.spines.SpineFrames.{spine_is_stored_by_words}
+use Rattle.core_rule.proofs.spines.SpotClaims.{spot_after, words_claimed, owner_claimed, book_claimed, same_spines_after_spot_claim, next_spine_after_claim, spines_left_after_claim, places_stay_after_claim, spines_stand_after_claim, spine_in_hand_after_claim, halves_stand_after_claim}
+use Rattle.core_rule.proofs.steps.Assemble.{keeps_rule_after_step, StepKeeps, seat_fits}
 use Rattle.core_rule.proofs.words.Addresses.{at-put_apart}
-use Rattle.core_rule.proofs.steps.StepKinds.{StepKind, beside, way_kind, plain_words}
+use Rattle.core_rule.proofs.steps.StepKinds.{StepKind, beside, step_kind_of_way, on_words_of_plain_step}
 
 -- a claim of a spine's place keeps the rule
 pub placing_keeps : StepKeeps (places.Making Placing) (λ heap number. placing_move)
@@ -47,57 +47,57 @@ placing_keeps heap state book number rule here place machine =
     let given : granted_at seat seat.place ≡ needs = rw place refl in
     let unplaced : placed_at spot.half seat seat.place ≡ 0 = rw place refl in
     let room : spot.offset + needs ≤ heap.spine
-    = omega (arith, offset_within heap state book rule.heap_stands.control_words rule.space.budgets halves number here, given, unplaced, rule.space.budgets.low) in
+    = omega (arith, offset_within_granted_and_placed heap state book rule.heap_stands.control_words rule.space.budgets halves number here, given, unplaced, rule.space.budgets.low) in
     let few : spot.offset + needs < 2 ^ 31 = omega (arith, room, rule.machine.limits.spine_fits) in
-    let same = same_claimed heap state book number needs table in
-    let beside = beside_aside heap state.words Spot ((found + needs) % 2 ^ 64) (omega arith) (omega arith) in
+    let same = same_spines_after_spot_claim heap state book number needs table in
+    let beside = leaves_beside_word_aside heap state.words Spot ((found + needs) % 2 ^ 64) (omega arith) (omega arith) in
     let arrays = arrays_stay heap state.words words book same in
-    let sources = same_ahead heap state.words Spot ((found + needs) % 2 ^ 64) (omega arith) in
-    let next : next_spine heap words ≡ spot_after spot needs = next_claimed heap state book number needs table halves old few in
+    let sources = same_sources_ahead heap state.words Spot ((found + needs) % 2 ^ 64) (omega arith) in
+    let next : next_spine heap words ≡ spot_after spot needs = next_spine_after_claim heap state book number needs table halves old few in
     let budget : at heap words Budget ≡ at heap state.words Budget = at-put_apart heap state.words Spot Budget _ (λ e. omega (arith, e)) in
     let placed : placed_at spot.half new new.place ≡ needs = grind (arith, nat_tests) in
-    seat_steps heap state book number words new now [] rule here machine (sym (append-nil book.history)) refl
-    (heap_beside heap state book rule words beside arrays spine_owner (λ f source x dark leads. leads_same heap state.words words f (sources f) source x leads)
-    (spines_claimed heap state book number needs table halves old few (omega (arith, here))))
+    keeps_rule_after_step heap state book number words new now [] rule here machine (sym (append-nil book.history)) refl
+    (heap_stands_beside heap state book rule words beside arrays spine_owner (λ f source x dark leads. led_before_where_same heap state.words words f (sources f) source x leads)
+    (spines_stand_after_claim heap state book number needs table halves old few (omega (arith, here))))
     record {
       own = record {
         holding = stands.own.holding;
-        stored = none_stored heap words number new fits.0.2.none_stored;
+        stored = is_stored_where_none heap words number new fits.0.2.none_stored;
         together = stands.own.together;
-        spine = spine_claimed heap state book number needs table seat new (λ has. rw place at has) fits.0.1 refl refl fits.1.none_listed stands.own.spine;
+        spine = spine_in_hand_after_claim heap state book number needs table seat new (λ has. rw place at has) fits.0.1 refl refl fits.1.none_listed stands.own.spine;
       };
-      names = record { registers = λ r fresh. stands.names.registers r (awaits_none Placing seat.place (target_of seat.command) r place); way = tt; address = tt };
+      names = record { registers = λ r fresh. stands.names.registers r (making_awaits_none Placing seat.place (target_of seat.command) r place); way = tt; address = tt };
       told = record {
-        list = list_of_making g book.history book.made book.owner book.fragments number new Listing refl
-            (append-nil seat.mine ∙ making_list g book.history book.made book.owner book.fragments number seat Placing place stands.told.list);
-        counts = counts_same g book.history number seat new refl refl refl refl stands.told.counts;
-        began = began_on book.history number (book.begun number) seat.place new.place (is_busy Placing seat.place place) stands.told.began;
+        list = own_list_of_making g book.history book.made book.owner book.fragments number new Listing refl
+            (append-nil seat.mine ∙ making_list_is_all_told g book.history book.made book.owner book.fragments number seat Placing place stands.told.list);
+        counts = counts_agree_without_entry g book.history number seat new refl refl refl refl stands.told.counts;
+        began = began_without_entry book.history number (book.begun number) seat.place new.place (making_is_not_answered Placing seat.place place) stands.told.began;
         gathers = stands.told.gathers;
         used = tt;
       };
-      cycle = cycle_goes_on heap state.words words book.owner book.owner book.colour (phase book.history) (last_answer number book.history) (has_left number book.history) number seat new
+      cycle = seat_in_cycle_goes_on heap state.words words book.owner book.owner book.colour (phase book.history) (last_answer number book.history) (has_left number book.history) number seat new
           record { answered = refl; left = refl; asked = refl } tt (beside.answers number (omega (arith, here, rule.machine.limits.seats_fit))) (λ f borne. borne) stands.cycle;
     }
-    (λ r below apart other. seat_beside heap state book rule words beside arrays spine_owner r below (leaves_claimed heap state book number needs table halves r apart)
-    (spine_words_stay heap state.words words (seat_at state r) same other.own.spine.stored) (places_claimed heap state book number needs table halves))
-    (marks_off_way heap state book rule number here words now new (leaves_words heap state book rule words sources) refl refl tt)
+    (λ r below apart other. seat_stands_beside heap state book rule words beside arrays spine_owner r below (spines_left_after_claim heap state book number needs table halves r apart)
+    (spine_is_stored_by_words heap state.words words (seat_at state r) same other.own.spine.stored) (places_stay_after_claim heap state book number needs table halves))
+    (marks_go_on_off_way heap state book rule number here words now new (leaves_by_same_sources heap state book rule words sources) refl refl tt)
     record {
-      budgets = budgets_owners heap (stepped state number words new) book spine_owner
-          (budgets_change heap state book number here rule.machine.seated words new needs 0 0 record { given_is = given; placed_is = unplaced; refused_is = rw place refl }
-          needs needs 0 record { given_is = refl; placed_is = placed; refused_is = refl } book (grants_same heap book book.colour book.begun)
+      budgets = budgets_stand_with_spine_owners heap (stepped state number words new) book spine_owner
+          (budgets_stand_after_change heap state book number here rule.machine.seated words new needs 0 0 record { given_is = given; placed_is = unplaced; refused_is = rw place refl }
+          needs needs 0 record { given_is = refl; placed_is = placed; refused_is = refl } book (same_grants_recoloured heap book book.colour book.begun)
           (ap (λ (s : SpinePlace). s.half) next) (ap (λ (s : SpinePlace). s.offset + 0) next ∙ omega arith) (omega (arith, budget)) (omega (arith, rule.space.budgets.low)) rule.space.budgets);
-      halves = halves_seat heap (record state { words = words }) now number new here rule.machine.seated (λ has. inl (sym (ap (λ (s : SpinePlace). s.half) next)))
-          (halves_claimed heap state book number needs table halves old few here);
+      halves = halves_stand_with_seat heap (record state { words = words }) now number new here rule.machine.seated (λ has. inl (sym (ap (λ (s : SpinePlace). s.half) next)))
+          (halves_stand_after_claim heap state book number needs table halves old few here);
     }
-    (spines_go heap state book spine_owner)
+    (book_goes_on_with_spine_owners heap state book spine_owner)
 
 -- all that is asked of it
-pub placing_kind : StepKind (places.Making Placing)
-placing_kind = way_kind (places.Making Placing) (λ heap number. placing_move) (λ heap number seat. refl) (λ e. cc e) (λ heap number seat. tt) (λ heap number seat words found. refl) record {
+pub step_kind_of_placing : StepKind (places.Making Placing)
+step_kind_of_placing = step_kind_of_way (places.Making Placing) (λ heap number. placing_move) (λ heap number seat. refl) (λ e. cc e) (λ heap number seat. tt) (λ heap number seat words found. refl) record {
   keeps = placing_keeps;
   stays = λ heap number seat found placed. record { looks = refl; elsewhere = tt };
   comes = λ heap number seat found. tt;
-  words = plain_words (places.Making Placing) (λ heap number. placing_move) (λ heap number seat. refl) (λ heap number seat is. is) (λ heap number seat low. low)
+  words = on_words_of_plain_step (places.Making Placing) (λ heap number. placing_move) (λ heap number seat. refl) (λ heap number seat is. is) (λ heap number seat low. low)
       (λ heap state book rule number here. beside (λ g below e. omega (arith, e, below)));
   found = λ heap state book number stands here placed. tt;
 }

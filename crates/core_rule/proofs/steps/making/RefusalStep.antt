@@ -17,22 +17,22 @@ use Rattle.core_machine.specs.declared.step.SpineStep.TheVariants.{BudgetTakeBac
 use Rattle.core_machine.specs.Moves.{plain_move}
 use Rattle.core_machine.specs.declared.seat.looks.Looks.{Looks}
 use Rattle.core_machine.specs.seat.Looks.{forgotten, seen_phase}
-use Rattle.core_machine.proofs.table_lemmas.Addresses.{put-at, at-put_same}
-use Rattle.core_rule.proofs.spines.NoPlaces.{away_range}
+use Rattle.core_machine.proofs.table_lemmas.Addresses.{put_of_read_changes_nothing, at-put_same}
+use Rattle.core_rule.proofs.spines.NoPlaces.{same_range_away}
 use Rattle.core_rule.proofs.colours.LeadsFrames.{SameSources}
-use Rattle.core_rule.proofs.colours.SpineStays.{same_sources}
-use Rattle.core_rule.proofs.frames.BudgetWritten.{budget_words, budget_places, budget_sources, heap_budget, seat_budget}
+use Rattle.core_rule.proofs.colours.SpineStays.{same_sources_of_itself}
+use Rattle.core_rule.proofs.frames.BudgetWritten.{budget_words, budget_words_leave_places, same_sources_after_budget, heap_stands_after_budget, seat_stands_after_budget}
 use Rattle.core_rule.proofs.frames.SeatFrames.{with_entry}
-use Rattle.core_rule.proofs.steps.Assemble.{present_at, Keeps, MoveKeeps, StepKeeps, seat_fits}
-use Rattle.core_rule.proofs.steps.making.ToldRefusal.{grants_refused, told_refusal}
-use Rattle.core_rule.proofs.hand.Bodies.{bare_hand}
-use Rattle.core_rule.proofs.entries.InFlight.{is_busy}
-use Rattle.core_rule.proofs.entries.MakingCommands.{graph_full, accepts_full, full_keeps}
-use Rattle.core_rule.proofs.gather.Refusals.{finds_in_run}
-use Rattle.core_rule.proofs.budgets.BudgetFrames.{stepped, SameGrants, seats_change, budgets_stay}
-use Rattle.core_rule.proofs.budgets.BudgetSteps.{budgets_change, budget_small, budget_falls}
-use Rattle.core_rule.proofs.spines.OtherWords.{LeavesPlaces, places_of, spines_left_none}
-use Rattle.core_rule.proofs.steps.StepKinds.{StepKind, shows_one, refuses, refusal_follows, refusal_goes, refusal_finds, LeavesBits, only_loads, beside, plain_words, IsStore}
+use Rattle.core_rule.proofs.steps.Assemble.{making_seat_has_not_left, Keeps, MoveKeeps, StepKeeps, seat_fits}
+use Rattle.core_rule.proofs.steps.making.ToldRefusal.{same_grants_after_refusal, keeps_rule_by_refusal}
+use Rattle.core_rule.proofs.hand.Bodies.{bare_seat_holds_reserve}
+use Rattle.core_rule.proofs.entries.InFlight.{making_is_not_answered}
+use Rattle.core_rule.proofs.entries.MakingCommands.{graph_same_after_full, accepts_full, keeps_space_of_full}
+use Rattle.core_rule.proofs.gather.Refusals.{finds_space_in_run}
+use Rattle.core_rule.proofs.budgets.BudgetFrames.{stepped, SameGrants, seat_sum_after_step, budgets_stand_after_step}
+use Rattle.core_rule.proofs.budgets.BudgetSteps.{budgets_stand_after_change, budget_word_is_small, fallen_budget_fits_word}
+use Rattle.core_rule.proofs.spines.OtherWords.{LeavesPlaces, leaves_places_of_spines, leaves_spines_of_itself}
+use Rattle.core_rule.proofs.steps.StepKinds.{StepKind, shows_one, refuses, looks_follow_refusal, looks_go_at_refusal, tells_at_refusal, LeavesBits, only_loads, beside, on_words_of_plain_step, IsStore}
 
 -- a record's refusal is told at a load, an array's at the step that takes its spine words back
 refusal_cases : (P : Step → (ℕ → Looks → Looks) → Type 0) (command : Command) (words : ℕ) → MakesObject command → (spine_need_of command ≡ 0 → P steps.PollLoad seen_phase)
@@ -71,22 +71,22 @@ module _ (heap : Heap) (state : State) (book : Book) (number : ℕ) (rule : Rule
   makes = at_place.0.makes.an_object
 
   graph : graph_of heap (book.history ++ entry ∷ []) ≡ graph_of heap book.history
-  graph = graph_after-more (opening heap) book.history entry ∙ graph_full seat.command makes (graph_of heap book.history) number (need seat) found
+  graph = graph_after-more (opening heap) book.history entry ∙ graph_same_after_full seat.command makes (graph_of heap book.history) number (need seat) found
 
   -- what the seat has is what is to be found
   own : length seat.reserve + spent_of number book.history ≡ taken_of number book.history
-  own = bare_hand seat.reserve seat.hand seat.body (spent_of number book.history) (taken_of number book.history) at_place.1 at_place.0.no_body stands.told.counts.unborn
+  own = bare_seat_holds_reserve seat.reserve seat.hand seat.body (spent_of number book.history) (taken_of number book.history) at_place.1 at_place.0.no_body stands.told.counts.unborn
 
   finds : FindsSpace heap false book.history number found
-  finds = finds_in_run heap book.owner book.history number (book.begun number) seat.cursor seat.given (length seat.reserve) (seat_fits rule number here).own.cursor_within
-      rule.heap_stands.used own (stands.told.began.unanswered (is_busy Refusing seat.place place))
+  finds = finds_space_in_run heap book.owner book.history number (book.begun number) seat.cursor seat.given (length seat.reserve) (seat_fits rule number here).own.cursor_within
+      rule.heap_stands.used own (stands.told.began.unanswered (making_is_not_answered Refusing seat.place place))
       (subst (λ n. GathersRight heap book.owner number (drop (book.begun number) book.history) seat.cursor n seat.given) at_place.0.all_tried stands.told.gathers)
 
   accepts : Accepts (graph_of heap book.history) entry
-  accepts = accepts_full seat.command makes (graph_of heap book.history) number (need seat) found at_place.0.makes.in_range (present_at heap state book number Refusing rule here place)
+  accepts = accepts_full seat.command makes (graph_of heap book.history) number (need seat) found at_place.0.makes.in_range (making_seat_has_not_left heap state book number Refusing rule here place)
 
   keeps : KeepsSpace heap false book.history entry
-  keeps = full_keeps seat.command makes heap false book.history number found (omega (arith, own)) (omega (arith, own, (seat_fits rule number here).own.small_reserve))
+  keeps = keeps_space_of_full seat.command makes heap false book.history number found (omega (arith, own)) (omega (arith, own, (seat_fits rule number here).own.small_reserve))
       (omega (arith, at_place.0.too_few)) finds
 
   no_place : ¬ HasPlace seat seat.place
@@ -96,23 +96,23 @@ module _ (heap : Heap) (state : State) (book : Book) (number : ℕ) (rule : Rule
       (sources : (f : ℕ) → SameSources heap state.words words f) (looks : Looks) where
     -- as many spine words are granted by the book
     grants : SameGrants heap book (with_entry book entry)
-    grants = grants_refused heap state book number rule here Refusing place reply looks makes refl graph words heap_stands seats_stand sources
+    grants = same_grants_after_refusal heap state book number rule here Refusing place reply looks makes refl graph words heap_stands seats_stand sources
 
     -- so it is told where the heap, each seat and the budget stand
     tells : LeavesPlaces heap state.words words → BudgetsStand heap (stepped state number words (refused looks)) (with_entry book entry) → IsMachine heap (stepped state number words (refused looks))
         → Keeps heap state (stepped state number words (refused looks)) book book.begun (entry ∷ [])
-    tells = told_refusal heap state book number rule here Refusing place reply looks makes refl graph words heap_stands seats_stand sources at_place.1 at_place.0.no_body no_place accepts keeps
+    tells = keeps_rule_by_refusal heap state book number rule here Refusing place reply looks makes refl graph words heap_stands seats_stand sources at_place.1 at_place.0.no_body no_place accepts keeps
 
   -- at a load, where the call needs no spine words
   at_load : spine_need seat ≡ 0 → MoveKeeps heap state book number (refusal_at number seat steps.PollLoad seen_phase)
   at_load none machine =
       let looks : Looks = forgotten (seen_phase (at heap state.words Phase) seat.looks) in
-      let words_stay : put heap state.words Phase (at heap state.words Phase) ≡ state.words = put-at heap state.words Phase in
+      let words_stay : put heap state.words Phase (at heap state.words Phase) ≡ state.words = put_of_read_changes_nothing heap state.words Phase in
       subst (λ words. Keeps heap state (stepped state number words (refused looks)) book book.begun (entry ∷ [])) (sym words_stay)
-      (tells state.words rule.heap_stands rule.seats_stand (same_sources heap state.words) looks (places_of heap state.words state.words (spines_left_none heap state.words))
-      (budgets_stay heap state book number state.words (refused looks) (with_entry book entry) here rule.machine.seated (spines_left_none heap state.words)
-      record { granted = sym (rw place none); placed = λ half. sym (rw place refl); refused = sym (rw place refl); range = away_range seat (refused looks) (λ has. has) }
-      (grants state.words rule.heap_stands rule.seats_stand (same_sources heap state.words) looks) rule.space.budgets)
+      (tells state.words rule.heap_stands rule.seats_stand (same_sources_of_itself heap state.words) looks (leaves_places_of_spines heap state.words state.words (leaves_spines_of_itself heap state.words))
+      (budgets_stand_after_step heap state book number state.words (refused looks) (with_entry book entry) here rule.machine.seated (leaves_spines_of_itself heap state.words)
+      record { granted = sym (rw place none); placed = λ half. sym (rw place refl); refused = sym (rw place refl); range = same_range_away seat (refused looks) (λ has. has) }
+      (grants state.words rule.heap_stands rule.seats_stand (same_sources_of_itself heap state.words) looks) rule.space.budgets)
       (subst (λ words. IsMachine heap (stepped state number words (refused looks))) words_stay machine))
 
   -- and where the spine words are taken back
@@ -124,15 +124,15 @@ module _ (heap : Heap) (state : State) (book : Book) (number : ℕ) (rule : Rule
       let words : List ℕ = budget_words heap state book rule word in
       let old = rule.space.budgets in
       let given : granted_at seat seat.place ≡ spine_need seat = rw place refl in
-      let change = seats_change heap state number words (refused looks) granted_at here rule.machine.seated in
-      let spot : next_spine heap words ≡ next_spine heap state.words = ap spot_in (budget_places heap state book rule word).spot in
+      let change = seat_sum_after_step heap state number words (refused looks) granted_at here rule.machine.seated in
+      let spot : next_spine heap words ≡ next_spine heap state.words = ap spot_in (budget_words_leave_places heap state book rule word).spot in
       let there : spine_need seat ≤ was = omega (arith, old.word, change, given) in
-      let falls = budget_falls was (spine_need seat) (budget_small heap state book rule.machine old) there in
+      let falls = fallen_budget_fits_word was (spine_need seat) (budget_word_is_small heap state book rule.machine old) there in
       let now : at heap words Budget ≡ word = at-put_same heap state.words Budget word rule.machine.table tt in
-      tells words (heap_budget heap state book rule word) (seat_budget heap state book rule word) (budget_sources heap state book rule word) looks (budget_places heap state book rule word)
-      (budgets_change heap state book number here rule.machine.seated words (refused looks) (spine_need seat) 0 0
+      tells words (heap_stands_after_budget heap state book rule word) (seat_stands_after_budget heap state book rule word) (same_sources_after_budget heap state book rule word) looks (budget_words_leave_places heap state book rule word)
+      (budgets_stand_after_change heap state book number here rule.machine.seated words (refused looks) (spine_need seat) 0 0
       record { given_is = given; placed_is = rw place refl; refused_is = rw place refl } 0 0 0 record { given_is = refl; placed_is = refl; refused_is = refl } (with_entry book entry)
-      (grants words (heap_budget heap state book rule word) (seat_budget heap state book rule word) (budget_sources heap state book rule word) looks)
+      (grants words (heap_stands_after_budget heap state book rule word) (seat_stands_after_budget heap state book rule word) (same_sources_after_budget heap state book rule word) looks)
       (ap (λ (s : Spot). s.half) spot) (ap (λ (s : Spot). s.offset + 0) spot) (omega (arith, now, falls)) (omega (arith, old.low)) old)
       machine
 
@@ -156,16 +156,16 @@ refusal_bits heap (commands.Array d cells) words = beside (λ g below e. omega (
 refusal_bits heap _ words = only_loads (λ word. refl)
 
 -- all that is asked of it
-pub refusal_kind : StepKind (places.Making Refusing)
-refusal_kind = record {
+pub step_kind_of_refusing : StepKind (places.Making Refusing)
+step_kind_of_refusing = record {
   keeps = λ heap state book number rule here looks. refusal_keeps heap state book number rule here;
   shows = λ heap state number. shows_one _ (refuses refl);
   looks = record {
-    follows = λ heap state number seat compares placed. refusal_follows heap state number seat seat.command (spine_need seat);
-    goes = λ heap state book rule number placed. refusal_goes heap state book rule number (seat_at state number).command (spine_need (seat_at state number)) _ _ placed;
+    follows = λ heap state number seat compares placed. looks_follow_refusal heap state number seat seat.command (spine_need seat);
+    goes = λ heap state book rule number placed. looks_go_at_refusal heap state book rule number (seat_at state number).command (spine_need (seat_at state number)) _ _ placed;
     comes = λ heap number seat found placed. tt;
   };
-  words = plain_words (places.Making Refusing) (λ heap. refusal_move) (λ heap number seat. refl) (λ heap number seat. refuses_none seat.command (spine_need seat)) (λ heap number seat. refusing_there heap seat.command (spine_need seat))
+  words = on_words_of_plain_step (places.Making Refusing) (λ heap. refusal_move) (λ heap number seat. refl) (λ heap number seat. refuses_none seat.command (spine_need seat)) (λ heap number seat. refusing_there heap seat.command (spine_need seat))
       (λ heap state book rule number here. refusal_bits heap (seat_at state number).command (spine_need (seat_at state number)));
-  found = λ heap state book number stands here placed. refusal_finds heap state book number stands here (λ idle. cc (placed, idle)) (seat_at state number).command;
+  found = λ heap state book number stands here placed. tells_at_refusal heap state book number stands here (λ idle. cc (placed, idle)) (seat_at state number).command;
 }

@@ -9,31 +9,31 @@ use Rattle.core_machine.specs.declared.place.Making.{Making}
 use Rattle.core_machine.specs.declared.place.Making.TheVariants.{Storing}
 use Rattle.core_machine.specs.declared.place.Place.TheVariants as places
 use Rattle.core_machine.specs.Moves.{seat_after}
-use Rattle.core_rule.proofs.budgets.BudgetFrames.{grants_same}
-use Rattle.core_rule.proofs.frames.SeatFrames.{names_words}
+use Rattle.core_rule.proofs.budgets.BudgetFrames.{same_grants_recoloured}
+use Rattle.core_rule.proofs.frames.SeatFrames.{names_stand_with_words}
 use Rattle.core_rule.proofs.words.Addresses.{at-put_apart}
-use Rattle.core_rule.proofs.marking.MakingMarks.{leaves_stored}
-use Rattle.core_rule.proofs.marking.Marks.{marks_off_way}
-use Rattle.core_rule.proofs.book.BookGoing.{book_stays}
+use Rattle.core_rule.proofs.marking.MakingMarks.{leaves_marking_when_stored}
+use Rattle.core_rule.proofs.marking.Marks.{marks_go_on_off_way}
+use Rattle.core_rule.proofs.book.BookGoing.{book_goes_on_with_history}
 use Rattle.core_rule.proofs.budgets.NoneMade.{SameWeights}
-use Rattle.core_rule.proofs.spines.OtherWords.{spines_left_word}
-use Rattle.core_rule.proofs.spines.SpineFrames.{SameSpine, spines_words, spine_goes_on, spine_after}
-use Rattle.core_rule.proofs.steps.Assemble.{seat_steps, step_space, StepKeeps, seat_fits}
-use Rattle.core_rule.proofs.hand.Bodies.{body_once, body_at-own}
-use Rattle.core_rule.proofs.cycle.CycleFrames.{cycle_stays}
-use Rattle.core_rule.proofs.cycle.FieldFrames.{leaves_store, watched_born, heap_store}
-use Rattle.core_rule.proofs.hand.HandMoves.{hand_held}
-use Rattle.core_rule.proofs.entries.InFlight.{awaits_none, stored_within, began_on, is_busy}
-use Rattle.core_rule.proofs.cycle.MakingCycle.{cycle_goes_on}
-use Rattle.core_rule.proofs.lists.Members.{tally_at}
-use Rattle.core_rule.proofs.objects.ObjectFrames.{objects_store}
-use Rattle.core_rule.proofs.entries.OwnEntries.{counts_same}
-use Rattle.core_rule.proofs.owners.OwnerLemmas.{IsOwn, own_keeps_none, own_not_others, own_undead}
-use Rattle.core_rule.proofs.entries.SeatLists.{making_list, whole_list}
-use Rattle.core_rule.proofs.hand.StoredFrames.{stored_store}
-use Rattle.core_rule.proofs.hand.StoreLemmas.{bits_store, store_next}
-use Rattle.core_rule.proofs.dying.DeadWords.{dead_after_word}
-use Rattle.core_rule.proofs.steps.StepKinds.{StepKind, beside, from_usual, store_usual, way_kind, bears_none}
+use Rattle.core_rule.proofs.spines.OtherWords.{leaves_spines_after_word}
+use Rattle.core_rule.proofs.spines.SpineFrames.{SameSpine, spines_stand_with_words, spine_in_hand_goes_on, spine_in_hand_with_words}
+use Rattle.core_rule.proofs.steps.Assemble.{keeps_rule_after_step, space_stands_after_step, StepKeeps, seat_fits}
+use Rattle.core_rule.proofs.hand.Bodies.{body_has_each_once, body_fragment_is_own}
+use Rattle.core_rule.proofs.cycle.CycleFrames.{seat_in_cycle_stays}
+use Rattle.core_rule.proofs.cycle.FieldFrames.{leaves_cycle_after_store, watched_is_born, heap_in_cycle_after_store}
+use Rattle.core_rule.proofs.hand.HandMoves.{hand_fragment_is_taken}
+use Rattle.core_rule.proofs.entries.InFlight.{making_awaits_none, stored_within_body, began_without_entry, making_is_not_answered}
+use Rattle.core_rule.proofs.cycle.MakingCycle.{seat_in_cycle_goes_on}
+use Rattle.core_rule.proofs.lists.Members.{element_is_tallied}
+use Rattle.core_rule.proofs.objects.ObjectFrames.{objects_after_store}
+use Rattle.core_rule.proofs.entries.OwnEntries.{counts_agree_without_entry}
+use Rattle.core_rule.proofs.owners.OwnerLemmas.{IsOwn, own_is_not_kept, own_is_of_one_seat, own_is_not_dead}
+use Rattle.core_rule.proofs.entries.SeatLists.{making_list_is_all_told, own_list_where_all_told}
+use Rattle.core_rule.proofs.hand.StoredFrames.{is_stored_after_store}
+use Rattle.core_rule.proofs.hand.StoreLemmas.{bits_after_store, first_words_after_store}
+use Rattle.core_rule.proofs.dying.DeadWords.{dead_stay_after_word}
+use Rattle.core_rule.proofs.steps.StepKinds.{StepKind, beside, comes_from_usual, store_place_is_usual, step_kind_of_way, birth_colour_where_none_borne}
 
 -- what comes next is the next store, or the object's birth
 store_cases : (P : Making → Type 0) (stored : ℕ) (body : List ℕ) → P Storing → P Bearing → P (store_place stored body)
@@ -73,72 +73,72 @@ store_keeps heap state book number rule here place machine =
     let row : seat.stored / 4 < length seat.body = omega (arith, at_place.2) in
     let within : f < 16 * heap.groups = (seat_fits rule number here).hand.body_within (seat.stored / 4) 0 row in
     let fits_part : part < 4 = omega arith in
-    let own : IsOwn number (book.owner f) = body_at-own book.owner number seat.reserve seat.hand seat.body stands.own.holding (seat.stored / 4) row in
-    let in_hand : 1 ≤ tally f seat.hand = subst (λ fs. 1 ≤ tally f fs) (sym at_place.1) (tally_at seat.body (seat.stored / 4) row) in
-    let unborn : born_bit (book.owner f) ≡ 0 = ap born_bit (hand_held book.owner number seat.reserve seat.hand seat.body stands.own.holding f in_hand) in
-    let once = body_once book.owner number seat.reserve seat.hand seat.body stands.own.holding (omega (arith, row)) in
+    let own : IsOwn number (book.owner f) = body_fragment_is_own book.owner number seat.reserve seat.hand seat.body stands.own.holding (seat.stored / 4) row in
+    let in_hand : 1 ≤ tally f seat.hand = subst (λ fs. 1 ≤ tally f fs) (sym at_place.1) (element_is_tallied seat.body (seat.stored / 4) row) in
+    let unborn : born_bit (book.owner f) ≡ 0 = ap born_bit (hand_fragment_is_taken book.owner number seat.reserve seat.hand seat.body stands.own.holding f in_hand) in
+    let once = body_has_each_once book.owner number seat.reserve seat.hand seat.body stands.own.holding (omega (arith, row)) in
     let stays = stays_placed number seat found place in
-    let leaves = spines_left_word heap state.words word f part within fits_part in
-    seat_steps heap state book number words (seat_after (store_move number seat) found) book [] rule here machine (sym (append-nil book.history)) refl
+    let leaves = leaves_spines_after_word heap state.words word f part within fits_part in
+    keeps_rule_after_step heap state book number words (seat_after (store_move number seat) found) book [] rule here machine (sym (append-nil book.history)) refl
     record {
-      control_words = bits_store heap state.words book.owner f part word rule.heap_stands.control_words;
+      control_words = bits_after_store heap state.words book.owner f part word rule.heap_stands.control_words;
       owners = rule.heap_stands.owners;
       ids = rule.heap_stands.ids;
-      objects = objects_store heap state.words (graph_of heap book.history) book.made book.owner book.fragments book.spines f part word within fits_part
-          (λ i k. own_keeps_none number i k (book.owner f) own) rule.heap_stands.objects;
-      spines = spines_words heap state.words words leaves heap.seats (length book.made) book.spines book.fragments book.spine_owner
+      objects = objects_after_store heap state.words (graph_of heap book.history) book.made book.owner book.fragments book.spines f part word within fits_part
+          (λ i k. own_is_not_kept number i k (book.owner f) own) rule.heap_stands.objects;
+      spines = spines_stand_with_words heap state.words words leaves heap.seats (length book.made) book.spines book.fragments book.spine_owner
           (node_at (graph_of heap book.history) book.made) book.owner
-          (dead_after_word heap state.words book.owner f part word fits_part (λ i k. own_undead number i k (book.owner f) own)) rule.heap_stands.spines;
+          (dead_stay_after_word heap state.words book.owner f part word fits_part (λ i k. own_is_not_dead number i k (book.owner f) own)) rule.heap_stands.spines;
       used = rule.heap_stands.used;
       legal = rule.heap_stands.legal;
-      cycle = heap_store heap state.words book.owner book.colour (phase book.history) f part word within fits_part unborn book.fragments rule.heap_stands.cycle;
+      cycle = heap_in_cycle_after_store heap state.words book.owner book.colour (phase book.history) f part word within fits_part unborn book.fragments rule.heap_stands.cycle;
     }
     record {
       own = record {
         holding = stands.own.holding;
-        stored = store_next heap seat.body (newborn_word_of number seat) state.words seat.stored once (seat_fits rule number here).hand.body_within at_place.2 rule.machine.table stands.own.stored;
+        stored = first_words_after_store heap seat.body (newborn_word_of number seat) state.words seat.stored once (seat_fits rule number here).hand.body_within at_place.2 rule.machine.table stands.own.stored;
         together = stands.own.together;
-        spine = spine_goes_on heap state.words words book.spine_owner number seat (seat_after (store_move number seat) found) leaves stays.same stands.own.spine;
+        spine = spine_in_hand_goes_on heap state.words words book.spine_owner number seat (seat_after (store_move number seat) found) leaves stays.same stands.own.spine;
       };
-      names = record { registers = λ r fresh. stands.names.registers r (awaits_none Storing seat.place (target_of seat.command) r place); way = tt; address = tt };
+      names = record { registers = λ r fresh. stands.names.registers r (making_awaits_none Storing seat.place (target_of seat.command) r place); way = tt; address = tt };
       told = record {
-        list = whole_list (graph_of heap book.history) book.history book.made book.owner book.fragments number (seat_after (store_move number seat) found) refl
-            (append-nil seat.mine ∙ making_list (graph_of heap book.history) book.history book.made book.owner book.fragments number seat Storing place stands.told.list);
-        counts = counts_same (graph_of heap book.history) book.history number seat (seat_after (store_move number seat) found) refl refl refl refl stands.told.counts;
-        began = began_on book.history number (book.begun number) seat.place (seat_after (store_move number seat) found).place (is_busy Storing seat.place place) stands.told.began;
+        list = own_list_where_all_told (graph_of heap book.history) book.history book.made book.owner book.fragments number (seat_after (store_move number seat) found) refl
+            (append-nil seat.mine ∙ making_list_is_all_told (graph_of heap book.history) book.history book.made book.owner book.fragments number seat Storing place stands.told.list);
+        counts = counts_agree_without_entry (graph_of heap book.history) book.history number seat (seat_after (store_move number seat) found) refl refl refl refl stands.told.counts;
+        began = began_without_entry book.history number (book.begun number) seat.place (seat_after (store_move number seat) found).place (making_is_not_answered Storing seat.place place) stands.told.began;
         gathers = stands.told.gathers;
         used = stays.none_used heap book.history number;
       };
-      cycle = cycle_goes_on heap state.words words book.owner book.owner book.colour (phase book.history) (last_answer number book.history) (has_left number book.history) number seat
+      cycle = seat_in_cycle_goes_on heap state.words words book.owner book.owner book.colour (phase book.history) (last_answer number book.history) (has_left number book.history) number seat
           (seat_after (store_move number seat) found) record { answered = refl; left = refl; asked = refl } tt
           (at-put_apart heap state.words (Word f part) (Answer number) word (λ e. omega (arith, e, here, rule.machine.limits.seats_fit))) (λ x borne. borne) stands.cycle;
     }
     (λ r below apart other. record {
       own = record {
         holding = other.own.holding;
-        stored = stored_store heap state.words book.owner r (seat_at state r) f part word other.own.holding
-            (stored_within heap (seat_at state r) (seat_at state r).place (seat_fits rule r below).at_place) fits_part (λ o. apart (own_not_others r number (book.owner f) o own)) other.own.stored;
+        stored = is_stored_after_store heap state.words book.owner r (seat_at state r) f part word other.own.holding
+            (stored_within_body heap (seat_at state r) (seat_at state r).place (seat_fits rule r below).at_place) fits_part (λ o. apart (own_is_of_one_seat r number (book.owner f) o own)) other.own.stored;
         together = other.own.together;
-        spine = spine_after heap state.words words book.spine_owner r (seat_at state r) leaves other.own.spine;
+        spine = spine_in_hand_with_words heap state.words words book.spine_owner r (seat_at state r) leaves other.own.spine;
       };
-      names = names_words heap state.words words leaves.spines (graph_of heap book.history) book.made book.owner book.fragments book.spines book.spine_owner r (seat_at state r) other.names;
+      names = names_stand_with_words heap state.words words leaves.spines (graph_of heap book.history) book.made book.owner book.fragments book.spines book.spine_owner r (seat_at state r) other.names;
       told = other.told;
-      cycle = cycle_stays heap state.words words book.owner book.owner book.colour book.colour (phase book.history) (last_answer r book.history) (has_left r book.history) r (seat_at state r)
-          (leaves_store heap state.words book.owner book.colour (phase book.history) f part word within fits_part unborn r (omega (arith, below, rule.machine.limits.seats_fit)))
-          (watched_born heap state book rule r below) other.cycle;
+      cycle = seat_in_cycle_stays heap state.words words book.owner book.owner book.colour book.colour (phase book.history) (last_answer r book.history) (has_left r book.history) r (seat_at state r)
+          (leaves_cycle_after_store heap state.words book.owner book.colour (phase book.history) f part word within fits_part unborn r (omega (arith, below, rule.machine.limits.seats_fit)))
+          (watched_is_born heap state book rule r below) other.cycle;
     })
-    (marks_off_way heap state book rule number here words book (seat_after (store_move number seat) found) (leaves_stored heap state book rule f part word within fits_part unborn) refl refl tt)
-    (step_space heap state book number rule here words (seat_after (store_move number seat) found) book leaves stays.weights (grants_same heap book book.colour book.begun) (λ x dark. dark))
-    (book_stays heap state book book.history book.begun)
+    (marks_go_on_off_way heap state book rule number here words book (seat_after (store_move number seat) found) (leaves_marking_when_stored heap state book rule f part word within fits_part unborn) refl refl tt)
+    (space_stands_after_step heap state book number rule here words (seat_after (store_move number seat) found) book leaves stays.weights (same_grants_recoloured heap book book.colour book.begun) (λ x dark. dark))
+    (book_goes_on_with_history heap state book book.history book.begun)
 
 -- all that is asked of it
-pub store_kind : StepKind (places.Making Storing)
-store_kind = way_kind (places.Making Storing) (λ heap. store_move) (λ heap number seat. refl) (λ e. cc e) (λ heap number seat. tt) (λ heap number seat words found. refl) record {
+pub step_kind_of_storing : StepKind (places.Making Storing)
+step_kind_of_storing = step_kind_of_way (places.Making Storing) (λ heap. store_move) (λ heap number seat. refl) (λ e. cc e) (λ heap number seat. tt) (λ heap number seat words found. refl) record {
   keeps = store_keeps;
   stays = λ heap number seat found placed. record { looks = refl; elsewhere = tt };
-  comes = λ heap number seat found. from_usual _ (after_store seat).place (store_usual (seat.stored + 1) seat.body);
+  comes = λ heap number seat found. comes_from_usual _ (after_store seat).place (store_place_is_usual (seat.stored + 1) seat.body);
   words = record {
-    bears = λ heap state book rule number here f within unborn. bears_none (places.Making Storing) (λ heap. store_move) (λ heap number seat. refl) heap state book rule number f within unborn (beside (λ g below e. omega (arith, e, below)));
+    bears = λ heap state book rule number here f within unborn. birth_colour_where_none_borne (places.Making Storing) (λ heap. store_move) (λ heap number seat. refl) heap state book rule number f within unborn (beside (λ g below e. omega (arith, e, below)));
     stores = λ heap number seat is. inl refl;
     there = λ heap state book rule number here placed low. low;
   };

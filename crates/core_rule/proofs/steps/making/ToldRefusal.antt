@@ -8,26 +8,26 @@ use Rattle.core_machine.specs.declared.place.Making.{Making}
 use Rattle.core_machine.specs.declared.place.Place.TheVariants as places
 use Rattle.core_machine.specs.declared.seat.looks.Looks.{Looks}
 use Rattle.core_rule.proofs.spines.OtherWords.{LeavesPlaces}
-use Rattle.core_rule.proofs.spines.NoPlaces.{away_range}
-use Rattle.core_rule.proofs.halves.HalvesFrames.{halves_stay}
+use Rattle.core_rule.proofs.spines.NoPlaces.{same_range_away}
+use Rattle.core_rule.proofs.halves.HalvesFrames.{halves_stand_after_step}
 use Rattle.core_rule.proofs.colours.LeadsFrames.{SameSources}
-use Rattle.core_rule.proofs.cycle.CycleHistory.{cycle_own}
-use Rattle.core_rule.proofs.cycle.MakingCycle.{cycle_goes_on}
-use Rattle.core_rule.proofs.entries.InFlight.{awaits_none, began_idle}
-use Rattle.core_rule.proofs.entries.Others.{of_other}
-use Rattle.core_rule.proofs.entries.OwnEntries.{own_grows, counts_own}
-use Rattle.core_rule.proofs.entries.PhaseEntries.{no_leave_told}
-use Rattle.core_rule.proofs.entries.SeatLists.{making_list, whole_list}
-use Rattle.core_rule.proofs.book.BookGoing.{book_stays}
-use Rattle.core_rule.proofs.frames.Replying.{no_part, heap_told, grants_told, other_told}
+use Rattle.core_rule.proofs.cycle.CycleHistory.{seat_in_cycle_after_own}
+use Rattle.core_rule.proofs.cycle.MakingCycle.{seat_in_cycle_goes_on}
+use Rattle.core_rule.proofs.entries.InFlight.{making_awaits_none, began_idle_after_reply}
+use Rattle.core_rule.proofs.entries.Others.{seat_is_not_other}
+use Rattle.core_rule.proofs.entries.OwnEntries.{own_list_grows, counts_agree_after_own}
+use Rattle.core_rule.proofs.entries.PhaseEntries.{reply_is_no_leave}
+use Rattle.core_rule.proofs.entries.SeatLists.{making_list_is_all_told, own_list_where_all_told}
+use Rattle.core_rule.proofs.book.BookGoing.{book_goes_on_with_history}
+use Rattle.core_rule.proofs.frames.Replying.{effect_part_is_none, heap_stands_after_reply, same_grants_after_reply, other_seat_stands_after_reply}
 use Rattle.core_rule.proofs.frames.SeatFrames.{with_entry}
-use Rattle.core_rule.proofs.gather.GatherMoves.{nothing_tried}
-use Rattle.core_rule.proofs.graph.SameNodes.{SameNodes, nodes_same}
-use Rattle.core_rule.proofs.hand.EmptyHand.{nothing_together, none_stored, holding_as}
-use Rattle.core_rule.proofs.marking.Marks.{leaves_words, marks_off_way}
+use Rattle.core_rule.proofs.gather.GatherMoves.{gathers_right_untried}
+use Rattle.core_rule.proofs.graph.SameNodes.{SameNodes, same_nodes_of_equal}
+use Rattle.core_rule.proofs.hand.EmptyHand.{together_where_empty, is_stored_where_none, holding_of_equal_hand}
+use Rattle.core_rule.proofs.marking.Marks.{leaves_by_same_sources, marks_go_on_off_way}
 use Rattle.core_rule.proofs.budgets.BudgetFrames.{stepped, SameGrants}
-use Rattle.core_rule.proofs.spines.SpineFrames.{spine_away}
-use Rattle.core_rule.proofs.steps.Assemble.{Keeps, seat_steps, seat_fits}
+use Rattle.core_rule.proofs.spines.SpineFrames.{spine_in_hand_away}
+use Rattle.core_rule.proofs.steps.Assemble.{Keeps, keeps_rule_after_step, seat_fits}
 
 module _ (heap : Heap) (state : State) (book : Book) (number : ℕ) (rule : Rule heap state book) (here : number < heap.seats) (making : Making) (place : (seat_at state number).place ≡ places.Making making)
     (reply : Reply) (looks : Looks) (makes : MakesObject (seat_at state number).command) (nothing : effect_of (Said number (seat_at state number).command reply) ≡ no_effect)
@@ -54,53 +54,53 @@ module _ (heap : Heap) (state : State) (book : Book) (number : ℕ) (rule : Rule
   after = graph_of heap book_refused.history
 
   nodes : SameNodes before after
-  nodes = nodes_same before after graph
+  nodes = same_nodes_of_equal before after graph
 
   -- as many spine words are granted by the book
-  pub grants_refused : SameGrants heap book book_refused
-  grants_refused = grants_told heap words book entry nothing nodes refl
+  pub same_grants_after_refusal : SameGrants heap book book_refused
+  same_grants_after_refusal = same_grants_after_reply heap words book entry nothing nodes refl
 
   -- each other seat stands
   other_stands : (r : ℕ) → r < heap.seats → r ≢ number → SeatStands heap state.words book r (seat_at state r) → SeatStands heap words book_refused r (seat_at state r)
   other_stands r below apart other =
-      other_told heap words book entry nothing nodes r (seat_at state r) (of_other number r apart) (ap (λ (x : Graph). graph_seat x r) graph) (seats_stand r below)
+      other_seat_stands_after_reply heap words book entry nothing nodes r (seat_at state r) (seat_is_not_other number r apart) (ap (λ (x : Graph). graph_seat x r) graph) (seats_stand r below)
 
   -- so the refusal keeps the rule, where its entry may stand, nothing is in the hand and no spine has its place, and the budget stands
-  pub told_refusal : seat.hand ≡ [] → seat.body ≡ [] → ¬ HasPlace seat seat.place → Accepts before entry → KeepsSpace heap false book.history entry
+  pub keeps_rule_by_refusal : seat.hand ≡ [] → seat.body ≡ [] → ¬ HasPlace seat seat.place → Accepts before entry → KeepsSpace heap false book.history entry
       → LeavesPlaces heap state.words words → BudgetsStand heap (stepped state number words refused) book_refused → IsMachine heap (stepped state number words refused)
       → Keeps heap state (stepped state number words refused) book book.begun (entry ∷ [])
-  told_refusal empty bare no_place accepts keeps places budgets machine =
+  keeps_rule_by_refusal empty bare no_place accepts keeps places budgets machine =
       let stands = seats_stand number here in
       let silent : IsSilent seat = rw place at (seat_fits rule number here).answer_at_place in
-      let list = making_list before book.history book.made book.owner book.fragments number seat making place stands.told.list in
+      let list = making_list_is_all_told before book.history book.made book.owner book.fragments number seat making place stands.told.list in
       let none_left : length (fragments_in_hand seat.hand seat.body) ≡ 0 = rw (bare, empty) refl in
-      seat_steps heap state book number words refused book_refused (entry ∷ []) rule here machine refl refl
-      (heap_told heap words book entry nothing nodes accepts keeps heap_stands)
+      keeps_rule_after_step heap state book number words refused book_refused (entry ∷ []) rule here machine refl refl
+      (heap_stands_after_reply heap words book entry nothing nodes accepts keeps heap_stands)
       record {
         own = record {
-          holding = holding_as book.owner number seat.reserve seat.hand seat.body seat.reserve [] [] refl (sym empty) (sym bare) stands.own.holding;
-          stored = none_stored heap words number refused refl;
-          together = nothing_together heap seat.cursor 0 [] [] refl refl;
-          spine = spine_away heap words words book.spine_owner number seat refused no_place (λ none. none) stands.own.spine;
+          holding = holding_of_equal_hand book.owner number seat.reserve seat.hand seat.body seat.reserve [] [] refl (sym empty) (sym bare) stands.own.holding;
+          stored = is_stored_where_none heap words number refused refl;
+          together = together_where_empty heap seat.cursor 0 [] [] refl refl;
+          spine = spine_in_hand_away heap words words book.spine_owner number seat refused no_place (λ none. none) stands.own.spine;
         };
-        names = record { registers = rw graph (λ r fresh. stands.names.registers r (awaits_none making seat.place (target_of seat.command) r place)); way = tt; address = tt };
+        names = record { registers = rw graph (λ r fresh. stands.names.registers r (making_awaits_none making seat.place (target_of seat.command) r place)); way = tt; address = tt };
         told = record {
-          list = whole_list after book_refused.history book.made book.owner book.fragments number refused refl (own_grows number book.history seat.mine entry (eq-eqb number number refl) list);
-          counts = rw graph (counts_own before before book.history number seat refused stands.told.counts entry (eq-eqb number number refl)
-              stands.told.counts.numbered stands.told.counts.stamped stands.told.counts.leaves (omega (arith, none_left, no_part entry (λ e. e.born) nothing refl)));
-          began = began_idle book.history entry number (book.begun number) seat.place stands.told.began;
-          gathers = nothing_tried heap book.owner number (drop (book.begun number) book_refused.history) seat.cursor;
+          list = own_list_where_all_told after book_refused.history book.made book.owner book.fragments number refused refl (own_list_grows number book.history seat.mine entry (eq-eqb number number refl) list);
+          counts = rw graph (counts_agree_after_own before before book.history number seat refused stands.told.counts entry (eq-eqb number number refl)
+              stands.told.counts.numbered stands.told.counts.stamped stands.told.counts.leaves (omega (arith, none_left, effect_part_is_none entry (λ e. e.born) nothing refl)));
+          began = began_idle_after_reply book.history entry number (book.begun number) seat.place stands.told.began;
+          gathers = gathers_right_untried heap book.owner number (drop (book.begun number) book_refused.history) seat.cursor;
           used = tt;
         };
-        cycle = cycle_own heap words book.owner book.colour book.history entry refl number refused
-            (cycle_goes_on heap words words book.owner book.owner book.colour (phase book.history) (last_answer number book.history) (has_left number book.history) number seat
+        cycle = seat_in_cycle_after_own heap words book.owner book.colour book.history entry refl number refused
+            (seat_in_cycle_goes_on heap words words book.owner book.owner book.colour (phase book.history) (last_answer number book.history) (has_left number book.history) number seat
             refused record { answered = refl; left = refl; asked = sym silent.none_asked } tt refl (λ f borne. borne) stands.cycle)
-            refl (no_leave_told number number seat.command _ (λ leaving. subst MakesObject leaving makes));
+            refl (reply_is_no_leave number number seat.command _ (λ leaving. subst MakesObject leaving makes));
       }
       other_stands
-      (marks_off_way heap state book rule number here words book_refused refused (leaves_words heap state book rule words sources) refl refl tt)
+      (marks_go_on_off_way heap state book rule number here words book_refused refused (leaves_by_same_sources heap state book rule words sources) refl refl tt)
       record {
         budgets = budgets;
-        halves = halves_stay heap state book number words refused book_refused here rule.machine.seated places (away_range seat refused (λ none. none)) grants_refused (λ f dark. dark) rule.space.halves;
+        halves = halves_stand_after_step heap state book number words refused book_refused here rule.machine.seated places (same_range_away seat refused (λ none. none)) same_grants_after_refusal (λ f dark. dark) rule.space.halves;
       }
-      (book_stays heap state book book_refused.history book.begun)
+      (book_goes_on_with_history heap state book book_refused.history book.begun)

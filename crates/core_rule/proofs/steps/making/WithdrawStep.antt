@@ -10,14 +10,14 @@ use Rattle.core_machine.specs.declared.place.Place.TheVariants as places
 use Rattle.core_machine.specs.Moves.{seat_after}
 use Rattle.core_machine.specs.seat.Looks.{forgotten}
 use Rattle.core_machine.proofs.table_lemmas.Addresses.{at-put_same}
-use Rattle.core_rule.proofs.entries.MakingCommands.{graph_spine_full, accepts_spine_full, spine_full_keeps}
+use Rattle.core_rule.proofs.entries.MakingCommands.{graph_same_after_spine_full, accepts_spine_full, keeps_space_of_spine_full}
 use Rattle.core_rule.proofs.frames.SeatFrames.{with_entry}
-use Rattle.core_rule.proofs.hand.Bodies.{bare_hand}
-use Rattle.core_rule.proofs.budgets.BudgetSteps.{HasWeights, refused_change, budgets_change, budget_small, budget_falls}
-use Rattle.core_rule.proofs.frames.BudgetWritten.{budget_words, budget_places, budget_sources, heap_budget, seat_budget}
-use Rattle.core_rule.proofs.steps.Assemble.{present_at, MoveKeeps, StepKeeps, seat_fits}
-use Rattle.core_rule.proofs.steps.making.ToldRefusal.{grants_refused, told_refusal}
-use Rattle.core_rule.proofs.steps.StepKinds.{StepKind, beside, shows_one, refuses_words, reply_ends, plain_words}
+use Rattle.core_rule.proofs.hand.Bodies.{bare_seat_holds_reserve}
+use Rattle.core_rule.proofs.budgets.BudgetSteps.{HasWeights, refused_sum_after_step, budgets_stand_after_change, budget_word_is_small, fallen_budget_fits_word}
+use Rattle.core_rule.proofs.frames.BudgetWritten.{budget_words, budget_words_leave_places, same_sources_after_budget, heap_stands_after_budget, seat_stands_after_budget}
+use Rattle.core_rule.proofs.steps.Assemble.{making_seat_has_not_left, MoveKeeps, StepKeeps, seat_fits}
+use Rattle.core_rule.proofs.steps.making.ToldRefusal.{same_grants_after_refusal, keeps_rule_by_refusal}
+use Rattle.core_rule.proofs.steps.StepKinds.{StepKind, beside, shows_one, refuses_words, on_looks_of_reply, on_words_of_plain_step}
 use Rattle.heap_model.specs.declared.reply.Reply.TheVariants as replies
 
 module _ (heap : Heap) (state : State) (book : Book) (number : ℕ) (rule : Rule heap state book) (here : number < heap.seats) (place : (seat_at state number).place ≡ places.Making Withdrawing) where
@@ -60,15 +60,15 @@ module _ (heap : Heap) (state : State) (book : Book) (number : ℕ) (rule : Rule
 
   fallen : at heap words Budget + needs ≡ at heap state.words Budget
   fallen =
-      let less = refused_change heap state book number here rule.machine.seated words new 0 0 needs asked 0 0 0 nothing in
+      let less = refused_sum_after_step heap state book number here rule.machine.seated words new 0 0 needs asked 0 0 0 nothing in
       omega (
         arith,
         at-put_same heap state.words Budget word rule.machine.table tt,
-        budget_falls (at heap state.words Budget) needs (budget_small heap state book rule.machine rule.space.budgets) (omega (arith, less, rule.space.budgets.word)),
+        fallen_budget_fits_word (at heap state.words Budget) needs (budget_word_is_small heap state book rule.machine rule.space.budgets) (omega (arith, less, rule.space.budgets.word)),
       )
 
   same_place : next_spine heap words ≡ next_spine heap state.words
-  same_place = ap spot_in (budget_places heap state book rule word).spot
+  same_place = ap spot_in (budget_words_leave_places heap state book rule word).spot
 
   -- the refusal shows what was found
   finds : FindsSpine heap false book.history number seat.used
@@ -78,40 +78,40 @@ module _ (heap : Heap) (state : State) (book : Book) (number : ℕ) (rule : Rule
   shown = omega (arith, (subst (UsedStands heap book.history number seat) place stands.told.used).1)
 
   own : length seat.reserve + spent_of number book.history ≡ taken_of number book.history
-  own = bare_hand seat.reserve seat.hand seat.body (spent_of number book.history) (taken_of number book.history) fits.rests.empty_hand fits.rests.no_body stands.told.counts.unborn
+  own = bare_seat_holds_reserve seat.reserve seat.hand seat.body (spent_of number book.history) (taken_of number book.history) fits.rests.empty_hand fits.rests.no_body stands.told.counts.unborn
 
   graph : graph_of heap later.history ≡ g
-  graph = graph_after-more (opening heap) book.history entry ∙ graph_spine_full seat.command fits.an_array g number needs (seat.used % 2 ^ 32)
+  graph = graph_after-more (opening heap) book.history entry ∙ graph_same_after_spine_full seat.command fits.an_array g number needs (seat.used % 2 ^ 32)
 
   accepts : Accepts g entry
-  accepts = accepts_spine_full seat.command fits.an_array g number needs (seat.used % 2 ^ 32) fits.makes.in_range (present_at heap state book number Withdrawing rule here place)
+  accepts = accepts_spine_full seat.command fits.an_array g number needs (seat.used % 2 ^ 32) fits.makes.in_range (making_seat_has_not_left heap state book number Withdrawing rule here place)
 
   keeps : KeepsSpace heap false book.history entry
-  keeps = spine_full_keeps seat.command fits.an_array heap false book.history number (seat.used % 2 ^ 32)
+  keeps = keeps_space_of_spine_full seat.command fits.an_array heap false book.history number (seat.used % 2 ^ 32)
       (omega (arith, own)) (omega (arith, own, (seat_fits rule number here).own.small_reserve)) (omega (arith, shown, fits.too_many)) (subst (FindsSpine heap false book.history number) (sym shown) finds)
 
   -- so they are taken back, and the refusal is told
   withdraws : MoveKeeps heap state book number (withdraw_move number seat)
   withdraws =
-      told_refusal heap state book number rule here Withdrawing place (SpineFull needs (seat.used % 2 ^ 32)) (forgotten seat.looks) fits.makes.an_object refl graph words
-      (heap_budget heap state book rule word) (seat_budget heap state book rule word) (budget_sources heap state book rule word)
-      fits.rests.empty_hand fits.rests.no_body (λ has. rw place at has) accepts keeps (budget_places heap state book rule word)
-      (budgets_change heap state book number here rule.machine.seated words new 0 0 needs asked 0 0 0 nothing later
-      (grants_refused heap state book number rule here Withdrawing place (SpineFull needs (seat.used % 2 ^ 32)) (forgotten seat.looks) fits.makes.an_object refl graph words
-      (heap_budget heap state book rule word) (seat_budget heap state book rule word) (budget_sources heap state book rule word))
+      keeps_rule_by_refusal heap state book number rule here Withdrawing place (SpineFull needs (seat.used % 2 ^ 32)) (forgotten seat.looks) fits.makes.an_object refl graph words
+      (heap_stands_after_budget heap state book rule word) (seat_stands_after_budget heap state book rule word) (same_sources_after_budget heap state book rule word)
+      fits.rests.empty_hand fits.rests.no_body (λ has. rw place at has) accepts keeps (budget_words_leave_places heap state book rule word)
+      (budgets_stand_after_change heap state book number here rule.machine.seated words new 0 0 needs asked 0 0 0 nothing later
+      (same_grants_after_refusal heap state book number rule here Withdrawing place (SpineFull needs (seat.used % 2 ^ 32)) (forgotten seat.looks) fits.makes.an_object refl graph words
+      (heap_stands_after_budget heap state book rule word) (seat_stands_after_budget heap state book rule word) (same_sources_after_budget heap state book rule word))
       (ap (λ (s : Spot). s.half) same_place) (ap (λ (s : Spot). s.offset + 0) same_place) (omega (arith, fallen)) (omega (arith, rule.space.budgets.low)) rule.space.budgets)
 
 pub withdraw_keeps : StepKeeps (places.Making Withdrawing) (λ heap. withdraw_move)
 withdraw_keeps heap state book number rule here place = withdraws heap state book number rule here place
 
 -- all that is asked of it
-pub withdraw_kind : StepKind (places.Making Withdrawing)
-withdraw_kind = record {
+pub step_kind_of_withdrawing : StepKind (places.Making Withdrawing)
+step_kind_of_withdrawing = record {
   keeps = λ heap state book number rule here looks. withdraw_keeps heap state book number rule here;
   shows = λ heap state number. shows_one _ (refuses_words refl);
-  looks = reply_ends (places.Making Withdrawing) (λ heap. withdraw_move) (λ seat found. replies.SpineFull (spine_need seat) (seat.used % 2 ^ 32)) (λ heap number seat. refl) (λ heap number seat. tt)
+  looks = on_looks_of_reply (places.Making Withdrawing) (λ heap. withdraw_move) (λ seat found. replies.SpineFull (spine_need seat) (seat.used % 2 ^ 32)) (λ heap number seat. refl) (λ heap number seat. tt)
       (λ heap number seat found. refl) (λ heap number seat found. refl) (λ heap number seat words found. refl);
-  words = plain_words (places.Making Withdrawing) (λ heap. withdraw_move) (λ heap number seat. refl) (λ heap number seat is. is) (λ heap number seat low. low)
+  words = on_words_of_plain_step (places.Making Withdrawing) (λ heap. withdraw_move) (λ heap number seat. refl) (λ heap number seat is. is) (λ heap number seat low. low)
       (λ heap state book rule number here. beside (λ g below e. omega (arith, e, below)));
   found = λ heap state book number stands here placed. tt;
 }

@@ -1,13 +1,13 @@
 use Rattle.std.proofs.Common.{Some, None, ap, codes, ◌∙◌}
 use Rattle.clap.specs.Words.{found_of, rows_of}
-use Rattle.form_words.proofs.FoundTexts.{no_pace, text_found}
+use Rattle.form_words.proofs.FoundTexts.{text_has_no_pace, first_text_is_found}
 use Rattle.form_words.proofs.setting.pace_in.Goals as goal
 
 pub returns-in_err-of-in-Some-clause-none : goal.returns-in_err-of-in-Some-clause-none
-returns-in_err-of-in-Some-clause-none c = rw c.from_residual.ensures (no_pace (rows_of (found_of c.args.matches.now)) c.in-Some.word.now (text_found (found_of c.args.matches.now) (codes "pace") (Some c.in-Some.word.now) c.in-Some.ensures) c.in_err-of-in-Some.ensures.none)
+returns-in_err-of-in-Some-clause-none c = rw c.from_residual.ensures (text_has_no_pace (rows_of (found_of c.args.matches.now)) c.in-Some.word.now (first_text_is_found (found_of c.args.matches.now) (codes "pace") (Some c.in-Some.word.now) c.in-Some.ensures) c.in_err-of-in-Some.ensures.none)
 
 pub returns-in-None-clause-some : goal.returns-in-None-clause-some
-returns-in-None-clause-some c = text_found (found_of c.args.matches.now) (codes "pace") None c.in-None.ensures
+returns-in-None-clause-some c = first_text_is_found (found_of c.args.matches.now) (codes "pace") None c.in-None.ensures
 
 pub returns-in_ok-of-in-Some-clause-some : goal.returns-in_ok-of-in-Some-clause-some
-returns-in_ok-of-in-Some-clause-some c = text_found (found_of c.args.matches.now) (codes "pace") (Some c.in-Some.word.now) c.in-Some.ensures ∙ ap Some c.in_ok-of-in-Some.ensures.some
+returns-in_ok-of-in-Some-clause-some c = first_text_is_found (found_of c.args.matches.now) (codes "pace") (Some c.in-Some.word.now) c.in-Some.ensures ∙ ap Some c.in_ok-of-in-Some.ensures.some

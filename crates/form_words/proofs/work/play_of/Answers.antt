@@ -1,15 +1,15 @@
 use Rattle.std.proofs.Common.{ℕ, Bor, List, map, refl, subst}
 use Rattle.clap.specs.Simple.{App}
 use Rattle.form_words.specs.Matched.{FindsSettings}
-use Rattle.form_words.proofs.FoundWorks.{no_play_found, play_completes}
+use Rattle.form_words.proofs.FoundWorks.{nothing_completes_play, found_play_completes}
 use Rattle.form_words.proofs.work.play_of.Goals as goal
 
 pub returns-in_default-clause-none : goal.returns-in_default-clause-none
 returns-in_default-clause-none c =
     let none = rw c.in_default.is at c.in_ok-settings.ensures.none in
-    no_play_found _ (λ all finds. none all (rw c.in_ok-command.ensures finds))
+    nothing_completes_play _ (λ all finds. none all (rw c.in_ok-command.ensures finds))
 
 pub returns-clause-some : goal.returns-clause-some
 returns-clause-some c =
     let some = rw c.in-Some.is at c.in_ok-settings.ensures.some in
-    (refl, play_completes _ c.in-Some.settings (subst (λ (app : App). FindsSettings app (map (λ (w : Bor (List ℕ)). w.now) c.args.words.now) c.in-Some.settings) c.in_ok-command.ensures some))
+    (refl, found_play_completes _ c.in-Some.settings (subst (λ (app : App). FindsSettings app (map (λ (w : Bor (List ℕ)). w.now) c.args.words.now) c.in-Some.settings) c.in_ok-command.ensures some))

@@ -1,8 +1,8 @@
 use Rattle.std.proofs.Common.{◌≡◌, [], sym, ap, ◌∙◌}
 use Rattle.heap_table.specs.Made.{Made, MakesSteps}
 use Rattle.heap_table.specs.SeatHeld.{SeatHeld}
-use Rattle.heap_table.proofs.MadeSteps.{makes_none}
-use Rattle.frag_claim.proofs.GivesBack.{emptied_by, step_empties, none_empties, given_back}
+use Rattle.heap_table.proofs.MadeSteps.{makes_no_steps}
+use Rattle.frag_claim.proofs.GivesBack.{give_back_makes_step, step_leaves_no_reserve, nothing_due_no_reserve, gives_back_whole_reserve}
 use Rattle.frag_claim.proofs.emptying.give_back.Goals as goal
 use Rattle.frag_claim.proofs.emptying.give_back.Goals.{in-Some, in_default}
 use Rattle.std.proofs.Common.{subst}
@@ -10,16 +10,16 @@ use Rattle.std.proofs.Common.{subst}
 pub returns-clause-steps : goal.returns-clause-steps
 returns-clause-steps g c = elim c.match-due_of_emptying.branch [
   | in-Some w ↦ subst (λ (h : SeatHeld). (made : Rattle.std.proofs.Common.List Made) × MakesSteps c.args.holder.now h made) (sym w.holder-is)
-      (emptied_by c.args.holder.now w.step.new.self w.in-Some.step w.step.result (sym c.due_of_emptying.ensures.due ∙ w.in-Some.is) w.step.ensures.stepped w.step.ensures.told)
-  | in_default w ↦ subst (λ (h : SeatHeld). (made : Rattle.std.proofs.Common.List Made) × MakesSteps c.args.holder.now h made) (sym w.holder-is) ([], makes_none c.args.holder.now)
+      (give_back_makes_step c.args.holder.now w.step.new.self w.in-Some.step w.step.result (sym c.due_of_emptying.ensures.due ∙ w.in-Some.is) w.step.ensures.stepped w.step.ensures.told)
+  | in_default w ↦ subst (λ (h : SeatHeld). (made : Rattle.std.proofs.Common.List Made) × MakesSteps c.args.holder.now h made) (sym w.holder-is) ([], makes_no_steps c.args.holder.now)
 ]
 
 pub returns-clause-given : goal.returns-clause-given
 returns-clause-given g c =
     let empty : c.match-due_of_emptying.holder.seat.reserve ≡ [] = elim c.match-due_of_emptying.branch [
       | in-Some w ↦ ap (λ (h : SeatHeld). h.seat.reserve) w.holder-is
-          ∙ step_empties c.args.holder.now w.step.new.self w.in-Some.step w.step.result (sym c.due_of_emptying.ensures.due ∙ w.in-Some.is) w.step.ensures.stepped
+          ∙ step_leaves_no_reserve c.args.holder.now w.step.new.self w.in-Some.step w.step.result (sym c.due_of_emptying.ensures.due ∙ w.in-Some.is) w.step.ensures.stepped
       | in_default w ↦ ap (λ (h : SeatHeld). h.seat.reserve) w.holder-is
-          ∙ none_empties c.args.holder.now c.args.reserve.now.fragments.items c.requires.begins (sym c.due_of_emptying.ensures.due ∙ w.in_default.is)
+          ∙ nothing_due_no_reserve c.args.holder.now c.args.reserve.now.fragments.items c.requires.begins (sym c.due_of_emptying.ensures.due ∙ w.in_default.is)
     ] in
-    given_back c.args.holder.now c.match-due_of_emptying.holder c.args.reserve.now.fragments.items c.requires.begins empty
+    gives_back_whole_reserve c.args.holder.now c.match-due_of_emptying.holder c.args.reserve.now.fragments.items c.requires.begins empty

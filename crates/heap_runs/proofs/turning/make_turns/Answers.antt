@@ -1,7 +1,7 @@
 use Rattle.std.proofs.Common.{refl, subst, arith}
 use Rattle.heap_model.specs.declared.calls.collector_calls.Turn.{Turn}
 use Rattle.heap_runs.specs.PlayHeap.{PlayState, TakesTurn}
-use Rattle.heap_runs.proofs.TurnFacts.{wait_shows}
+use Rattle.heap_runs.proofs.TurnFacts.{waiting_turn_shows}
 use Rattle.heap_runs.proofs.turning.make_turns.Goals as goal
 
 pub loop-init : goal.loop-init
@@ -18,7 +18,7 @@ returns-in-Waits g c =
         turned = c.loop.invariant;
         takes = waits;
         counted = omega (arith, c.loop.invariant.counted, waits.turned.counted);
-        shows = wait_shows now new c.in-Waits.seat c.in-Waits.answered c.in-Waits.phase waits;
+        shows = waiting_turn_shows now new c.in-Waits.seat c.in-Waits.answered c.in-Waits.phase waits;
       },
       omega (arith, c.loop-test.true),
     )

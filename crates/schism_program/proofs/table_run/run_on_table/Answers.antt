@@ -11,10 +11,10 @@ use Rattle.locked_heap.specs.Given.{IsSeatScript}
 use Rattle.collector_turns.specs.Collector.{CollectorValue}
 use Rattle.heap_runs.specs.Finishing.{HasLogs}
 use Rattle.heap_runs.specs.SeatWork.{HaveWorked}
-use Rattle.heap_runs.proofs.OpenedSeats.{many_seats, may_run}
+use Rattle.heap_runs.proofs.OpenedSeats.{holders_are_all_seats, seats_may_run}
 use Rattle.schism_program.specs.Running.{IsRunOf, IsOfTable}
-use Rattle.schism_program.proofs.SeatScripts.{items, handed_script, seat_script, seated}
-use Rattle.schism_program.proofs.TableRuns.{run_of_table, table_of_run, told_none}
+use Rattle.schism_program.proofs.SeatScripts.{items, handed_script_is_seats, seat_commands_are_script, scripts_are_one_each}
+use Rattle.schism_program.proofs.TableRuns.{merged_is_run_of_script, merged_is_of_table, opened_holders_told_none}
 use Rattle.schism_program.proofs.table_run.run_on_table.Goals as goal
 
 pub run_seats-requires-clause-may : goal.run_seats-requires-clause-may
@@ -23,10 +23,10 @@ run_seats-requires-clause-may g c κs within =
     let made = c.in_ok-holders in
     let scripts = c.as_slice.result.now in
     let handed = ap (map items) c.as_slice.ensures.value ∙ c.in_ok-scripts.ensures in
-    may_run script.heap (map items scripts) made.collector made.holders.items made.ensures.heap made.ensures.numbers made.ensures.each c.in_ok-seats.seats.items c.make-collector.result c.in_ok-seats.ensures c.make-collector.ensures
-    (length-map scripts items ∙ seated scripts script handed)
+    seats_may_run script.heap (map items scripts) made.collector made.holders.items made.ensures.heap made.ensures.numbers made.ensures.each c.in_ok-seats.seats.items c.make-collector.result c.in_ok-seats.ensures c.make-collector.ensures
+    (length-map scripts items ∙ scripts_are_one_each scripts script handed)
     (λ number below.
-    let short = subst IsSeatScript (sym (handed_script scripts script number below handed)) (seat_script number script c.in_ok-script.ensures.form) in
+    let short = subst IsSeatScript (sym (handed_script_is_seats scripts script number below handed)) (seat_commands_are_script number script c.in_ok-script.ensures.form) in
     (short.few, short.each))
 
 pub merge-requires-clause-order : goal.merge-requires-clause-order
@@ -53,16 +53,16 @@ returns-clause-ok g c =
     let no_log = ap (λ (v : CollectorValue). v.holder.known.collector.log) c.make-collector.ensures ∙ ap (λ (k : CollectorKnown). k.collector.log) made.ensures.known in
     let logs = subst (λ (l : List Entry). HasLogs ran.worked l closed) no_log ran.logs in
     let worked = subst (λ (l : List SeatHeld). HaveWorked c.args.patience (map items scripts) l ran.worked) c.in_ok-seats.ensures ran.have_worked in
-    let many = many_seats script.heap (map items scripts) made.collector made.holders.items made.ensures.heap made.ensures.numbers made.ensures.each in
-    let none = told_none made.collector.table script.heap made.holders.items made.ensures.each in
+    let many = holders_are_all_seats script.heap (map items scripts) made.collector made.holders.items made.ensures.heap made.ensures.numbers made.ensures.each in
+    let none = opened_holders_told_none made.collector.table script.heap made.holders.items made.ensures.each in
     record {
       script = script;
       history = c.history_of-history.result;
       spelled = c.in_ok-script.ensures.ok;
       ran = subst (IsRunOf false script) (sym c.history_of-history.ensures)
-          (run_of_table c.args.patience (map items scripts) script closed merged.entries.items made.holders.items ran.worked heap_is merged.ensures.legal kept ran.unused logs made.ensures.numbers many none worked
-          (λ number below. handed_script scripts script number below handed));
+          (merged_is_run_of_script c.args.patience (map items scripts) script closed merged.entries.items made.holders.items ran.worked heap_is merged.ensures.legal kept ran.unused logs made.ensures.numbers many none worked
+          (λ number below. handed_script_is_seats scripts script number below handed));
       rendered = c.in_ok-text.ensures.text;
       tabled = subst (λ (h : History). IsOfTable h closed) (sym c.history_of-history.ensures)
-          (table_of_run c.args.patience (map items scripts) script closed merged.entries.items made.holders.items ran.worked heap_is merged.ensures.legal kept ran.unused logs made.ensures.numbers many none worked);
+          (merged_is_of_table c.args.patience (map items scripts) script closed merged.entries.items made.holders.items ran.worked heap_is merged.ensures.legal kept ran.unused logs made.ensures.numbers many none worked);
     }

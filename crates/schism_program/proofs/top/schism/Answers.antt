@@ -3,7 +3,7 @@ use Rattle.form_words.specs.Works.{most_bytes, AskFor}
 use Rattle.schism_program.specs.declared.status.Status.TheVariants as statuses
 use Rattle.schism_program.specs.Due.{IsDueTo}
 use Rattle.schism_program.specs.Works.{FailsAt, LeavesTable, MakesText}
-use Rattle.schism_program.proofs.OneStatus.{made_suits, only_due}
+use Rattle.schism_program.proofs.OneStatus.{made_input_suits_work, only_one_status_is_due}
 use Rattle.schism_program.proofs.top.schism.Goals as goal
 
 pub returns-in-Err-Refused-clause-complete : goal.returns-in-Err-Refused-clause-complete
@@ -14,7 +14,7 @@ returns-in-Err-Refused-clause-complete g c = λ status due calm_source calm_sink
     let fault = c.in-Err-Refused.field-0-0 in
     let short : length input ≤ most_bytes work = search rules in
     let fails : FailsAt work input fault.line fault.cause = search rules in
-    inl (only_due _ _ _ work input (statuses.Refused fault.line fault.cause) status asked c.in-Ok.ensures.read (short, fails) due)
+    inl (only_one_status_is_due _ _ _ work input (statuses.Refused fault.line fault.cause) status asked c.in-Ok.ensures.read (short, fails) due)
 
 pub returns-in-Err-NotLegal-clause-complete : goal.returns-in-Err-NotLegal-clause-complete
 returns-in-Err-NotLegal-clause-complete g c = λ status due calm_source calm_sink.
@@ -22,7 +22,7 @@ returns-in-Err-NotLegal-clause-complete g c = λ status due calm_source calm_sin
     let asked : AskFor (map (λ w. w.now) c.args.words.now) work = search rules in
     let input = c.in-Ok.input.items in
     let found : IsDueTo work input (statuses.NotLegal c.in-Err-NotLegal.line) = search rules in
-    inl (only_due _ _ _ work input _ status asked c.in-Ok.ensures.read found due)
+    inl (only_one_status_is_due _ _ _ work input _ status asked c.in-Ok.ensures.read found due)
 
 pub returns-in-Ok-write_all-clause-complete : goal.returns-in-Ok-write_all-clause-complete
 returns-in-Ok-write_all-clause-complete g c = λ status due calm_source calm_sink.
@@ -31,7 +31,7 @@ returns-in-Ok-write_all-clause-complete g c = λ status due calm_source calm_sin
     let input = c.in-Ok.input.items in
     let short : length input ≤ most_bytes work = search rules in
     let makes : MakesText work input c.in-Ok-made_work.made.text.items = search rules in
-    inl (only_due _ _ _ work input statuses.Done status asked c.in-Ok.ensures.read (short, made_suits work input _ makes) due)
+    inl (only_one_status_is_due _ _ _ work input statuses.Done status asked c.in-Ok.ensures.read (short, made_input_suits_work work input _ makes) due)
 
 pub returns-in-Ok-write_all-clause-closed : goal.returns-in-Ok-write_all-clause-closed
 returns-in-Ok-write_all-clause-closed g c = λ done.

@@ -1,14 +1,14 @@
-use Rattle.core_machine.proofs.machine_lemmas.Stepping.{seated, begin_machine, begin_value}
+use Rattle.core_machine.proofs.machine_lemmas.Stepping.{seat_is_a_party, begin_leaves_machine, begin_leaves_value}
 use Rattle.core_machine.proofs.machine.Machine.begin.Goals as goal
 
 pub invariant_of-self : goal.invariant_of-self
 invariant_of-self g c =
     let can = rw (← c.self.view_is) at c.requires.can in
-    begin_machine c.self.inside.heap c.self.inside.words.items c.self.inside.seats.items c.self.inside.collector.collector 0 0 c.args.seat c.index_mut-party.result.now c.begin.new.self
-    (seated c.self.inside.seats.items can.0) c.index_mut-party.ensures.value c.args.command can.1 c.begin.ensures.seat c.self.invariant
+    begin_leaves_machine c.self.inside.heap c.self.inside.words.items c.self.inside.seats.items c.self.inside.collector.collector 0 0 c.args.seat c.index_mut-party.result.now c.begin.new.self
+    (seat_is_a_party c.self.inside.seats.items can.0) c.index_mut-party.ensures.value c.args.command can.1 c.begin.ensures.seat c.self.invariant
 
 pub returns : goal.returns
 returns g c =
     let can = rw (← c.self.view_is) at c.requires.can in
-    rw (← c.self.view_is) (begin_value c.self.inside.heap c.self.inside.words.items c.self.inside.seats.items c.self.inside.collector.collector c.self.inside.collector.spare c.self.inside.collector.forgotten c.args.seat
-    c.index_mut-party.result.now c.begin.new.self (seated c.self.inside.seats.items can.0) c.index_mut-party.ensures.value c.args.command c.begin.ensures.seat c.begin.ensures.spare c.begin.ensures.forgotten)
+    rw (← c.self.view_is) (begin_leaves_value c.self.inside.heap c.self.inside.words.items c.self.inside.seats.items c.self.inside.collector.collector c.self.inside.collector.spare c.self.inside.collector.forgotten c.args.seat
+    c.index_mut-party.result.now c.begin.new.self (seat_is_a_party c.self.inside.seats.items can.0) c.index_mut-party.ensures.value c.args.command c.begin.ensures.seat c.begin.ensures.spare c.begin.ensures.forgotten)

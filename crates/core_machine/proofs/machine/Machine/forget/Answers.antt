@@ -1,20 +1,20 @@
 use Rattle.std.proofs.Common.{◌≡◌, ◌≢◌, ℕ, ◌<◌, length, refl, subst, arith}
 use Rattle.std.proofs.Math.ListN.{length-map}
 use Rattle.core_machine.proofs.Terms.{SeatWithRoom}
-use Rattle.core_machine.proofs.machine_lemmas.Parties.{each_other, each_but_last}
-use Rattle.core_machine.proofs.machine_lemmas.Stepping.{room_state, room_machine, spare_before, spare_here}
+use Rattle.core_machine.proofs.machine_lemmas.Parties.{other_party_keeps_number, each_but_last}
+use Rattle.core_machine.proofs.machine_lemmas.Stepping.{room_leaves_state, room_leaves_machine, spare_was_partys, own_spare_is_partys}
 use Rattle.core_machine.proofs.machine.Machine.forget.Goals as goal
 
 pub invariant_of-self : goal.invariant_of-self
 invariant_of-self g c =
     let m = c.self.inside in
-    room_machine m.heap m.words.items m.seats.items m.collector.collector 0 0 c.args.party c.index_mut-seat.result.now c.forget.new.self
+    room_leaves_machine m.heap m.words.items m.seats.items m.collector.collector 0 0 c.args.party c.index_mut-seat.result.now c.forget.new.self
     (omega arith) c.index_mut-seat.ensures.value c.forget.ensures.same c.self.invariant
 
 pub returns-then-party-len-clause-same : goal.returns-then-party-len-clause-same
 returns-then-party-len-clause-same g c =
     let m = c.self.inside in
-    let state = room_state m.heap m.words.items m.seats.items m.collector.collector 0 0 c.args.party c.index_mut-seat.result.now c.forget.new.self
+    let state = room_leaves_state m.heap m.words.items m.seats.items m.collector.collector 0 0 c.args.party c.index_mut-seat.result.now c.forget.new.self
     (omega arith) c.index_mut-seat.ensures.value c.forget.ensures.same in
     rw (← c.self.view_is, state) refl
 
@@ -22,8 +22,8 @@ pub returns-then-party-len-clause-more : goal.returns-then-party-len-clause-more
 returns-then-party-len-clause-more g c =
     let m = c.self.inside in
     let within : c.args.party < length m.seats.items = omega arith in
-    let before = spare_before m.heap m.words.items m.seats.items m.collector.collector m.collector.spare m.collector.forgotten c.args.party c.index_mut-seat.result.now c.forget.new.self within c.index_mut-seat.ensures.value in
-    let now = spare_here m.heap m.words.items m.seats.items m.collector.collector m.collector.spare m.collector.forgotten c.args.party c.index_mut-seat.result.now c.forget.new.self within c.index_mut-seat.ensures.value m.words.items in
+    let before = spare_was_partys m.heap m.words.items m.seats.items m.collector.collector m.collector.spare m.collector.forgotten c.args.party c.index_mut-seat.result.now c.forget.new.self within c.index_mut-seat.ensures.value in
+    let now = own_spare_is_partys m.heap m.words.items m.seats.items m.collector.collector m.collector.spare m.collector.forgotten c.args.party c.index_mut-seat.result.now c.forget.new.self within c.index_mut-seat.ensures.value m.words.items in
     rw (← c.self.view_is, before, now) c.forget.ensures.spare
 
 pub returns-then-party-len-clause-others : goal.returns-then-party-len-clause-others
@@ -31,8 +31,8 @@ returns-then-party-len-clause-others g c =
     let m = c.self.inside in
     let within : c.args.party < length m.seats.items = omega arith in
     rw (← c.self.view_is) (λ other apart. (
-      each_other (λ (p : SeatWithRoom). p.forgotten) m.seats.items m.collector.forgotten c.args.party c.forget.new.self other within apart,
-      each_other (λ (p : SeatWithRoom). p.spare) m.seats.items m.collector.spare c.args.party c.forget.new.self other within apart,
+      other_party_keeps_number (λ (p : SeatWithRoom). p.forgotten) m.seats.items m.collector.forgotten c.args.party c.forget.new.self other within apart,
+      other_party_keeps_number (λ (p : SeatWithRoom). p.spare) m.seats.items m.collector.spare c.args.party c.forget.new.self other within apart,
     ))
 
 pub returns-else-party-len-clause-others : goal.returns-else-party-len-clause-others

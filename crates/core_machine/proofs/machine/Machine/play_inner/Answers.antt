@@ -1,7 +1,7 @@
 use Rattle.std.proofs.Common.{◌≡◌, sym, ◌∙◌, ap, subst}
 use Rattle.core_machine.proofs.Terms.{State, state_after, BeginsInner, MachineValue, IsMachine}
-use Rattle.core_machine.proofs.call_lemmas.PlayingInner.{PlayingInner, inner_begun, inner_steps, inner_over, inner_spends, inner_room}
-use Rattle.core_machine.proofs.call_lemmas.CallEnd.{none_left}
+use Rattle.core_machine.proofs.call_lemmas.PlayingInner.{PlayingInner, playing_inner_after_begin, inner_goes_by_step, inner_was_played, inner_begin_spends_room, begun_inner_has_room}
+use Rattle.core_machine.proofs.call_lemmas.CallEnd.{no_step_is_due}
 use Rattle.core_machine.proofs.machine.Machine.play_inner.Goals as goal
 
 pub loop-step-init : goal.loop-step-init
@@ -13,25 +13,25 @@ loop-step-init g c =
       heap = ap (λ (v : MachineValue). v.heap) c.begin_inner.ensures;
       goes = record {
         playing = subst (λ (s : State). PlayingInner old.heap old.state s c.args.seat c.args.inner) (sym begun_)
-            (inner_begun old.heap old.state c.args.seat c.args.inner start c.requires.can);
-        room = inner_room old c.begin_inner.new.self c.args.seat c.args.inner start c.requires.can c.begin_inner.ensures c.requires.room;
+            (playing_inner_after_begin old.heap old.state c.args.seat c.args.inner start c.requires.can);
+        room = begun_inner_has_room old c.begin_inner.new.self c.args.seat c.args.inner start c.requires.can c.begin_inner.ensures c.requires.room;
       };
-      spent = inner_spends old c.begin_inner.new.self c.args.seat c.args.inner c.requires.can c.begin_inner.ensures;
+      spent = inner_begin_spends_room old c.begin_inner.new.self c.args.seat c.args.inner c.requires.can c.begin_inner.ensures;
     }
 
 pub loop-step-smaller : goal.loop-step-smaller
 loop-step-smaller g c =
-    (inner_steps c.loop-step.invariant.goes c.loop-step.invariant.heap c.loop-step.invariant.spent (sym c.due_of_seat.ensures ∙ c.in-Some.is)
+    (inner_goes_by_step c.loop-step.invariant.goes c.loop-step.invariant.heap c.loop-step.invariant.spent (sym c.due_of_seat.ensures ∙ c.in-Some.is)
     c.step_of_seat.ensures.heap c.step_of_seat.ensures.state c.step_of_seat.ensures.spent).0.fewer
 
 pub loop-step-preserved : goal.loop-step-preserved
 loop-step-preserved g c =
-    let next = inner_steps c.loop-step.invariant.goes c.loop-step.invariant.heap c.loop-step.invariant.spent (sym c.due_of_seat.ensures ∙ c.in-Some.is)
+    let next = inner_goes_by_step c.loop-step.invariant.goes c.loop-step.invariant.heap c.loop-step.invariant.spent (sym c.due_of_seat.ensures ∙ c.in-Some.is)
     c.step_of_seat.ensures.heap c.step_of_seat.ensures.state c.step_of_seat.ensures.spent in
     record { heap = next.0.heap_is; goes = next.1; spent = next.0.spent }
 
 pub returns-clause-plays : goal.returns-clause-plays
 returns-clause-plays g c =
     let old = c.args.self.now in
-    inner_over old.heap old.state c.loop-step.self.state c.args.seat c.args.inner c.loop-step.invariant.goes.playing
-    (none_left c.loop-step.self c.args.seat c.loop-step.invariant.heap c.due_of_seat.ensures c.in_default.not-Some)
+    inner_was_played old.heap old.state c.loop-step.self.state c.args.seat c.args.inner c.loop-step.invariant.goes.playing
+    (no_step_is_due c.loop-step.self c.args.seat c.loop-step.invariant.heap c.due_of_seat.ensures c.in_default.not-Some)

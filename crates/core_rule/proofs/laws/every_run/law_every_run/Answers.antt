@@ -1,4 +1,4 @@
-use Rattle.core_machine.proofs.machine_lemmas.Runs.{machine_after}
+use Rattle.core_machine.proofs.machine_lemmas.Runs.{event_leaves_machine}
 use Rattle.core_rule.proofs.counts.FreeSums.{free_is_unused}
 use Rattle.core_rule.proofs.held.DueWords.{each_step_has_its_word, each_turn_has_its_word}
 use Rattle.core_rule.proofs.held.FreedFragments.{no_free_takes_held}
@@ -30,7 +30,7 @@ pub returns-clause-run : goal.returns-clause-run
 returns-clause-run c = run_keeps
 
 pub returns-clause-play : goal.returns-clause-play
-returns-clause-play c = whole_calls_play machine_after each_step_keeps each_begin_keeps each_inner_keeps each_turn_keeps opening_stands
+returns-clause-play c = whole_calls_play event_leaves_machine each_step_keeps each_begin_keeps each_inner_keeps each_turn_keeps opening_stands
 
 pub returns-clause-alone : goal.returns-clause-alone
 returns-clause-alone c = each_lone_refusal_is_right

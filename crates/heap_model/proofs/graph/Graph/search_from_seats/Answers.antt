@@ -4,7 +4,7 @@ use Rattle.heap_model.specs.graph.Search.{FoundFromSeat, GoesOn}
 use Rattle.heap_model.specs.graph.Marking.{mark_counts, no_marks}
 use Rattle.heap_model.proofs.graph_lemmas.MarkLemmas.{mark_counts-no_marks}
 use Rattle.heap_model.proofs.graph_lemmas.SearchLemmas.{IsSearch-start}
-use Rattle.heap_model.proofs.graph_lemmas.NoteLemmas.{GoesOn-seat, found_seat, All-taken}
+use Rattle.heap_model.proofs.graph_lemmas.NoteLemmas.{GoesOn-seat, found_from_seats, All-taken}
 use Rattle.heap_model.proofs.graph.Graph.search_from_seats.Goals as goal
 
 pub loop-seat-preserved : goal.loop-seat-preserved
@@ -14,7 +14,7 @@ loop-seat-preserved c =
     let is : c.seat-item.result ≡ get_or c.args.self.now.seats c.loop-seat.seat-index c.seat-item.result = search rules in
     record {
       goes_on = GoesOn-seat c.args.self.now c.loop-seat.seat-index c.seat-item.result within is c.loop-seat.invariant.goes_on noted.goes_on;
-      found = found_seat c.args.self.now.seats c.loop-seat.seat-index c.seat-item.result within is noted.goes_on c.loop-seat.invariant.found noted.found;
+      found = found_from_seats c.args.self.now.seats c.loop-seat.seat-index c.seat-item.result within is noted.goes_on c.loop-seat.invariant.found noted.found;
     }
 
 pub returns-clause-reached : goal.returns-clause-reached

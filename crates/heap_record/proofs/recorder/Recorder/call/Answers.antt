@@ -5,8 +5,8 @@ use Rattle.heap_model.specs.declared.entry.Entry.{Entry}
 use Rattle.core_machine.specs.machine.Value.{MachineValue}
 use Rattle.heap_record.specs.contracts.recorder.Recorder.{the_view}
 use Rattle.heap_record.specs.Recorded.{Recorded, AnyEvents, MakesCall}
-use Rattle.heap_record.proofs.Calls.{since, AddsTold, Remembers, recent_since, recent_longer, noted_since, history_since, kept_room, made_of_heap, CallFacts, call_facts, makes_call}
-use Rattle.heap_record.proofs.Leading.{led_call}
+use Rattle.heap_record.proofs.Calls.{since, AddsTold, Remembers, recent_behind_is_since, recent_only_grows, noted_list_grows_by_since, history_grows_by_told, collector_room_stays, made_entries_are_of_heap, CallFacts, call_facts, call_is_made}
+use Rattle.heap_record.proofs.Leading.{events_lead_on_by_call}
 use Rattle.heap_record.proofs.recorder.Recorder.call.Given.{Over}
 use Rattle.heap_record.proofs.recorder.Recorder.call.Goals as goal
 use Rattle.heap_record.proofs.recorder.Recorder.call.Goals.{After-play_call-reply, After-note_since}
@@ -33,12 +33,12 @@ noted g c before made =
     let old : Recorded = the_view (param 0 g.row.L) g.L.Entries c.self.inside in
     let one = c.room.new.self in
     let two = c.play_call-reply.new.self in
-    let listed = noted_since old one two c.args.seat c.recent-before.result.now c.reserve.new.self.items c.note_since.new.list.items before c.note_since.ensures.items c.reserve.ensures.items in
+    let listed = noted_list_grows_by_since old one two c.args.seat c.recent-before.result.now c.reserve.new.self.items c.note_since.new.list.items before c.note_since.ensures.items c.reserve.ensures.items in
     record {
       same_heap = ap (λ (m : MachineValue). m.heap) c.note_since.ensures.same ∙ c.play_call-reply.ensures.heap ∙ ap (λ (m : MachineValue). m.heap) c.room.ensures.same;
-      noted = history_since old c.note_since.new.list.items (since one two c.args.seat) refl listed (made_of_heap old.machine.heap old.machine.state two.state (since one two c.args.seat) c.args.seat c.args.command.now c.play_call-reply.result made.made);
+      noted = history_grows_by_told old c.note_since.new.list.items (since one two c.args.seat) refl listed (made_entries_are_of_heap old.machine.heap old.machine.state two.state (since one two c.args.seat) c.args.seat c.args.command.now c.play_call-reply.result made.made);
       listed = listed;
-      left = c.note_since.ensures.left ∙ ap (λ (l : List Entry). old.spare - length l) (recent_since one two c.args.seat c.recent-before.result.now before);
+      left = c.note_since.ensures.left ∙ ap (λ (l : List Entry). old.spare - length l) (recent_behind_is_since one two c.args.seat c.recent-before.result.now before);
       turns_stay = refl;
       last_stays = refl;
     }
@@ -47,18 +47,18 @@ noted g c before made =
 makes : (g : Over) (c : After-note_since g) → Remembers c.room.new.self c.play_call-reply.new.self c.args.seat c.recent-before.result.now → CallFacts (the_view (param 0 g.row.L) g.L.Entries c.self.inside) c.room.new.self c.play_call-reply.new.self c.args.seat c.args.command.now c.play_call-reply.result
     → MakesCall (the_view (param 0 g.row.L) g.L.Entries c.self.inside) (after g c) c.args.seat c.args.command.now c.play_call-reply.result
 makes g c before made =
-    makes_call (the_view (param 0 g.row.L) g.L.Entries c.self.inside) (after g c) c.room.new.self c.play_call-reply.new.self c.args.seat c.args.command.now c.play_call-reply.result made (noted g c before made)
+    call_is_made (the_view (param 0 g.row.L) g.L.Entries c.self.inside) (after g c) c.room.new.self c.play_call-reply.new.self c.args.seat c.args.command.now c.play_call-reply.result made (noted g c before made)
     (ap (λ (m : MachineValue). m.state) c.note_since.ensures.same)
 
 pub note_since-requires-clause-longer : goal.note_since-requires-clause-longer
 note_since-requires-clause-longer g c =
     let here = (goal.at.note_since-requires-clause-longer g c).After-play_call-reply in
-    recent_longer c.room.new.self c.play_call-reply.new.self c.args.seat c.recent-before.result.now (remembers g here) (facts g here).longer
+    recent_only_grows c.room.new.self c.play_call-reply.new.self c.args.seat c.recent-before.result.now (remembers g here) (facts g here).longer
 
 pub note_since-requires-clause-room : goal.note_since-requires-clause-room
 note_since-requires-clause-room g c =
     let here = (goal.at.note_since-requires-clause-room g c).After-play_call-reply in
-    rw (recent_since c.room.new.self c.play_call-reply.new.self c.args.seat c.recent-before.result.now (remembers g here))
+    rw (recent_behind_is_since c.room.new.self c.play_call-reply.new.self c.args.seat c.recent-before.result.now (remembers g here))
     (omega (arith, (facts g here).short, c.need.ensures, c.in_ok-reserve.ensures.ok, c.in_ok-reserve.ensures.len))
 
 pub invariant_of-self-2 : goal.invariant_of-self-2
@@ -67,8 +67,8 @@ invariant_of-self-2 g c =
     let made = facts g here.After-play_call-reply in
     let after_note = here.After-note_since in
     let told = c.note_since.ensures in
-    let own = kept_room (the_view (param 0 g.row.L) g.L.Entries c.self.inside) c.play_call-reply.new.self c.note_since.new.machine c.args.seat made.within made.own_room told.same told.others in (
-      led_call AnyEvents (the_view (param 0 g.row.L) g.L.Entries c.self.inside) (after g after_note) c.self.invariant.0 c.args.seat c.args.command.now c.play_call-reply.result (makes g after_note (remembers g here.After-play_call-reply) made) tt,
+    let own = collector_room_stays (the_view (param 0 g.row.L) g.L.Entries c.self.inside) c.play_call-reply.new.self c.note_since.new.machine c.args.seat made.within made.own_room told.same told.others in (
+      events_lead_on_by_call AnyEvents (the_view (param 0 g.row.L) g.L.Entries c.self.inside) (after g after_note) c.self.invariant.0 c.args.seat c.args.command.now c.play_call-reply.result (makes g after_note (remembers g here.After-play_call-reply) made) tt,
       record {
         own_room = omega (arith, own, c.self.invariant.1.own_room, told.left);
         listed_room = omega (arith, c.self.invariant.1.listed_room, told.left, told.capacity, told.len, c.in_ok-reserve.ensures.capacity, c.in_ok-reserve.ensures.len);

@@ -1,5 +1,5 @@
 use Rattle.heap_runs.specs.PlayHeap.{PlayState}
-use Rattle.heap_runs.proofs.Slacking.{slack_noted}
+use Rattle.heap_runs.proofs.Slacking.{notes_slack_after_room}
 use Rattle.heap_runs.proofs.playing.noting.note_slack.Goals as goal
 
 pub returns : goal.returns
@@ -9,4 +9,4 @@ returns g c =
     let new : PlayState = g.H.PlayHeap.state c.make_slack-whole.result.0 in
     let done = c.make_slack-whole.result.1 in
     let slack = c.make_slack-whole.ensures in
-    record { notes = slack_noted _ old now new done.made done.asked done.last c.in_ok-room.ensures.same slack.adds slack.asked slack.most slack.fewer slack.counted slack.last }
+    record { notes = notes_slack_after_room _ old now new done.made done.asked done.last c.in_ok-room.ensures.same slack.adds slack.asked slack.most slack.fewer slack.counted slack.last }

@@ -4,7 +4,7 @@ use Rattle.heap_table.specs.Closed.{logs_known}
 use Rattle.heap_table.specs.CollectorHeld.{CollectorHeld}
 use Rattle.heap_table.specs.Folded.{AllFolded}
 use Rattle.heap_table.specs.Views.{known_by}
-use Rattle.heap_table.proofs.Histories.{logs_closed, closes}
+use Rattle.heap_table.proofs.Histories.{closed_logs_are_known, closed_has_one_history}
 use Rattle.heap_table.proofs.closing.CollectorHolder.close.Goals as goal
 
 pub read_all-requires-clause-folded : goal.read_all-requires-clause-folded
@@ -13,14 +13,14 @@ read_all-requires-clause-folded c = subst (λ (v : CollectorHeld). AllFolded v.h
 pub of-requires : goal.of-requires
 of-requires c =
     let i = c.self.invariant in
-    closes c.self.inside.heap (known_by c.self.inside.token.me.0) _ c.self.inside.places.items _ _ _ c.read_all.ensures.known i.seats_are i.a_place_each c.read_all.ensures.ends c.read_all.ensures.whole
-    (logs_closed c.self.inside.places.items (known_by c.self.inside.token.me.0) c.self.inside.party.collector _ _ _ c.into_entries.result.items i.seats_are i.collector_is c.into_entries.ensures
+    closed_has_one_history c.self.inside.heap (known_by c.self.inside.token.me.0) _ c.self.inside.places.items _ _ _ c.read_all.ensures.known i.seats_are i.a_place_each c.read_all.ensures.ends c.read_all.ensures.whole
+    (closed_logs_are_known c.self.inside.places.items (known_by c.self.inside.token.me.0) c.self.inside.party.collector _ _ _ c.into_entries.result.items i.seats_are i.collector_is c.into_entries.ensures
     (ap (map (λ log. log.items)) c.in-Ok-with_capacity.ensures.items) c.move_logs.ensures.logs (ap (map (λ log. log.items)) c.push_reserved.ensures.items ∙ map-append _ _ _)) i.folded_is
 
 pub returns-clause-logs : goal.returns-clause-logs
 returns-clause-logs c =
     let i = c.self.invariant in
     ap (λ v. v.logs) c.of.ensures
-    ∙ logs_closed c.self.inside.places.items (known_by c.self.inside.token.me.0) c.self.inside.party.collector _ _ _ c.into_entries.result.items i.seats_are i.collector_is c.into_entries.ensures
+    ∙ closed_logs_are_known c.self.inside.places.items (known_by c.self.inside.token.me.0) c.self.inside.party.collector _ _ _ c.into_entries.result.items i.seats_are i.collector_is c.into_entries.ensures
     (ap (map (λ log. log.items)) c.in-Ok-with_capacity.ensures.items) c.move_logs.ensures.logs (ap (map (λ log. log.items)) c.push_reserved.ensures.items ∙ map-append _ _ _)
     ∙ ap (λ (v : CollectorHeld). logs_known v.known) c.self.view_is

@@ -1,5 +1,5 @@
-use Rattle.heap_table.proofs.SeatHolders.{keeps_begun_inner, may_inner_of}
+use Rattle.heap_table.proofs.SeatHolders.{keeps_seat_after_inner, holder_may_begin_inner}
 use Rattle.heap_table.proofs.holder.Holder.begin_inner.Goals as goal
 
 pub invariant_of-self : goal.invariant_of-self
-invariant_of-self g c = keeps_begun_inner _ _ _ c.self.inside.token.me c.self.inside.heap c.self.inside.number c.self.inside.party.seat c.self.invariant c.args.inner _ (may_inner_of _ _ _ c.self.view_is c.requires.may) c.begin_inner.ensures.seat
+invariant_of-self g c = keeps_seat_after_inner _ _ _ c.self.inside.token.me c.self.inside.heap c.self.inside.number c.self.inside.party.seat c.self.invariant c.args.inner _ (holder_may_begin_inner _ _ _ c.self.view_is c.requires.may) c.begin_inner.ensures.seat

@@ -5,22 +5,22 @@ use Rattle.core_machine.specs.machine.Machine.{seat_at}
 use Rattle.locked_heap.specs.declared.progress.Progress.{Progress}
 use Rattle.locked_heap.specs.Locked.{LockedValue, IsNext}
 use Rattle.locked_heap.specs.Progress.{progress_at}
-use Rattle.locked_heap.proofs.Calling.{can_look}
-use Rattle.locked_heap.proofs.Coming.{read_is, none_looked}
-use Rattle.locked_heap.proofs.InnerCalls.{begun_on}
-use Rattle.locked_heap.proofs.GivenRuns.{run_inner, run_stands}
-use Rattle.locked_heap.proofs.Parting.{not_parted_set, stands_still}
-use Rattle.locked_heap.proofs.Owing.{owes_still, owes_inner}
+use Rattle.locked_heap.proofs.Calling.{can_begin_inner}
+use Rattle.locked_heap.proofs.Coming.{read_progress_is_seats, first_look_is_none}
+use Rattle.locked_heap.proofs.InnerCalls.{all_have_come_after_look}
+use Rattle.locked_heap.proofs.GivenRuns.{is_run_after_inner, book_stands_for_run}
+use Rattle.locked_heap.proofs.Parting.{is_parted_after_progress, stands_locked_still}
+use Rattle.locked_heap.proofs.Owing.{owes_no_more_untold, owes_no_more_after_inner}
 use Rattle.locked_heap.proofs.locked.Locked.begin_collect.Goals as goal
 
 pub inner-requires : goal.inner-requires
 inner-requires g c =
     let inside = c.self.inside in
     let next : IsNext g.N.Handed.given inside.seats.items c.args.seat Collect = subst (λ (v : LockedValue). IsNext g.N.Handed.given v.seats c.args.seat Collect) (sym c.self.view_is) c.requires.next in
-    record { can = can_look c.law_every_run.ensures.run g.N.Handed.given inside.recorder inside.seats.items c.args.seat c.self.invariant.run c.self.invariant.come next.within next.there Look tt }
+    record { can = can_begin_inner c.law_every_run.ensures.run g.N.Handed.given inside.recorder inside.seats.items c.args.seat c.self.invariant.run c.self.invariant.come next.within next.there Look tt }
 
 pub invariant_of-self : goal.invariant_of-self
-invariant_of-self g c = stands_still g.N.Handed.given _ c.inner.new.self c.self.inside.patience c.self.invariant c.in_err-inner.ensures.still
+invariant_of-self g c = stands_locked_still g.N.Handed.given _ c.inner.new.self c.self.inside.patience c.self.invariant c.in_err-inner.ensures.still
 
 pub invariant_of-self-2 : goal.invariant_of-self-2
 invariant_of-self-2 g c =
@@ -33,19 +33,19 @@ invariant_of-self-2 g c =
     let come = c.self.invariant.come.each number next.within in
     let none = ap (λ (v : LockedValue). (progress_at v.seats number).target) c.self.view_is ∙ c.requires.fresh in
     let makes = c.in_ok-inner.ensures.makes in
-    let read = read_is seats number c.index-progress.result.now (omega (arith, next.within, c.self.invariant.come.seated)) c.index-progress.ensures in
+    let read = read_progress_is_seats seats number c.index-progress.result.now (omega (arith, next.within, c.self.invariant.come.seated)) c.index-progress.ensures in
     record {
-      run = run_inner given old c.inner.new.self c.self.invariant.run number Look makes;
-      come = begun_on given old c.inner.new.self seats number c.self.invariant.come _ makes next (record { target = none; first = none_looked (seat_at old.machine.state number).looks.first (progress_at seats number).target none come.target })
-          (run_stands given old c.self.invariant.run c.law_every_run.ensures.run) c.next_whole_cycle-target.result (omega (arith, c.phase.ensures.phase, c.next_whole_cycle-target.ensures.behind))
+      run = is_run_after_inner given old c.inner.new.self c.self.invariant.run number Look makes;
+      come = all_have_come_after_look given old c.inner.new.self seats number c.self.invariant.come _ makes next (record { target = none; first = first_look_is_none (seat_at old.machine.state number).looks.first (progress_at seats number).target none come.target })
+          (book_stands_for_run given old c.self.invariant.run c.law_every_run.ensures.run) c.next_whole_cycle-target.result (omega (arith, c.phase.ensures.phase, c.next_whole_cycle-target.ensures.behind))
           (omega (arith, c.phase.ensures.phase, c.next_whole_cycle-target.ensures.first)) refl (ap (λ (p : Progress). p.place) (sym read)) (ap (λ (p : Progress). p.gone) (sym read))
           (c.finds-paid.ensures ∙ ap (λ (v : LockedValue). (seat_at v.recorded.machine.state number).looks.waits) (sym c.self.view_is));
-      parted = not_parted_set given c.inner.new.self.history seats number _ c.self.invariant.come.seated next.within (ap (λ (p : Progress). p.gone) (sym read) ∙ next.there);
+      parted = is_parted_after_progress given c.inner.new.self.history seats number _ c.self.invariant.come.seated next.within (ap (λ (p : Progress). p.gone) (sym read) ∙ next.there);
       patient = c.self.invariant.patient;
     }
 
 pub returns-in_err-inner-clause-owed : goal.returns-in_err-inner-clause-owed
-returns-in_err-inner-clause-owed g c = owes_still _ _ _ c.self.view_is c.in_err-inner.ensures.still.history_stays refl
+returns-in_err-inner-clause-owed g c = owes_no_more_untold _ _ _ c.self.view_is c.in_err-inner.ensures.still.history_stays refl
 
 pub returns-clause-owed : goal.returns-clause-owed
-returns-clause-owed g c = owes_inner _ _ _ c.args.seat _ c.self.view_is c.in_ok-inner.ensures.makes refl
+returns-clause-owed g c = owes_no_more_after_inner _ _ _ c.args.seat _ c.self.view_is c.in_ok-inner.ensures.makes refl

@@ -7,11 +7,11 @@ use Rattle.std.proofs.lemmas.Option.{slice_get_within}
 use Rattle.locked_heap.specs.Given.{script_of}
 use Rattle.locked_heap.specs.Locked.{LockedValue, IsNext}
 use Rattle.locked_heap.specs.Progress.{progress_at}
-use Rattle.locked_heap.proofs.Calling.{script_right, can_call, called_on}
-use Rattle.locked_heap.proofs.Coming.{read_is}
-use Rattle.locked_heap.proofs.GivenRuns.{run_call}
-use Rattle.locked_heap.proofs.Parting.{not_parted_set, stands_still}
-use Rattle.locked_heap.proofs.Owing.{owes_still, owes_call, on_err}
+use Rattle.locked_heap.proofs.Calling.{given_script_is_right, can_begin_command, all_have_come_after_call}
+use Rattle.locked_heap.proofs.Coming.{read_progress_is_seats}
+use Rattle.locked_heap.proofs.GivenRuns.{is_run_after_call}
+use Rattle.locked_heap.proofs.Parting.{is_parted_after_progress, stands_locked_still}
+use Rattle.locked_heap.proofs.Owing.{owes_no_more_untold, owed_grows_by_claimed, on_err_always}
 use Rattle.locked_heap.proofs.locked.Locked.call.Goals as goal
 
 pub call-requires : goal.call-requires
@@ -19,23 +19,23 @@ call-requires g c =
     let inside = c.self.inside in
     let next : IsNext g.N.Handed.given inside.seats.items c.args.seat c.args.command.now = subst (λ (v : LockedValue). IsNext g.N.Handed.given v.seats c.args.seat c.args.command.now) (sym c.self.view_is) c.requires.next in
     record {
-      can = can_call c.law_every_run.ensures.run g.N.Handed.given inside.recorder inside.seats.items c.args.seat c.self.invariant.run c.self.invariant.come next.within c.args.command.now next c.requires.once;
+      can = can_begin_command c.law_every_run.ensures.run g.N.Handed.given inside.recorder inside.seats.items c.args.seat c.self.invariant.run c.self.invariant.come next.within c.args.command.now next c.requires.once;
     }
 
 pub invariant_of-self : goal.invariant_of-self
-invariant_of-self g c = stands_still g.N.Handed.given _ c.call.new.self c.self.inside.patience c.self.invariant c.in_err-call.ensures.still
+invariant_of-self g c = stands_locked_still g.N.Handed.given _ c.call.new.self c.self.inside.patience c.self.invariant c.in_err-call.ensures.still
 
 pub invariant_of-self-2 : goal.invariant_of-self-2
 invariant_of-self-2 g c =
     let inside = c.self.inside in
     let next : IsNext g.N.Handed.given inside.seats.items c.args.seat c.args.command.now = subst (λ (v : LockedValue). IsNext g.N.Handed.given v.seats c.args.seat c.args.command.now) (sym c.self.view_is) c.requires.next in
     let makes = c.in_ok-call.ensures.makes in
-    let read = read_is inside.seats.items c.args.seat c.index-progress.result.now (omega (arith, next.within, c.self.invariant.come.seated)) c.index-progress.ensures in
+    let read = read_progress_is_seats inside.seats.items c.args.seat c.index-progress.result.now (omega (arith, next.within, c.self.invariant.come.seated)) c.index-progress.ensures in
     record {
-      run = run_call g.N.Handed.given inside.recorder c.call.new.self c.self.invariant.run c.args.seat c.args.command.now _ makes;
-      come = called_on c.law_every_run.ensures.run g.N.Handed.given inside.recorder c.call.new.self inside.seats.items c.args.seat c.args.command.now _ c.self.invariant.run c.self.invariant.come next.within makes
+      run = is_run_after_call g.N.Handed.given inside.recorder c.call.new.self c.self.invariant.run c.args.seat c.args.command.now _ makes;
+      come = all_have_come_after_call c.law_every_run.ensures.run g.N.Handed.given inside.recorder c.call.new.self inside.seats.items c.args.seat c.args.command.now _ c.self.invariant.run c.self.invariant.come next.within makes
           _ next c.requires.once (ap (λ (p : Progress). record p { place = p.place + 1 }) (sym read));
-      parted = not_parted_set g.N.Handed.given c.call.new.self.history inside.seats.items c.args.seat _ c.self.invariant.come.seated next.within (ap (λ (p : Progress). p.gone) (sym read) ∙ next.there);
+      parted = is_parted_after_progress g.N.Handed.given c.call.new.self.history inside.seats.items c.args.seat _ c.self.invariant.come.seated next.within (ap (λ (p : Progress). p.gone) (sym read) ∙ next.there);
       patient = c.self.invariant.patient;
     }
 
@@ -44,9 +44,9 @@ overflow_add-progress g c =
     let given = g.N.Handed.given in
     let inside = c.self.inside in
     let next : IsNext given inside.seats.items c.args.seat c.args.command.now = subst (λ (v : LockedValue). IsNext given v.seats c.args.seat c.args.command.now) (sym c.self.view_is) c.requires.next in
-    let read = read_is inside.seats.items c.args.seat c.index-progress.result.now (omega (arith, next.within, c.self.invariant.come.seated)) c.index-progress.ensures in
+    let read = read_progress_is_seats inside.seats.items c.args.seat c.index-progress.result.now (omega (arith, next.within, c.self.invariant.come.seated)) c.index-progress.ensures in
     let within = slice_get_within (script_of given c.args.seat) (progress_at inside.seats.items c.args.seat).place c.args.command.now next.next in
-    let script = script_right c.law_every_run.ensures.run given inside.recorder inside.seats.items c.args.seat c.self.invariant.run c.self.invariant.come next.within in
+    let script = given_script_is_right c.law_every_run.ensures.run given inside.recorder inside.seats.items c.args.seat c.self.invariant.run c.self.invariant.come next.within in
     omega (arith, ap (λ (p : Progress). p.place) read, within, script.few)
 
 pub split_at-requires : goal.split_at-requires
@@ -60,9 +60,9 @@ returns-clause-owes g c =
     let new = c.call.new.self in
     let owed = c.saturating_add-self-inside.result in
     subst (λ (v : LockedValue). owed ≡ min (v.owed + total (λ e. e.taken) (drop (length v.recorded.history) new.history)) (2 ^ 64 - 1)) c.self.view_is
-    (owes_call old new c.split_at.result.1.now c.claimed.result c.self.inside.owed owed c.args.seat c.args.command.now c.in_ok-call.field-0 c.in_ok-call.ensures.makes
+    (owed_grows_by_claimed old new c.split_at.result.1.now c.claimed.result c.self.inside.owed owed c.args.seat c.args.command.now c.in_ok-call.field-0 c.in_ok-call.ensures.makes
     (c.split_at.ensures.back ∙ ap (λ (l : List Entry). drop (length l) c.entries.result.now) c.entries-first.ensures ∙ ap (drop (length old.listed)) c.entries.ensures) c.claimed.ensures c.saturating_add-self-inside.ensures)
 
 pub returns-in_err-call-clause-still : goal.returns-in_err-call-clause-still
 returns-in_err-call-clause-still g c =
-    on_err c.from_residual.result _ (owes_still _ _ _ c.self.view_is c.in_err-call.ensures.still.history_stays refl)
+    on_err_always c.from_residual.result _ (owes_no_more_untold _ _ _ c.self.view_is c.in_err-call.ensures.still.history_stays refl)

@@ -6,9 +6,9 @@ use Rattle.core_machine.specs.machine.Machine.{BeginsInner, Can}
 use Rattle.locked_heap.specs.declared.progress.Progress.{Progress}
 use Rattle.locked_heap.specs.Locked.{LockedValue, IsNext, CollectsOn}
 use Rattle.heap_record.specs.Recorded.{StandsStill, MakesInner}
-use Rattle.locked_heap.proofs.Owing.{owes_turn, owes_then}
-use Rattle.locked_heap.proofs.Parting.{some_there}
-use Rattle.locked_heap.proofs.TurnsStand.{turn_on, turns_stand}
+use Rattle.locked_heap.proofs.Owing.{owes_no_more_after_turn, owes_no_more_in_turn}
+use Rattle.locked_heap.proofs.Parting.{some_are_there}
+use Rattle.locked_heap.proofs.TurnsStand.{turns_on_after_turn, stands_locked_after_turns}
 use Rattle.locked_heap.proofs.locked.Locked.collect.Goals as goal
 
 -- of two facts that an answer tells follows a third
@@ -44,18 +44,18 @@ invariant_of-self-2 g c =
     let given = g.N.Handed.given in
     let inside = c.self.inside in
     let next : IsNext given inside.seats.items c.args.seat Collect = subst (λ (v : LockedValue). IsNext given v.seats c.args.seat Collect) (sym c.self.view_is) c.requires in
-    turns_stand given _ c.turn-turn.new.self inside.owed inside.patience c.self.invariant (turn_on inside.recorder c.room.new.self c.turn-turn.new.self c.turn-turn.result c.room.ensures.still c.turn-turn.ensures.turned)
-    (some_there given inside.seats.items c.args.seat next.within next.there)
+    stands_locked_after_turns given _ c.turn-turn.new.self inside.owed inside.patience c.self.invariant (turns_on_after_turn inside.recorder c.room.new.self c.turn-turn.new.self c.turn-turn.result c.room.ensures.still c.turn-turn.ensures.turned)
+    (some_are_there given inside.seats.items c.args.seat next.within next.there)
 
 pub returns-in_err-inner-clause-owed : goal.returns-in_err-inner-clause-owed
 returns-in_err-inner-clause-owed g c =
     let inside = c.self.inside in
     let turned : LockedValue = record { recorded = c.turn-turn.new.self; seats = inside.seats.items; owed = inside.owed; over = inside.over } in
-    owes_then c.args.self.now turned c.inner.new.self (owes_turn _ c.args.self.now turned c.room.new.self c.turn-turn.result c.self.view_is c.room.ensures.still c.turn-turn.ensures.turned refl) c.inner.ensures.owed
+    owes_no_more_in_turn c.args.self.now turned c.inner.new.self (owes_no_more_after_turn _ c.args.self.now turned c.room.new.self c.turn-turn.result c.self.view_is c.room.ensures.still c.turn-turn.ensures.turned refl) c.inner.ensures.owed
 
 pub returns-clause-owed : goal.returns-clause-owed
 returns-clause-owed g c =
     let inside = c.self.inside in
     let turned : LockedValue = record { recorded = c.turn-turn.new.self; seats = inside.seats.items; owed = inside.owed; over = inside.over } in
-    owes_then c.args.self.now turned c.answer.new.self (owes_turn _ c.args.self.now turned c.room.new.self c.turn-turn.result c.self.view_is c.room.ensures.still c.turn-turn.ensures.turned refl)
-    (owes_then turned c.inner.new.self c.answer.new.self c.inner.ensures.owed c.answer.ensures.owed)
+    owes_no_more_in_turn c.args.self.now turned c.answer.new.self (owes_no_more_after_turn _ c.args.self.now turned c.room.new.self c.turn-turn.result c.self.view_is c.room.ensures.still c.turn-turn.ensures.turned refl)
+    (owes_no_more_in_turn turned c.inner.new.self c.answer.new.self c.inner.ensures.owed c.answer.ensures.owed)

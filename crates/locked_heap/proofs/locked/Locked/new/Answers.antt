@@ -5,8 +5,8 @@ use Rattle.heap_model.specs.Heap.{IsHeap}
 use Rattle.locked_heap.specs.Locked.{OpensAs}
 use Rattle.locked_heap.specs.Progress.{at_begin}
 use Rattle.heap_record.specs.Recorded.{Recorded}
-use Rattle.heap_record.proofs.Leading.{led_none}
-use Rattle.locked_heap.proofs.Opened.{all_opened, none_parted}
+use Rattle.heap_record.proofs.Leading.{events_lead_to_start}
+use Rattle.locked_heap.proofs.Opened.{all_have_come_at_opening, is_parted_at_opening}
 use Rattle.locked_heap.proofs.locked.Locked.new.Goals as goal
 
 pub new-requires : goal.new-requires
@@ -22,11 +22,11 @@ invariant_of-result g c =
       run = rw c.new.ensures (record {
         given_right = c.requires.given;
         of_heap = c.requires.heap;
-        led = led_none (OpensAs given) machine.heap machine.state _ limits (rw (c.requires.heap, c.requires.opening) c.requires.given.opens) refl c.requires.opening;
+        led = events_lead_to_start (OpensAs given) machine.heap machine.state _ limits (rw (c.requires.heap, c.requires.opening) c.requires.given.opens) refl c.requires.opening;
         plain = refl;
       });
-      come = all_opened given c.new.result.machine.state c.new.result.history c.in_ok-vec.field-0.items c.requires.given (ap (λ (r : Recorded). r.machine.state) c.new.ensures ∙ c.requires.opening)
+      come = all_have_come_at_opening given c.new.result.machine.state c.new.result.history c.in_ok-vec.field-0.items c.requires.given (ap (λ (r : Recorded). r.machine.state) c.new.ensures ∙ c.requires.opening)
           (ap (λ (r : Recorded). r.history) c.new.ensures) begin;
-      parted = none_parted given c.new.result.history c.in_ok-vec.field-0.items c.requires.given begin;
+      parted = is_parted_at_opening given c.new.result.history c.in_ok-vec.field-0.items c.requires.given begin;
       patient = c.requires.patience;
     }

@@ -4,12 +4,12 @@ use Rattle.core_machine.specs.machine.Machine.{seat_at}
 use Rattle.core_machine.specs.seat.Looks.{MayNote}
 use Rattle.locked_heap.specs.declared.progress.Progress.{Progress}
 use Rattle.locked_heap.specs.Locked.{LockedValue, IsNext}
-use Rattle.locked_heap.proofs.Calling.{can_look}
-use Rattle.locked_heap.proofs.Coming.{read_is}
-use Rattle.locked_heap.proofs.InnerCalls.{noted_on}
-use Rattle.locked_heap.proofs.GivenRuns.{run_inner}
-use Rattle.locked_heap.proofs.Parting.{not_parted_set, stands_still, none_further}
-use Rattle.locked_heap.proofs.Owing.{owes_still, owes_inner}
+use Rattle.locked_heap.proofs.Calling.{can_begin_inner}
+use Rattle.locked_heap.proofs.Coming.{read_progress_is_seats}
+use Rattle.locked_heap.proofs.InnerCalls.{all_have_come_after_note}
+use Rattle.locked_heap.proofs.GivenRuns.{is_run_after_inner}
+use Rattle.locked_heap.proofs.Parting.{is_parted_after_progress, stands_locked_still, comes_no_further}
+use Rattle.locked_heap.proofs.Owing.{owes_no_more_untold, owes_no_more_after_inner}
 use Rattle.locked_heap.proofs.locked.Locked.note.Goals as goal
 
 pub inner-requires : goal.inner-requires
@@ -17,32 +17,32 @@ inner-requires g c =
     let inside = c.self.inside in
     let next : IsNext g.N.Handed.given inside.seats.items c.args.seat Collect = subst (λ (v : LockedValue). IsNext g.N.Handed.given v.seats c.args.seat Collect) (sym c.self.view_is) c.requires.next in
     record {
-      can = can_look c.law_every_run.ensures.run g.N.Handed.given inside.recorder inside.seats.items c.args.seat c.self.invariant.run c.self.invariant.come next.within next.there _
+      can = can_begin_inner c.law_every_run.ensures.run g.N.Handed.given inside.recorder inside.seats.items c.args.seat c.self.invariant.run c.self.invariant.come next.within next.there _
           (subst (λ (v : LockedValue). MayNote (seat_at v.recorded.machine.state c.args.seat).looks c.args.came) (sym c.self.view_is) c.requires.found);
     }
 
 pub invariant_of-self : goal.invariant_of-self
-invariant_of-self g c = stands_still g.N.Handed.given _ c.inner.new.self c.self.inside.patience c.self.invariant c.in_err-inner.ensures.still
+invariant_of-self g c = stands_locked_still g.N.Handed.given _ c.inner.new.self c.self.inside.patience c.self.invariant c.in_err-inner.ensures.still
 
 pub invariant_of-self-2 : goal.invariant_of-self-2
 invariant_of-self-2 g c =
     let inside = c.self.inside in
     let next : IsNext g.N.Handed.given inside.seats.items c.args.seat Collect = subst (λ (v : LockedValue). IsNext g.N.Handed.given v.seats c.args.seat Collect) (sym c.self.view_is) c.requires.next in
     let makes = c.in_ok-inner.ensures.makes in
-    let read = read_is inside.seats.items c.args.seat c.index-progress.result.now (omega (arith, next.within, c.self.invariant.come.seated)) c.index-progress.ensures in
+    let read = read_progress_is_seats inside.seats.items c.args.seat c.index-progress.result.now (omega (arith, next.within, c.self.invariant.come.seated)) c.index-progress.ensures in
     record {
-      run = run_inner g.N.Handed.given inside.recorder c.inner.new.self c.self.invariant.run c.args.seat _ makes;
-      come = noted_on g.N.Handed.given inside.recorder c.inner.new.self inside.seats.items c.args.seat c.self.invariant.come c.args.self.now _ _ c.args.came _ (sym c.self.view_is) makes next c.requires.may refl
+      run = is_run_after_inner g.N.Handed.given inside.recorder c.inner.new.self c.self.invariant.run c.args.seat _ makes;
+      come = all_have_come_after_note g.N.Handed.given inside.recorder c.inner.new.self inside.seats.items c.args.seat c.self.invariant.come c.args.self.now _ _ c.args.came _ (sym c.self.view_is) makes next c.requires.may refl
           (ap (λ (p : Progress). p.place + 1) (sym read)) (ap (λ (p : Progress). p.gone) (sym read)) (c.finds-finds.ensures ∙ ap (λ (v : LockedValue). (seat_at v.recorded.machine.state c.args.seat).looks.waits) (sym c.self.view_is));
-      parted = not_parted_set g.N.Handed.given c.inner.new.self.history inside.seats.items c.args.seat _ c.self.invariant.come.seated next.within (ap (λ (p : Progress). p.gone) (sym read) ∙ next.there);
+      parted = is_parted_after_progress g.N.Handed.given c.inner.new.self.history inside.seats.items c.args.seat _ c.self.invariant.come.seated next.within (ap (λ (p : Progress). p.gone) (sym read) ∙ next.there);
       patient = c.self.invariant.patient;
     }
 
 pub returns-in_err-inner-clause-further : goal.returns-in_err-inner-clause-further
-returns-in_err-inner-clause-further g c = none_further _ _ c.args.seat (ap (λ (v : LockedValue). v.seats) c.self.view_is) (ap (λ (v : LockedValue). v.over) c.self.view_is)
+returns-in_err-inner-clause-further g c = comes_no_further _ _ c.args.seat (ap (λ (v : LockedValue). v.seats) c.self.view_is) (ap (λ (v : LockedValue). v.over) c.self.view_is)
 
 pub returns-in_err-inner-clause-owed : goal.returns-in_err-inner-clause-owed
-returns-in_err-inner-clause-owed g c = owes_still _ _ _ c.self.view_is c.in_err-inner.ensures.still.history_stays refl
+returns-in_err-inner-clause-owed g c = owes_no_more_untold _ _ _ c.self.view_is c.in_err-inner.ensures.still.history_stays refl
 
 pub returns-clause-owed : goal.returns-clause-owed
-returns-clause-owed g c = owes_inner _ _ _ c.args.seat _ c.self.view_is c.in_ok-inner.ensures.makes refl
+returns-clause-owed g c = owes_no_more_after_inner _ _ _ c.args.seat _ c.self.view_is c.in_ok-inner.ensures.makes refl

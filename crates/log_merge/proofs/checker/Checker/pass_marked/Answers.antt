@@ -4,7 +4,7 @@ use Rattle.script_text.specs.declared.script.Form.{Form}
 use Rattle.reply_text.specs.declared.history_line.HistoryLine.TheVariants as lines
 use Rattle.reply_text.specs.History.{lines_with_mark, space_line}
 use Rattle.log_merge.specs.Checking.{GoesOver, StopsIn}
-use Rattle.log_merge.proofs.LineLemmas.{AllByRecursion-drop, entries_of-entries, marked_parted}
+use Rattle.log_merge.proofs.LineLemmas.{AllByRecursion-drop, entries_of-entries, marked_lines_parted_at}
 use Rattle.log_merge.proofs.PassingLemmas.{GoesOver-append, StopsIn-append, StopsIn-more}
 use Rattle.log_merge.proofs.checker.Checker.pass_marked.Goals as goal
 
@@ -18,7 +18,7 @@ pub returns-in_err-pass_entries-clause-stops : goal.returns-in_err-pass_entries-
 returns-in_err-pass_entries-clause-stops c = λ form.
     let mark = c.in-Some.mark in
     let entries = c.args.entries.now in
-    let parted = marked_parted c.args.mark mark entries c.split_at.result.0.now c.split_at.result.1.now c.in-Some.is c.split_at.ensures.front c.split_at.ensures.back in
+    let parted = marked_lines_parted_at c.args.mark mark entries c.split_at.result.0.now c.split_at.result.1.now c.in-Some.is c.split_at.ensures.front c.split_at.ensures.back in
     let stops : StopsIn form c.args.self.now [] (lines_with_mark c.args.mark entries) c.in_err-pass_entries.field-0.0 =
     StopsIn-more form c.args.self.now [] (map lines.Entry c.split_at.result.0.now) _ (lines_with_mark c.args.mark entries) _ parted (c.in_err-pass_entries.ensures.stops form []) in
     search rules
@@ -29,7 +29,7 @@ returns-in_err-pass_space-clause-stops c = λ form.
     let entries = c.args.entries.now in
     let front = map lines.Entry c.split_at.result.0.now in
     let back = map lines.Entry c.split_at.result.1.now in
-    let parted = marked_parted c.args.mark mark entries c.split_at.result.0.now c.split_at.result.1.now c.in-Some.is c.split_at.ensures.front c.split_at.ensures.back in
+    let parted = marked_lines_parted_at c.args.mark mark entries c.split_at.result.0.now c.split_at.result.1.now c.in-Some.is c.split_at.ensures.front c.split_at.ensures.back in
     let stops : StopsIn form c.args.self.now [] (lines_with_mark c.args.mark entries) c.in_err-pass_space.field-0.0 =
     StopsIn-more form c.args.self.now [] (front ++ space_line mark ∷ []) back (lines_with_mark c.args.mark entries) _ (parted ∙ sym (append_assoc front (space_line mark ∷ []) back))
     (StopsIn-append form c.args.self.now c.pass_entries-2.new.self [] front (space_line mark ∷ []) _ c.pass_entries-2.ensures.heap (c.in_ok-pass_entries.ensures.passes form [])
@@ -51,7 +51,7 @@ parted : (c : goal.After-pass_entries-3)
     → (map lines.Entry c.split_at.result.0.now ++ space_line c.in-Some.mark ∷ []) ++ map lines.Entry c.split_at.result.1.now ≡ lines_with_mark c.args.mark c.args.entries.now
 parted c =
     append_assoc (map lines.Entry c.split_at.result.0.now) (space_line c.in-Some.mark ∷ []) (map lines.Entry c.split_at.result.1.now)
-    ∙ sym (marked_parted c.args.mark c.in-Some.mark c.args.entries.now c.split_at.result.0.now c.split_at.result.1.now c.in-Some.is c.split_at.ensures.front c.split_at.ensures.back)
+    ∙ sym (marked_lines_parted_at c.args.mark c.in-Some.mark c.args.entries.now c.split_at.result.0.now c.split_at.result.1.now c.in-Some.is c.split_at.ensures.front c.split_at.ensures.back)
 
 pub returns-clause-passes : goal.returns-clause-passes
 returns-clause-passes c = λ form.

@@ -6,7 +6,7 @@ use Rattle.reply_text.specs.declared.write.counts.BriefCounts.{BriefCounts}
 use Rattle.reply_text.specs.write.Brief.{commands_line, work_line, mark_lines}
 use Rattle.reply_text.specs.write.Counts.{counts_of}
 use Rattle.reply_text.specs.write.Lines.{history_line}
-use Rattle.reply_text.proofs.write_lemmas.Briefs.{brief_whole}
+use Rattle.reply_text.proofs.write_lemmas.Briefs.{written_brief_is_whole}
 use Rattle.reply_text.proofs.write.brief.render_brief.Goals as goal
 
 pub returns : goal.returns
@@ -14,5 +14,5 @@ returns c =
     let history = c.args.history.now in
     let counts : c.of-counts.result ≡ counts_of history.entries = c.of-counts.ensures ∙ ap counts_of c.as_slice.ensures in
     let P : BriefCounts → Type 0 = λ counts. c.push_end.new.text.items ≡ text_of (codes "brief 1" ∷ heap_line history.heap ∷ commands_line counts ∷ work_line counts ∷ mark_lines history.mark ++ history_line (lines.End history.end_used) ∷ []) in
-    subst P counts (brief_whole (codes "brief 1") (heap_line history.heap) (commands_line c.of-counts.result) (work_line c.of-counts.result) (history_line (lines.End history.end_used)) (mark_lines history.mark) _ _ _ _ _ _
+    subst P counts (written_brief_is_whole (codes "brief 1") (heap_line history.heap) (commands_line c.of-counts.result) (work_line c.of-counts.result) (history_line (lines.End history.end_used)) (mark_lines history.mark) _ _ _ _ _ _
     c.in_ok-text.ensures.items c.in_ok-push_heap_line.ensures c.in_ok-push_commands.ensures c.in_ok-push_work.ensures c.in_ok-push_mark.ensures c.in_ok-push_end.ensures)

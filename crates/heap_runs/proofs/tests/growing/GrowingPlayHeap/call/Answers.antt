@@ -4,7 +4,7 @@ use Rattle.heap_model.specs.declared.entry.Entry.TheVariants.{Said}
 use Rattle.heap_model.specs.declared.reply.Reply.TheVariants.{Done}
 use Rattle.heap_runs.specs.Growing.{is_plain, IsGrowing}
 use Rattle.heap_runs.specs.PlayHeap.{PlayState, AnswersCall}
-use Rattle.heap_runs.proofs.Growing.{growing_more, growing_answers}
+use Rattle.heap_runs.proofs.Growing.{is_growing_after_command, growing_answers_once}
 use Rattle.heap_runs.proofs.tests.growing.GrowingPlayHeap.call.Goals as goal
 
 pub invariant_of-self-2 : goal.invariant_of-self-2
@@ -12,7 +12,7 @@ invariant_of-self-2 c =
     let heap = c.self.inside.heap in
     let plain : is_plain c.args.command.now ≡ true = search rules in
     let listed : c.note.new.list.items ≡ c.self.inside.entries.items ++ Said c.args.seat c.args.command.now Done ∷ [] = search rules in
-    let growing = growing_more heap c.self.inside.entries.items c.self.inside.graph c.apply.new.self c.args.seat c.args.command.now c.self.invariant plain c.in-Ok.ensures.accepted c.in-Ok.ensures.grown in
+    let growing = is_growing_after_command heap c.self.inside.entries.items c.self.inside.graph c.apply.new.self c.args.seat c.args.command.now c.self.invariant plain c.in-Ok.ensures.accepted c.in-Ok.ensures.grown in
     subst (λ (es : List Entry). IsGrowing heap es c.apply.new.self) (sym listed) growing
 
 pub returns : goal.returns
@@ -24,7 +24,7 @@ returns c =
     record {
       answers = subst (λ (s : PlayState). AnswersCall s new c.args.seat c.args.command.now Done) c.self.view_is
           (record {
-            once = λ apart. growing_answers old new c.args.seat c.args.command.now c.self.invariant.plain plain refl listed refl refl refl;
+            once = λ apart. growing_answers_once old new c.args.seat c.args.command.now c.self.invariant.plain plain refl listed refl refl refl;
             collects = λ is. absurd (cc (sym plain ∙ ap is_plain is));
           });
     }

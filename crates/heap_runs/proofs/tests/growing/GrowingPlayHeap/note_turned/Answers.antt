@@ -4,7 +4,7 @@ use Rattle.heap_model.specs.declared.entry.Entry.{Entry}
 use Rattle.heap_model.specs.declared.entry.Entry.TheVariants.{Turned}
 use Rattle.heap_runs.specs.Growing.{IsGrowing}
 use Rattle.heap_runs.specs.PlayHeap.{PlayState}
-use Rattle.heap_runs.proofs.Growing.{growing_turned}
+use Rattle.heap_runs.proofs.Growing.{is_growing_after_turned}
 use Rattle.heap_runs.proofs.tests.growing.GrowingPlayHeap.note_turned.Goals as goal
 
 pub invariant_of-self-2 : goal.invariant_of-self-2
@@ -12,4 +12,4 @@ invariant_of-self-2 c =
     let inside = c.self.inside in
     let shows = subst (λ (s : PlayState). TurnShows s.heap s.entries c.args.reply) (sym c.self.view_is) c.requires.shows in
     let listed : c.note.new.list.items ≡ inside.entries.items ++ Turned c.args.command c.args.reply ∷ [] = search rules in
-    subst (λ (es : List Entry). IsGrowing inside.heap es inside.graph) (sym listed) (growing_turned inside.heap inside.entries.items inside.graph c.args.command c.args.reply c.self.invariant shows)
+    subst (λ (es : List Entry). IsGrowing inside.heap es inside.graph) (sym listed) (is_growing_after_turned inside.heap inside.entries.items inside.graph c.args.command c.args.reply c.self.invariant shows)

@@ -5,7 +5,7 @@ use Rattle.heap_model.specs.declared.command.Command.{Command}
 use Rattle.heap_model.specs.declared.fault.Memory.{Memory}
 use Rattle.heap_table.specs.SeatHeld.{SeatHeld}
 use Rattle.heap_runs.specs.SeatWork.{HasWorked, HaveEnded, HaveWorked, script_at}
-use Rattle.heap_runs.proofs.WorkersEnd.{all_worked, if_ok_then}
+use Rattle.heap_runs.proofs.WorkersEnd.{all_have_worked, if_ok_implied}
 use Rattle.heap_runs.proofs.workers.fn.work_all.join+arg3.Goals as goal
 
 pub returns : goal.returns
@@ -22,4 +22,4 @@ returns g c =
           subst (λ (end : Result SeatHeld Memory). IfOk end (HasWorked c.captures.patience old (script_at scripts old.number))) (get_or_from_slice_get done place end end now)
           (subst (λ (held : SeatHeld). IfOk (slice_index_or done place end) (HasWorked c.captures.patience held (script_at scripts held.number))) job met);
     } in
-    if_ok_then _ (λ (back : Vec SeatHeld Global). HaveWorked c.captures.patience scripts seats back.items) c.each_seat.result (λ back is. all_worked c.captures.patience scripts seats back.items done ended is) c.each_seat.ensures
+    if_ok_implied _ (λ (back : Vec SeatHeld Global). HaveWorked c.captures.patience scripts seats back.items) c.each_seat.result (λ back is. all_have_worked c.captures.patience scripts seats back.items done ended is) c.each_seat.ensures

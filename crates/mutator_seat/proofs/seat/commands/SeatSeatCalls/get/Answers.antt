@@ -2,18 +2,18 @@ use Rattle.std.proofs.Common.{sym, subst}
 use Rattle.heap_model.specs.declared.command.Command.TheVariants.{Get}
 use Rattle.heap_model.specs.calls.SeatReplies.{get_reply}
 use Rattle.mutator_seat.specs.Calls.{MakesCall}
-use Rattle.mutator_seat.proofs.Entries.{call_adds}
-use Rattle.mutator_seat.proofs.Fields.{get_none, get_past}
+use Rattle.mutator_seat.proofs.Entries.{call_adds_its_entries}
+use Rattle.mutator_seat.proofs.Fields.{get_refused_without_object, get_refused_past_end}
 use Rattle.mutator_seat.proofs.seat.commands.SeatSeatCalls.get.Goals as goal
 
 pub returns-clause-added : goal.returns-clause-added
-returns-clause-added g c = call_adds c.args.self.now c.reply_to.new.self (Get c.args.d c.args.r c.args.i) (get_reply c.cell_of.result) (subst (MakesCall c.args.self.now c.reply_to.new.self (Get c.args.d c.args.r c.args.i)) (sym c.cell_of.ensures) c.reply_to.ensures.call)
+returns-clause-added g c = call_adds_its_entries c.args.self.now c.reply_to.new.self (Get c.args.d c.args.r c.args.i) (get_reply c.cell_of.result) (subst (MakesCall c.args.self.now c.reply_to.new.self (Get c.args.d c.args.r c.args.i)) (sym c.cell_of.ensures) c.reply_to.ensures.call)
 
 pub returns-clause-no_object : goal.returns-clause-no_object
-returns-clause-no_object g c = get_none c.args.self.now c.reply_to.new.self c.args.d c.args.r c.args.i c.cell_of.result (subst (MakesCall c.args.self.now c.reply_to.new.self (Get c.args.d c.args.r c.args.i)) (sym c.cell_of.ensures) c.reply_to.ensures.call)
+returns-clause-no_object g c = get_refused_without_object c.args.self.now c.reply_to.new.self c.args.d c.args.r c.args.i c.cell_of.result (subst (MakesCall c.args.self.now c.reply_to.new.self (Get c.args.d c.args.r c.args.i)) (sym c.cell_of.ensures) c.reply_to.ensures.call)
 
 pub returns-clause-no_field : goal.returns-clause-no_field
-returns-clause-no_field g c = get_past c.args.self.now c.reply_to.new.self c.args.d c.args.r c.args.i c.cell_of.result (subst (MakesCall c.args.self.now c.reply_to.new.self (Get c.args.d c.args.r c.args.i)) (sym c.cell_of.ensures) c.reply_to.ensures.call)
+returns-clause-no_field g c = get_refused_past_end c.args.self.now c.reply_to.new.self c.args.d c.args.r c.args.i c.cell_of.result (subst (MakesCall c.args.self.now c.reply_to.new.self (Get c.args.d c.args.r c.args.i)) (sym c.cell_of.ensures) c.reply_to.ensures.call)
 
 pub returns-clause-call : goal.returns-clause-call
 returns-clause-call g c = subst (MakesCall c.args.self.now c.reply_to.new.self (Get c.args.d c.args.r c.args.i)) (sym c.cell_of.ensures) c.reply_to.ensures.call

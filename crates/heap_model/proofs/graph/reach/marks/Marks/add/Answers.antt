@@ -3,7 +3,7 @@ use Rattle.std.proofs.lemmas.List.{length-map}
 use Rattle.std.proofs.lemmas.Result.{on_ok_weaker}
 use Rattle.heap_model.specs.graph.Walks.{marks_by, marking_by}
 use Rattle.heap_model.proofs.graph_lemmas.FoundLemmas.{added}
-use Rattle.heap_model.proofs.graph_lemmas.WalkLemmas.{marking_by-added, added-past}
+use Rattle.heap_model.proofs.graph_lemmas.WalkLemmas.{marking_by-added, added_past_seats_same}
 use Rattle.heap_model.proofs.graph.reach.marks.Marks.add.Goals as goal
 use Rattle.heap_model.proofs.graph.reach.marks.Marks.add.Goals.{in-Some, in-None}
 
@@ -19,5 +19,5 @@ returns-clause-added c =
           rw (w.result-is, w.self-inside-is, ← c.self.view_is) more)
       | in-None w ↦ (
           let past : length rows ≤ c.args.seat = search rules in
-          rw (w.result-is, w.self-inside-is, ← c.self.view_is) (sym (added-past (marking_by fields.walk fields.board rows) c.args.seat (omega (arith, past, length-map rows (marks_by fields.walk))))))
+          rw (w.result-is, w.self-inside-is, ← c.self.view_is) (sym (added_past_seats_same (marking_by fields.walk fields.board rows) c.args.seat (omega (arith, past, length-map rows (marks_by fields.walk))))))
     ]

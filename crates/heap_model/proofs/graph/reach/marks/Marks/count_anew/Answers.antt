@@ -3,7 +3,7 @@ use Rattle.std.specs.Vec.{with_items}
 use Rattle.std.proofs.lemmas.List.{length-map, with_items_is}
 use Rattle.heap_model.specs.graph.Marking.{no_marks, mark_counts}
 use Rattle.heap_model.specs.graph.Walks.{marking_by}
-use Rattle.heap_model.proofs.graph_lemmas.WalkLemmas.{zeros, AreOfWalks-zeros, none_set_anew}
+use Rattle.heap_model.proofs.graph_lemmas.WalkLemmas.{zeros, AreOfWalks-zeros, anew_has_no_marks}
 use Rattle.heap_model.proofs.graph.reach.marks.Marks.count_anew.Goals as goal
 
 cleared : (c : goal.After-self-3-1) → (with_items c.self.inside.seats c.clear_rows.new.rows).items ≡ map zeros c.self.inside.seats.items
@@ -16,4 +16,4 @@ invariant_of-self c = rw (cleared c) (AreOfWalks-zeros length c.self.inside.seat
 
 pub returns : goal.returns
 returns c =
-    ap (marking_by 1 0) (cleared c) ∙ none_set_anew c.self.inside.walk c.self.inside.board c.self.inside.seats.items ∙ ap (λ m. no_marks (mark_counts m)) c.self.view_is
+    ap (marking_by 1 0) (cleared c) ∙ anew_has_no_marks c.self.inside.walk c.self.inside.board c.self.inside.seats.items ∙ ap (λ m. no_marks (mark_counts m)) c.self.view_is

@@ -1,7 +1,7 @@
 use Rattle.std.proofs.Common.{[], ◌∷◌, vec_len, vec_capacity, arith, rules, length-append}
 use Rattle.std.proofs.lemmas.List.{drop-append-le}
 use Rattle.heap_model.proofs.graph_lemmas.FoundLemmas.{AreMarked-more}
-use Rattle.heap_model.proofs.graph_lemmas.PlaceLemmas.{place_left, HasPlaces-marked}
+use Rattle.heap_model.proofs.graph_lemmas.PlaceLemmas.{marking_leaves_a_place, HasPlaces-marked}
 use Rattle.heap_model.proofs.graph_lemmas.SearchLemmas.{GoesOn-note, IsFound-note}
 use Rattle.heap_model.proofs.graph.reach.search.Search.note.Goals as goal
 
@@ -10,7 +10,7 @@ unreachable-requires c =
     omega (
       arith,
       c.in-Err.ensures.full,
-      place_left c.self.inside.marks c.in-Object.id (vec_len c.self.inside.found) c.self.inside.places (vec_capacity c.self.inside.found) (c.mark.ensures.fresh.0 c.if-mark.true) c.self.invariant.room,
+      marking_leaves_a_place c.self.inside.marks c.in-Object.id (vec_len c.self.inside.found) c.self.inside.places (vec_capacity c.self.inside.found) (c.mark.ensures.fresh.0 c.if-mark.true) c.self.invariant.room,
     )
 
 pub invariant_of-self-2 : goal.invariant_of-self-2
