@@ -35,8 +35,8 @@ fits_spine heap phase looked s marks within few below spot made =
     (λ more. record { on = record { marks = marks; fragment_within = within; words_few = few; index_within = more; spine_within = spot }; steps_made = made })
     (λ done. record { marks = marks; fragment_within = within; few_steps = omega (arith, made, below, few) })
 
-pub address_stands : (scan : Scan) (words : ℕ) → StageStands (stages.Addressing scan words)
-address_stands scan words heap collector limits fits addressing here =
+pub stage_stands_at_addressing : (scan : Scan) (words : ℕ) → StageStands (stages.Addressing scan words)
+stage_stands_at_addressing scan words heap collector limits fits addressing here =
     work_turn_stands heap (Spine (AddressLoad scan.fragment)) (λ word. record collector { stage = after_address scan words word })
     (load_step_stands heap (Spine (AddressLoad scan.fragment)) refl (here.fragment_within, omega arith))
     (λ word small led. collector_fits_at_stage heap collector (after_address scan words word) fits

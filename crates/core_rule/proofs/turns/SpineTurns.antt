@@ -19,8 +19,8 @@ spine_at_leaves heap phase looked words scan s made few =
     let less : scanning_left heap words s.scan < scanning_left heap words scan = rw made (scan_step_leaves_less heap phase looked words scan few) in
     spine_scan_cases (λ stage. stage_left heap words phase looked stage < scanning_left heap words scan) s (λ more. less) (λ done. less)
 
-pub address_leaves : (scan : Scan) (spine_words : ℕ) → StageLeavesFewer (stages.Addressing scan spine_words)
-address_leaves scan spine_words heap state book rule addressing stepped =
+pub address_leaves_fewer : (scan : Scan) (spine_words : ℕ) → StageLeavesFewer (stages.Addressing scan spine_words)
+address_leaves_fewer scan spine_words heap state book rule addressing stepped =
     let fits : IsAddressing heap state.collector.phase state.collector.looked scan spine_words = rw addressing at rule.machine.collector_fit.at_stage in
     let word : ℕ = at heap state.words (Word scan.fragment 2) in
     rw (put_of_read_changes_nothing heap state.words (Word scan.fragment 2))

@@ -11,7 +11,7 @@ use Rattle.core_rule.proofs.steps.collector.ColourTurn.{keeps_rule_by_marking_lo
 use Rattle.core_rule.proofs.steps.TurnSteps.{StageKeeps}
 use Rattle.core_rule.proofs.turns.FewWords.{spine_scan_has_few_words}
 use Rattle.core_rule.proofs.steps.TurnKinds.{TurnKind, turn_kind_of_load, inside_spine_scan_at}
-use Rattle.core_rule.proofs.turns.SpineTurns.{address_leaves}
+use Rattle.core_rule.proofs.turns.SpineTurns.{address_leaves_fewer}
 
 module _ (heap : Heap) (state : State) (book : Book) (rule : Rule heap state book) (scan : Scan) (count : ℕ) (addressing : state.collector.stage ≡ stages.Addressing scan count) where
   abbrev found : ℕ
@@ -42,10 +42,10 @@ address_keeps scan count heap state book rule addressing machine =
     keeps_rule_by_marking_load heap state book rule (stages.Addressing scan count) _ addressing (Word scan.fragment 2) machine (marks heap state book rule scan count addressing) tt (spine_scan_is_of_marking (begun heap state book rule scan count addressing))
 
 -- all that is asked of it
-pub address_kind : (scan : Scan) (count : ℕ) → TurnKind (stages.Addressing scan count)
-address_kind scan count = turn_kind_of_load (stages.Addressing scan count) (λ heap collector. record { adds_none = refl; steps = λ word. refl; loaded = λ word. refl; beside = tt }) record {
+pub turn_kind_of_addressing : (scan : Scan) (count : ℕ) → TurnKind (stages.Addressing scan count)
+turn_kind_of_addressing scan count = turn_kind_of_load (stages.Addressing scan count) (λ heap collector. record { adds_none = refl; steps = λ word. refl; loaded = λ word. refl; beside = tt }) record {
   keeps = address_keeps scan count;
-  fewer = λ few. address_leaves scan count;
+  fewer = λ few. address_leaves_fewer scan count;
   inside = λ heap state book rule cycle is. inside_spine_scan_at heap state book rule cycle _;
   all = λ heap phase looked fits. fits.marks.all;
 }
