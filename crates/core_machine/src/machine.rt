@@ -1,4 +1,4 @@
-ghost use Rattle.std.specs.Prelude.{◌≡◌, ◌≢◌, ℕ, ◌+◌, ◌-◌, ◌*◌, ◌<◌, ◌≤◌, ◌↔◌, IsTrue, [], ◌∷◌, ◌++◌, length, Some, OnOk, OnErr};
+ghost use Rattle.std.specs.Prelude.{◌≡◌, ◌+◌, ◌-◌, ◌*◌, ◌<◌, ◌≤◌, ◌↔◌, IsTrue, [], ◌∷◌, ◌++◌, length, Some};
 ghost use Rattle.heap_model.specs.account.Space.{need_of};
 ghost use Rattle.core_machine.specs.machine.Machine.{Begins, BeginsInner, Steps, Turns, Can, state_after, seat_at, found_by};
 ghost use Rattle.core_machine.specs.declared.table.address.Address.TheVariants.{Phase};
@@ -15,7 +15,7 @@ use crate::seat::looks::Looks;
 use crate::step::Step;
 use crate::table::address::Address;
 use crate::table::words::{load, perform};
-use heap_model::{Command, Heap, Inner, Memory, Turn};
+use heap_model::{Command, Heap, Inner, Turn};
 use std::marker::Model;
 
 mod logs;
@@ -225,33 +225,5 @@ impl<L: CountsEntries> Machine<L> {
         let found = perform(&mut self.words, &heap, step);
         let answer = self.collector.learn(&heap, found);
         (found, answer)
-    }
-
-    /// For how many more entries the party has room.
-    pub fn spare(&self, party: u8) -> usize
-        requires { IsParty self.now party }
-        ensures { result ≡ spare_of self.now party }
-    {
-        match self.seats.get(party as usize) {
-            Some(seat) => seat.spare(),
-            None => self.collector.spare(),
-        }
-    }
-
-    /// Makes room for at least `n` more entries of the party.
-    pub fn room(&mut self, party: u8, n: usize) -> Result<(), Memory>
-        requires { IsParty self.old party }
-        ensures same { self.new ≡ record self.old { spares = self.new.spares } }
-        ensures more { spare_of self.old party ≤ spare_of self.new party }
-        ensures others { (other : ℕ) → other ≢ party → spare_of self.new other ≡ spare_of self.old other }
-        ensures room { OnOk result (n ≤ spare_of self.new party) }
-        ensures memory { OnErr result (self.new ≡ self.old) }
-    {
-        if (party as usize) < self.seats.len() {
-            let seat = &mut self.seats[party as usize];
-            seat.room(n)
-        } else {
-            self.collector.room(n)
-        }
     }
 }

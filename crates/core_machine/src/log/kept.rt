@@ -82,8 +82,7 @@ impl ShowsRecent for Log {
 
     fn forget(&mut self)
         ensures { self.new ≡ self.old }
-    {
-    }
+    {}
 }
 
 impl ShowsLast for Log {

@@ -1,9 +1,9 @@
-ghost use Rattle.std.specs.Prelude.{◌≡◌, ◌≢◌, ℕ, ◌≤◌, length};
+ghost use Rattle.std.specs.Prelude.{◌≡◌, ◌≢◌, ℕ, ◌≤◌, length, OnOk, OnErr};
 ghost use Rattle.core_machine.specs.machine.Value.{spare_of, forgotten_of, log_of, recent_of, IsParty};
 
-use crate::log::ShowsRecent;
+use crate::log::{CountsEntries, ShowsRecent};
 use crate::machine::Machine;
-use heap_model::Entry;
+use heap_model::{Entry, Memory};
 
 impl Machine {
     /// The party's entries, in their order.
@@ -43,6 +43,36 @@ impl<L: ShowsRecent> Machine<L> {
             seat.forget()
         } else {
             self.collector.forget()
+        }
+    }
+}
+
+impl<L: CountsEntries> Machine<L> {
+    /// For how many more entries the party has room.
+    pub fn spare(&self, party: u8) -> usize
+        requires { IsParty self.now party }
+        ensures { result ≡ spare_of self.now party }
+    {
+        match self.seats.get(party as usize) {
+            Some(seat) => seat.spare(),
+            None => self.collector.spare(),
+        }
+    }
+
+    /// Makes room for at least `n` more entries of the party.
+    pub fn room(&mut self, party: u8, n: usize) -> Result<(), Memory>
+        requires { IsParty self.old party }
+        ensures same { self.new ≡ record self.old { spares = self.new.spares } }
+        ensures more { spare_of self.old party ≤ spare_of self.new party }
+        ensures others { (other : ℕ) → other ≢ party → spare_of self.new other ≡ spare_of self.old other }
+        ensures room { OnOk result (n ≤ spare_of self.new party) }
+        ensures memory { OnErr result (self.new ≡ self.old) }
+    {
+        if (party as usize) < self.seats.len() {
+            let seat = &mut self.seats[party as usize];
+            seat.room(n)
+        } else {
+            self.collector.room(n)
         }
     }
 }
