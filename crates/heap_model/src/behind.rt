@@ -1,5 +1,5 @@
-ghost use Rattle.std.specs.Prelude.{◌≡◌};
-ghost use Rattle.heap_model.specs.Behind.{as_reply, as_turn_reply, as_turn, as_collect_reply, behind_in_reply, behind_in_turn_reply, behind_in_turn, ended_or_behind};
+ghost use Rattle.std.specs.Prelude.{◌≡◌, Some};
+ghost use Rattle.heap_model.specs.Behind.{behind_of, as_reply, as_turn_reply, as_turn, as_collect_reply, behind_in_reply, behind_in_turn_reply, behind_in_turn, ended_or_behind};
 
 use crate::calls::collect::CollectReply;
 use crate::calls::collector_calls::Turn;
@@ -61,6 +61,17 @@ impl From<Behind> for Turn {
     }
 }
 
+/// The seat that an answer with these numbers tells of.
+fn told(seat: u8, answered: u64, phase: u64) -> Option<Behind>
+    ensures { result ≡ Some (behind_of seat answered phase) }
+{
+    Some(Behind {
+        seat,
+        answered,
+        phase,
+    })
+}
+
 impl Reply {
     /// The seat that is waited for, where the reply tells one.
     pub fn behind(&self) -> Option<Behind>
@@ -71,11 +82,7 @@ impl Reply {
                 seat,
                 answered,
                 phase,
-            } => Some(Behind {
-                seat,
-                answered,
-                phase,
-            }),
+            } => told(seat, answered, phase),
             _ => None,
         }
     }
@@ -91,11 +98,7 @@ impl TurnReply {
                 seat,
                 answered,
                 phase,
-            } => Some(Behind {
-                seat,
-                answered,
-                phase,
-            }),
+            } => told(seat, answered, phase),
             TurnReply::Done | TurnReply::Cycle(_) => None,
         }
     }
@@ -111,11 +114,7 @@ impl Turn {
                 seat,
                 answered,
                 phase,
-            } => Some(Behind {
-                seat,
-                answered,
-                phase,
-            }),
+            } => told(seat, answered, phase),
             Turn::Stepped | Turn::Ended { .. } => None,
         }
     }

@@ -1,7 +1,10 @@
 -- What a turn of a heap that is played on adds.
-use Rattle.std.proofs.Common.{◌≡◌, ℕ, zero, suc, ◌+◌, ◌≤◌, true, List, [], ◌∷◌, ◌++◌, length, filter, inl, inr, refl, sym, ap, subst, ◌∙◌, append_assoc, length-append, arith}
+use Rattle.std.proofs.Common.{◌≡◌, ◌≢◌, None, Some, ℕ, zero, suc, ◌+◌, ◌≤◌, true, List, [], ◌∷◌, ◌++◌, length, filter, inl, inr, refl, sym, ap, subst, ◌∙◌, append_assoc, length-append, arith}
 use Rattle.std.proofs.lemmas.List.{append-nil, append_cancel_left}
 use Rattle.std.proofs.lemmas.List.Elements.{filter-append}
+use Rattle.std.proofs.lemmas.Option.{none-some, same_Some}
+use Rattle.heap_model.specs.Behind.{as_turn, behind_of, behind_in_turn}
+use Rattle.heap_model.specs.declared.behind.Behind.{Behind}
 use Rattle.heap_model.specs.declared.calls.collector_calls.Turn.{Turn}
 use Rattle.heap_model.specs.declared.calls.collector_calls.Turn.TheVariants as turns
 use Rattle.heap_model.specs.declared.entry.Entry.{Entry}
@@ -14,8 +17,26 @@ use Rattle.heap_model.specs.calls.CollectorCalls.{ComesTo, StepsTo}
 use Rattle.heap_runs.specs.Play.{tells_turn, AreTurns}
 use Rattle.slack_pace.specs.Slack as slack
 use Rattle.heap_runs.specs.PlayHeap.{PlayState, TakesTurn, collector_state_of}
-use Rattle.heap_runs.specs.Turning.{AddsTurns, IsStep, TakesTurns, HasTurned, HasComeTo}
+use Rattle.heap_runs.specs.Turning.{AddsTurns, IsNoWait, IsStep, TakesTurns, HasTurned, HasComeTo}
 use Rattle.core_rule.proofs.parties.Collectors.{all_are_collectors}
+
+-- a turn that tells a seat waits for that one
+pub turn_waits_for : (turn : Turn) (behind : Behind) → behind_in_turn turn ≡ Some behind → turn ≡ as_turn behind
+turn_waits_for (turns.Waits number answer p) behind is = ap as_turn (same_Some _ _ is)
+turn_waits_for turns.Stepped behind is = absurd (none-some behind is)
+turn_waits_for (turns.Ended cycle kept) behind is = absurd (none-some behind is)
+
+-- one that tells none waits for none
+pub turn_waits_not : (turn : Turn) → behind_in_turn turn ≡ None → IsNoWait turn
+turn_waits_not (turns.Waits number answer p) is = absurd (none-some (behind_of number answer p) (sym is))
+turn_waits_not turns.Stepped is = tt
+turn_waits_not (turns.Ended cycle kept) is = tt
+
+-- and is a step where it ends no cycle either
+pub turn_is_step : (turn : Turn) → behind_in_turn turn ≡ None → ((cycle kept : ℕ) → turn ≢ turns.Ended cycle kept) → IsStep turn
+turn_is_step (turns.Waits number answer p) is none = absurd (none-some (behind_of number answer p) (sym is))
+turn_is_step turns.Stepped is none = refl
+turn_is_step (turns.Ended cycle kept) is none = absurd (none cycle kept refl)
 
 step_tells : (now later : ℕ) (entry : Entry) → StepsTo now entry later → tells_turn entry ≡ true
 step_tells now later (entries.Advance p) steps = refl

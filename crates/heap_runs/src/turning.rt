@@ -9,17 +9,8 @@ fn make_turns<H: PlayHeap>(whole: &mut H, count: u32) -> Result<TurnReply, Memor
     ensures { IfOk result (ServesTurns (H.state whole.old) (H.state whole.new) count) }
 {
     for _ in 0..count {
-        if let Turn::Waits {
-            seat,
-            answered,
-            phase,
-        } = whole.turn()?
-        {
-            return Ok(TurnReply::Waits {
-                seat,
-                answered,
-                phase,
-            });
+        if let Some(behind) = whole.turn()?.behind() {
+            return Ok(TurnReply::from(behind));
         }
     }
     Ok(TurnReply::Done)
@@ -30,20 +21,12 @@ pub fn end_cycle<H: PlayHeap>(whole: &mut H) -> Result<TurnReply, Memory>
     ensures { IfOk result (ServesCycle (H.state whole.old) (H.state whole.new)) }
 {
     loop {
-        match whole.turn()? {
-            Turn::Stepped => (),
-            Turn::Waits {
-                seat,
-                answered,
-                phase,
-            } => {
-                return Ok(TurnReply::Waits {
-                    seat,
-                    answered,
-                    phase,
-                });
-            }
-            Turn::Ended { cycle, .. } => return Ok(TurnReply::Cycle(cycle)),
+        let turn = whole.turn()?;
+        if let Some(behind) = turn.behind() {
+            return Ok(TurnReply::from(behind));
+        }
+        if let Turn::Ended { cycle, .. } = turn {
+            return Ok(TurnReply::Cycle(cycle));
         }
     }
 }

@@ -46,25 +46,17 @@ impl MachineHeap {
         law_every_run();
         self.known();
         'turns: loop {
-            match self.take_turn()? {
-                Turn::Stepped => self.known(),
-                Turn::Waits {
-                    seat: other,
-                    answered,
-                    phase,
-                } => {
-                    self.known();
-                    if other != seat {
-                        return Ok(CollectReply::Waits {
-                            seat: other,
-                            answered,
-                            phase,
-                        });
-                    }
-                    self.make_inner(seat, Inner::Answer)?;
-                    self.known();
+            let turn = self.take_turn()?;
+            self.known();
+            if let Turn::Ended { cycle, .. } = turn {
+                return Ok(CollectReply::Cycle(cycle));
+            }
+            if let Some(behind) = turn.behind() {
+                if behind.seat != seat {
+                    return Ok(CollectReply::from(behind));
                 }
-                Turn::Ended { cycle, .. } => return Ok(CollectReply::Cycle(cycle)),
+                self.make_inner(seat, Inner::Answer)?;
+                self.known();
             }
         }
     }
@@ -83,15 +75,7 @@ impl MachineHeap {
                 let came = self.end_for(seat)?;
                 Ok(came)
             }
-            CollectReply::Waits {
-                seat: other,
-                answered,
-                phase,
-            } => Ok(CollectReply::Waits {
-                seat: other,
-                answered,
-                phase,
-            }),
+            waits @ CollectReply::Waits { .. } => Ok(waits),
         }
     }
 
