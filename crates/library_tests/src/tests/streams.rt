@@ -18,6 +18,10 @@ mod writing;
 fn counts(rt: &(impl Abort + AllocGlobal), stream: &impl Debug, faults: u64) -> Result<(), Fail> {
     let shown = format!(in rt.alloc(); "{stream:?}")?;
     let end = format!(in rt.alloc(); "faults: {faults} }}")?;
-    holds(rt, shown.trim_end_matches(')').ends_with(end.as_str()), &shown);
+    holds(
+        rt,
+        shown.trim_end_matches(')').ends_with(end.as_str()),
+        &shown,
+    );
     Ok(())
 }
