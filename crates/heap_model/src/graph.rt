@@ -41,7 +41,7 @@ impl Model for Graph {
 
 impl Graph {
     ghost use Rattle.heap_model.specs.Limits.{most_seats, last_register};
-    ghost use Rattle.heap_model.specs.graph.Objects.{register_value};
+    ghost use Rattle.heap_model.specs.graph.Objects.{register_value, seen_stamp};
     ghost use Rattle.heap_model.specs.graph.Graph.{opening};
     ghost use Rattle.heap_model.specs.graph.Growth.{after_entry};
     ghost use Rattle.heap_model.specs.graph.Legal.{Accepts};
@@ -91,6 +91,15 @@ impl Graph {
         requires register { register ≤ last_register }
         ensures { result ≡ register_value self.now seat register }
     {
-        self.register(seat, register)
+        self.register(seat, register).value
+    }
+
+    /// The stamp of the cell from which the register's value was read by a get, which a copy hands on; 0 where it was read from none.
+    pub fn seen(&self, seat: u8, register: u8) -> u32
+        requires seat { seat < length self.now.seats }
+        requires register { register ≤ last_register }
+        ensures { result ≡ seen_stamp self.now seat register }
+    {
+        self.register(seat, register).stamp
     }
 }

@@ -1,5 +1,5 @@
 -- Register 0 of a seat that hasn't left is the board.
-use Rattle.std.proofs.Common.{◌≡◌, ℕ, false, List, [], ◌∷◌, get_or, set, length, replicate, refl, sym, ◌∙◌, subst, inl, inr, arith, length-set}
+use Rattle.std.proofs.Common.{◌≡◌, ℕ, false, List, [], ◌∷◌, get_or, set, length, replicate, refl, sym, ap, ◌∙◌, subst, inl, inr, arith, length-set}
 use Rattle.std.specs.List.{All}
 use Rattle.std.proofs.lemmas.Bool.{cases_eq, cases_lt}
 use Rattle.std.proofs.lemmas.List.{get_or-set_same, get_or-set_other, get_or_past, get_or-replicate, length-replicate}
@@ -19,14 +19,14 @@ use Rattle.heap_model.specs.Command.{IsCommand, IsTarget}
 use Rattle.heap_model.specs.account.Cycles.{graph_of}
 use Rattle.heap_model.specs.graph.Legal.{Accepts, AcceptsAll, IsObjectLegal}
 use Rattle.heap_model.specs.graph.Objects.{graph_seat, register_value, absent_graph_seat}
-use Rattle.heap_model.specs.graph.Graph.{Graph, GraphSeat, opening, opening_graph_seat}
+use Rattle.heap_model.specs.graph.Graph.{Graph, GraphSeat, opening, opening_graph_seat, unset}
 use Rattle.heap_model.specs.graph.Changes.{with_graph_seat, write, count_set, with_object_cell}
 use Rattle.heap_model.specs.graph.Growth.{after_entry, after_reply, graph_after}
 use Rattle.heap_model.specs.calls.SeatLaws.{IsOwn, BoardStays}
 
 -- where the seat hasn't left, its register 0 is the board
 abbrev HasBoard : GraphSeat → Type 0
-HasBoard seat = seat.left ≡ false → get_or seat.registers 0 Nil ≡ Object Board
+HasBoard seat = seat.left ≡ false → (get_or seat.registers 0 unset).value ≡ Object Board
 
 -- whichever seat changes: one that isn't there has left
 board_with : (g : Graph) (number q : ℕ) (p : GraphSeat) → HasBoard (graph_seat g number) → (HasBoard (graph_seat g q) → HasBoard p) → HasBoard (graph_seat (with_graph_seat g q p) number)
@@ -39,8 +39,8 @@ board_with g number q p has new = elim (cases_eq number q) [
 ]
 
 -- a register that a command may write is another one
-board_put : (seat : GraphSeat) (d : ℕ) (value : Value) → IsTarget d → HasBoard seat → seat.left ≡ false → get_or (set seat.registers d value) 0 Nil ≡ Object Board
-board_put seat d value target has left = get_or-set_other seat.registers d 0 value Nil (λ e. omega (arith, e, target.0)) ∙ has left
+board_put : (seat : GraphSeat) (d : ℕ) (cell : Cell) → IsTarget d → HasBoard seat → seat.left ≡ false → (get_or (set seat.registers d cell) 0 unset).value ≡ Object Board
+board_put seat d cell target has left = ap (λ (register : Cell). register.value) (get_or-set_other seat.registers d 0 cell unset (λ e. omega (arith, e, target.0))) ∙ has left
 
 board_write : (g : Graph) (number : ℕ) (value : Value) (i : ℕ) (cell : Cell) → HasBoard (graph_seat g number) → HasBoard (graph_seat (write g value i cell) number)
 board_write g number Nil i cell has = has
@@ -51,10 +51,10 @@ board_write g number (Object (Made other count)) i cell has = board_with g numbe
 board_said : (g : Graph) (number other : ℕ) (command : Command) (reply : Reply) → IsCommand command → HasBoard (graph_seat g number) → HasBoard (graph_seat (after_reply g other command reply) number)
 board_said g number other (commands.New d fields) (replies.Made id) in_range has = board_with g number other _ has (board_put (graph_seat g other) d _ in_range.0)
 board_said g number other (commands.Array d cells) (replies.Made id) in_range has = board_with g number other _ has (board_put (graph_seat g other) d _ in_range.0)
-board_said g number other (commands.Get d r i) (replies.Got value stamp) in_range has = board_with g number other _ has (board_put (graph_seat g other) d value in_range.0)
+board_said g number other (commands.Get d r i) (replies.Got value stamp) in_range has = board_with g number other _ has (board_put (graph_seat g other) d _ in_range.0)
 board_said g number other (commands.Set r i v) (replies.Was stamp) in_range has = board_write (count_set g other) number (register_value g other r) i _ (board_with g number other _ has (λ its. its))
-board_said g number other (commands.Num d n) reply in_range has = board_with g number other _ has (board_put (graph_seat g other) d (Number n) in_range.0)
-board_said g number other (commands.Nil d) reply in_range has = board_with g number other _ has (board_put (graph_seat g other) d Nil in_range)
+board_said g number other (commands.Num d n) reply in_range has = board_with g number other _ has (board_put (graph_seat g other) d _ in_range.0)
+board_said g number other (commands.Nil d) reply in_range has = board_with g number other _ has (board_put (graph_seat g other) d _ in_range)
 board_said g number other (commands.Copy d r) reply in_range has = board_with g number other _ has (board_put (graph_seat g other) d _ in_range.0)
 board_said g number other commands.Leave reply in_range has = board_with g number other _ has (λ its left. cc)
 board_said g number other command reply in_range has = has

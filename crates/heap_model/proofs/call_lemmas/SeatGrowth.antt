@@ -86,8 +86,8 @@ goes_on_with stays g number p goes = elim (with_cases g number p) [
   | inr old ↦ subst (GoesOn stays (graph_seat g number)) (sym old) (goes_on_same stays (graph_seat g number))
 ]
 
-goes_on_put : (stays : Type 0) (g : Graph) (number d : ℕ) (value : Value) → GoesOn stays (graph_seat g number) (graph_seat (with_register g number d value) number)
-goes_on_put stays g number d value = goes_on_with stays g number _ record { present = λ there. refl; made = omega arith; set_more = omega arith }
+goes_on_put : (stays : Type 0) (g : Graph) (number d : ℕ) (cell : Cell) → GoesOn stays (graph_seat g number) (graph_seat (with_register g number d cell) number)
+goes_on_put stays g number d cell = goes_on_with stays g number _ record { present = λ there. refl; made = omega arith; set_more = omega arith }
 
 goes_on_add : (stays : Type 0) (g : Graph) (number d : ℕ) (object : Node) → GoesOn stays (graph_seat g number) (graph_seat (add g number d object) number)
 goes_on_add stays g number d object = goes_on_with stays g number _ record { present = λ there. refl; made = omega (arith, length-append (graph_seat g number).objects (object ∷ [])); set_more = omega arith }
@@ -117,13 +117,13 @@ goes_on_then stays old now new goes same = record {
 goes_on_said : (g : Graph) (number : ℕ) (command : Command) (reply : Reply) → GoesOn (command ≢ commands.Leave) (graph_seat g number) (graph_seat (after_reply g number command reply) number)
 goes_on_said g number (commands.New d fields) (replies.Made id) = goes_on_add _ g number d (fresh false fields)
 goes_on_said g number (commands.Array d cells) (replies.Made id) = goes_on_add _ g number d (fresh true cells)
-goes_on_said g number (commands.Get d r i) (replies.Got value stamp) = goes_on_put _ g number d value
+goes_on_said g number (commands.Get d r i) (replies.Got value stamp) = goes_on_put _ g number d _
 goes_on_said g number (commands.Set r i v) (replies.Was stamp) =
     goes_on_then _ (graph_seat g number) (graph_seat (count_set g number) number) _ (goes_on_with _ g number _ record { present = λ there. refl; made = omega arith; set_more = omega arith })
     (same_counts_write (count_set g number) number (register_value g number r) i _)
-goes_on_said g number (commands.Num d n) reply = goes_on_put _ g number d (Number n)
-goes_on_said g number (commands.Nil d) reply = goes_on_put _ g number d Nil
-goes_on_said g number (commands.Copy d r) reply = goes_on_put _ g number d (register_value g number r)
+goes_on_said g number (commands.Num d n) reply = goes_on_put _ g number d _
+goes_on_said g number (commands.Nil d) reply = goes_on_put _ g number d _
+goes_on_said g number (commands.Copy d r) reply = goes_on_put _ g number d _
 goes_on_said g number commands.Leave reply = goes_on_with _ g number _ record { present = λ other. absurd (other refl); made = omega arith; set_more = omega arith }
 goes_on_said g number command reply = goes_on_same _ (graph_seat g number)
 

@@ -33,11 +33,14 @@ has_noted_next value Leads xs i d {old} {now} {new} within leads before on here 
 }
 
 -- a register holds what it leads to, and so does a cell
-pub register_lead_is_registered : (seat : GraphSeat) (values : List Value) (i : ℕ) (d : Value) → values ≡ seat.registers → i < length values → (id : Id) → get_or values i d ≡ Object id → IsRegistered seat id
-register_lead_is_registered seat values i d same within id is = subst (λ xs. Contains xs (Object id)) same (subst (Contains values) is (Contains-get_or values i d within))
+lead_is_held : (held cells : List Cell) (i : ℕ) (d : Cell) → cells ≡ held → i < length cells → (id : Id) → (get_or cells i d).value ≡ Object id → Any (λ cell. cell.value ≡ Object id) held
+lead_is_held held cells i d same within id is = subst (Any (λ cell. cell.value ≡ Object id)) same (Any-get_or (λ cell. cell.value ≡ Object id) cells i d within is)
+
+pub register_lead_is_registered : (seat : GraphSeat) (cells : List Cell) (i : ℕ) (d : Cell) → cells ≡ seat.registers → i < length cells → (id : Id) → (get_or cells i d).value ≡ Object id → IsRegistered seat id
+register_lead_is_registered seat cells i d same within id is = lead_is_held seat.registers cells i d same within id is
 
 pub cell_lead_is_pointed_to : (object : Node) (cells : List Cell) (i : ℕ) (d : Cell) → cells ≡ object.cells → i < length cells → (id : Id) → (get_or cells i d).value ≡ Object id → PointsTo object id
-cell_lead_is_pointed_to object cells i d same within id is = subst (Any (λ cell. cell.value ≡ Object id)) same (Any-get_or (λ cell. cell.value ≡ Object id) cells i d within is)
+cell_lead_is_pointed_to object cells i d same within id is = lead_is_held object.cells cells i d same within id is
 
 pub GoesOn-seat : (g : Graph) (i : ℕ) (seat : GraphSeat) {a b c : Search} → i < length g.seats → seat ≡ get_or g.seats i seat → GoesOn (IsRoot g) a b → GoesOn (IsRegistered seat) b c → GoesOn (IsRoot g) a c
 GoesOn-seat g i seat within is before on =

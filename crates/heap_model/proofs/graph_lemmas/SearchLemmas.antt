@@ -81,7 +81,7 @@ IsFound-stays on (Number n) found = tt
 IsFound-stays {P} {a} {b} on (Object id) found = λ there. on.marked_stay id (found (sym (equal_counts_same_marks a.marks b.marks on.marks_stay id) ∙ there))
 
 pub FoundFromSeat-stays : {P : Id → Type 0} {a b : Search} → GoesOn P a b → (seat : GraphSeat) → FoundFromSeat a.marks seat → FoundFromSeat b.marks seat
-FoundFromSeat-stays {P} {a} {b} on seat found = All-weaker (IsFound a.marks) (IsFound b.marks) (IsFound-stays on) seat.registers found
+FoundFromSeat-stays {P} {a} {b} on seat found = All-weaker (λ register. IsFound a.marks register.value) (λ register. IsFound b.marks register.value) (λ register. IsFound-stays on register.value) seat.registers found
 
 pub FoundFromObject-stays : {P : Id → Type 0} {a b : Search} → GoesOn P a b → (object : Node) → FoundFromObject a.marks object → FoundFromObject b.marks object
 FoundFromObject-stays {P} {a} {b} on object found =
@@ -147,8 +147,8 @@ found_object m value id is found = subst (IsFound m) is found
 pub IsMarked-reached : (g : Graph) (walk : Search) → IsSearch g walk → walk.waiting ≡ [] → (id : Id) → Reaches g id → HasMark walk.marks id
 IsMarked-reached g walk is none _ (from_register id made root) =
     let seat = Any-All (λ seat. IsRegistered seat id) (FoundFromSeat walk.marks) g.seats root is.from_seats in
-    let held = seat.1 in
-    subst (IsFound walk.marks) held.2 (seat.2 held.0 (Object id) held.1) (mark_stands_where_node g walk.marks is.objects id ∙ made)
+    let held = Any-All (λ register. register.value ≡ Object id) (λ register. IsFound walk.marks register.value) seat.0.registers seat.1 seat.2 in
+    found_object walk.marks held.0.value id held.1 held.2 (mark_stands_where_node g walk.marks is.objects id ∙ made)
 IsMarked-reached g walk is none _ (from_cell id made holder reached points) =
     let marked = IsMarked-reached g walk is none holder reached in
     elim (is.from_objects holder marked) [

@@ -6,21 +6,21 @@ use Rattle.heap_model.specs.declared.id.Value.{Value}
 use Rattle.heap_model.specs.declared.id.Value.TheVariants.{Nil, Number, Object}
 use Rattle.heap_model.specs.declared.graph.cell.Cell.{Cell}
 use Rattle.heap_model.specs.graph.Objects.{graph_seat, register_value}
-use Rattle.heap_model.specs.graph.Graph.{Node, GraphSeat, Graph, fresh}
+use Rattle.heap_model.specs.graph.Graph.{Node, GraphSeat, Graph, fresh, unseen, unset}
 
 -- the graph with another seat at this number
 abbrev pub with_graph_seat : Graph → ℕ → GraphSeat → Graph
 with_graph_seat g number p = record g { seats = slice_set g.seats number p }
 
--- the graph in which register d of the seat holds the value
-abbrev pub with_register : Graph → ℕ → ℕ → Value → Graph
-with_register g number d value = with_graph_seat g number (record (graph_seat g number) { registers = slice_set (graph_seat g number).registers d value })
+-- the graph in which register d of the seat holds this value, seen under this stamp
+abbrev pub with_register : Graph → ℕ → ℕ → Cell → Graph
+with_register g number d cell = with_graph_seat g number (record (graph_seat g number) { registers = slice_set (graph_seat g number).registers d cell })
 
 -- the graph with one more object of the seat, which its register d holds
 abbrev pub add : Graph → ℕ → ℕ → Node → Graph
 add g number d object =
     let made = graph_seat g number in
-    with_graph_seat g number (record made { registers = slice_set made.registers d (Object (Made number (length made.objects))); objects = made.objects ++ object ∷ [] })
+    with_graph_seat g number (record made { registers = slice_set made.registers d (unseen (Object (Made number (length made.objects)))); objects = made.objects ++ object ∷ [] })
 
 -- the object with another cell i
 abbrev pub with_cell : Node → ℕ → Cell → Node
@@ -53,4 +53,4 @@ set_cell g number r i v =
 
 -- the graph in which the seat's registers are empty, and it has left
 abbrev pub leave : Graph → ℕ → Graph
-leave g number = with_graph_seat g number (record (graph_seat g number) { registers = replicate register_count Nil; left = true })
+leave g number = with_graph_seat g number (record (graph_seat g number) { registers = replicate register_count unset; left = true })

@@ -13,9 +13,9 @@ pub record Node : Type 0 where
   pub array : Bool
   pub cells : List Cell
 
--- a seat: its registers, the objects that it made in their order, the number of its sets, and whether it left
+-- a seat: its registers, each a value with the stamp under which it was seen, the objects that it made in their order, the number of its sets, and whether it left
 pub record GraphSeat : Type 0 where
-  pub registers : List Value
+  pub registers : List Cell
   pub objects : List Node
   pub sets : ℕ
   pub left : Bool
@@ -29,13 +29,17 @@ pub record Graph : Type 0 where
 abbrev pub unset : Cell
 unset = record { value = Nil; stamp = 0 }
 
+-- a value that was read from no cell
+abbrev pub unseen : Value → Cell
+unseen value = record { value = value; stamp = 0 }
+
 -- an object of cells that were never set
 abbrev pub fresh : Bool → ℕ → Node
 fresh array cells = record { array = array; cells = replicate cells unset }
 
 -- a seat at the opening: register 0 is the board, and the others are nil
 abbrev pub opening_graph_seat : GraphSeat
-opening_graph_seat = record { registers = Object Board ∷ replicate last_register Nil; objects = []; sets = 0; left = false }
+opening_graph_seat = record { registers = unseen (Object Board) ∷ replicate last_register unset; objects = []; sets = 0; left = false }
 
 -- the graph at the opening
 abbrev pub opening : Heap → Graph

@@ -1,14 +1,14 @@
 -- How the graph grows with each entry.
 use Rattle.std.specs.Prelude.{ℕ, ◌+◌, Bool, true, false, if◌then◌else◌, List, slice_index_or, slice_set, fold}
-use Rattle.heap_model.specs.declared.id.Value.TheVariants.{Nil, Number}
+use Rattle.heap_model.specs.declared.id.Value.TheVariants.{Number}
 use Rattle.heap_model.specs.declared.command.Command.{Command}
 use Rattle.heap_model.specs.declared.command.Command.TheVariants as commands
 use Rattle.heap_model.specs.declared.reply.Reply.{Reply}
 use Rattle.heap_model.specs.declared.reply.Reply.TheVariants as replies
 use Rattle.heap_model.specs.declared.entry.Entry.{Entry}
 use Rattle.heap_model.specs.declared.entry.Entry.TheVariants as entries
-use Rattle.heap_model.specs.graph.Objects.{register_value}
-use Rattle.heap_model.specs.graph.Graph.{Graph, fresh}
+use Rattle.heap_model.specs.graph.Objects.{register_cell}
+use Rattle.heap_model.specs.graph.Graph.{Graph, fresh, unseen, unset}
 use Rattle.heap_model.specs.graph.Changes.{with_register, add, set_cell, leave}
 pub use Rattle.heap_model.specs.graph.Changes.{with_cell, write, set_stamp}
 
@@ -16,11 +16,11 @@ pub use Rattle.heap_model.specs.graph.Changes.{with_cell, write, set_stamp}
 abbrev pub after_reply : Graph → ℕ → Command → Reply → Graph
 after_reply g number (commands.New d fields) (replies.Made id) = add g number d (fresh false fields)
 after_reply g number (commands.Array d cells) (replies.Made id) = add g number d (fresh true cells)
-after_reply g number (commands.Get d r i) (replies.Got value stamp) = with_register g number d value
+after_reply g number (commands.Get d r i) (replies.Got value stamp) = with_register g number d (record { value = value; stamp = stamp })
 after_reply g number (commands.Set r i v) (replies.Was stamp) = set_cell g number r i v
-after_reply g number (commands.Num d n) reply = with_register g number d (Number n)
-after_reply g number (commands.Nil d) reply = with_register g number d Nil
-after_reply g number (commands.Copy d r) reply = with_register g number d (register_value g number r)
+after_reply g number (commands.Num d n) reply = with_register g number d (unseen (Number n))
+after_reply g number (commands.Nil d) reply = with_register g number d unset
+after_reply g number (commands.Copy d r) reply = with_register g number d (register_cell g number r)
 after_reply g number commands.Leave reply = leave g number
 after_reply g number _ reply = g
 

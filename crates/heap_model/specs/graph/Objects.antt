@@ -17,9 +17,17 @@ absent_graph_seat = record { registers = []; objects = []; sets = 0; left = true
 abbrev pub graph_seat : Graph → ℕ → GraphSeat
 graph_seat g number = slice_index_or g.seats number absent_graph_seat
 
+-- a seat's register: its value, and the stamp under which that was seen
+abbrev pub register_cell : Graph → ℕ → ℕ → Cell
+register_cell g number r = slice_index_or (graph_seat g number).registers r unset
+
 -- the value of a seat's register
 abbrev pub register_value : Graph → ℕ → ℕ → Value
-register_value g number r = slice_index_or (graph_seat g number).registers r Nil
+register_value g number r = (register_cell g number r).value
+
+-- the stamp of the cell that the register's value was read from, and 0 where no cell was read
+abbrev pub seen_stamp : Graph → ℕ → ℕ → ℕ
+seen_stamp g number r = (register_cell g number r).stamp
 
 -- how many objects each seat made, in the order of the seats
 abbrev pub made_counts : Graph → List ℕ

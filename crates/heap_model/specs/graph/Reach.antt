@@ -12,7 +12,7 @@ IsMade g id = IsSome (node g id)
 
 -- a register of the seat holds the id
 abbrev pub IsRegistered : GraphSeat → Id → Type 0
-IsRegistered seat id = Contains seat.registers (Object id)
+IsRegistered seat id = Any (λ register. register.value ≡ Object id) seat.registers
 
 -- a cell of the object holds the id
 abbrev pub PointsTo : Node → Id → Type 0

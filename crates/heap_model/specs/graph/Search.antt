@@ -40,7 +40,7 @@ pub record GoesOn (P : Id → Type 0) (old new : Search) : Type 0 where
 
 -- all that a register of the seat refers to is marked
 abbrev pub FoundFromSeat : Marking → GraphSeat → Type 0
-FoundFromSeat m seat = All (IsFound m) seat.registers
+FoundFromSeat m seat = All (λ register. IsFound m register.value) seat.registers
 
 -- all that a cell of the object refers to is marked
 abbrev pub FoundFromObject : Marking → Node → Type 0

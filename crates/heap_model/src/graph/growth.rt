@@ -47,13 +47,15 @@ impl Graph {
         match (command, reply) {
             (Command::New { d, fields }, Reply::Made(id)) => self.add(seat, d, id, false, fields)?,
             (Command::Array { d, cells }, Reply::Made(id)) => self.add(seat, d, id, true, cells)?,
-            (Command::Get { d, .. }, Reply::Got { value, .. }) => self.put(seat, d, value),
+            (Command::Get { d, .. }, Reply::Got { value, stamp }) => {
+                self.put(seat, d, Cell { value, stamp })
+            }
             (Command::Set { r, i, v }, Reply::Was(_)) => self.set(seat, r, i, v),
-            (Command::Num { d, n }, _) => self.put(seat, d, Value::Number(n)),
-            (Command::Nil { d }, _) => self.put(seat, d, Value::Nil),
+            (Command::Num { d, n }, _) => self.put(seat, d, Cell::unseen(Value::Number(n))),
+            (Command::Nil { d }, _) => self.put(seat, d, Cell::unseen(Value::Nil)),
             (Command::Copy { d, r }, _) => {
-                let value = self.register(seat, r);
-                self.put(seat, d, value);
+                let cell = self.register(seat, r);
+                self.put(seat, d, cell);
             }
             (Command::Leave, _) => self.leave(seat),
             _ => {}
@@ -75,13 +77,13 @@ impl Graph {
         Ok(())
     }
 
-    fn put(&mut self, seat: u8, d: u8, value: Value)
+    fn put(&mut self, seat: u8, d: u8, cell: Cell)
         requires seat { seat < length self.old.seats }
         requires target { d ≤ last_register }
-        ensures { self.new ≡ with_register self.old seat d value }
+        ensures { self.new ≡ with_register self.old seat d cell }
     {
         let party = &mut self.seats[seat as usize];
-        party.put(d, value);
+        party.put(d, cell);
     }
 
     /// Does a set of the seat: the value of its register `v` goes into a cell.
@@ -90,8 +92,8 @@ impl Graph {
         requires sets { (graph_seat self.old seat).sets + 1 < 2 ^ 26 }
         ensures { self.new ≡ set_cell self.old seat r i v }
     {
-        let place = self.register(seat, r);
-        let value = self.register(seat, v);
+        let place = self.register(seat, r).value;
+        let value = self.register(seat, v).value;
         let party = &mut self.seats[seat as usize];
         party.count_set();
         let stamp = (seat as u32 + 1) * STAMP_LIMIT + party.sets();

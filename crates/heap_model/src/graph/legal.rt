@@ -88,7 +88,7 @@ impl Graph {
     fn compares(&self, seat: u8, a: u8, b: u8, reply: Reply) -> bool
         ensures { IsTrue result ↔ Compares (register_value self.now seat a) (register_value self.now seat b) reply }
     {
-        let same = self.register(seat, a) == self.register(seat, b);
+        let same = self.register(seat, a).value == self.register(seat, b).value;
         match reply {
             Reply::Yes => same,
             Reply::No => !same,
@@ -100,7 +100,7 @@ impl Graph {
         ensures { IsTrue result ↔
             (reply ≡ length_reply (target_node self.now (register_value self.now seat r))) }
     {
-        match (self.target(self.register(seat, r)), reply) {
+        match (self.target(self.register(seat, r).value), reply) {
             (Some(object), Reply::Length(n)) => object.len() == n as usize,
             (None, Reply::NoObject) => true,
             _ => false,

@@ -9,7 +9,7 @@ use crate::reply::Reply;
 
 impl Graph {
     ghost use Rattle.heap_model.specs.Limits.{name_limit};
-    ghost use Rattle.heap_model.specs.graph.Objects.{cell_at, graph_seat, register_value, target_node};
+    ghost use Rattle.heap_model.specs.graph.Objects.{cell_at, graph_seat, register_cell, target_node};
     ghost use Rattle.heap_model.specs.graph.Legal.{IsPresent};
 
     pub(super) fn is_present(&self, seat: u8) -> bool
@@ -41,12 +41,12 @@ impl Graph {
         }
     }
 
-    pub(super) fn register(&self, seat: u8, r: u8) -> Value
-        ensures { result ≡ register_value self.now seat r }
+    pub(super) fn register(&self, seat: u8, r: u8) -> Cell
+        ensures { result ≡ register_cell self.now seat r }
     {
         match self.seats.get(seat as usize) {
             Some(party) => party.register(r),
-            None => Value::Nil,
+            None => Cell::unseen(Value::Nil),
         }
     }
 
@@ -67,7 +67,7 @@ impl Graph {
     pub(super) fn cell(&self, seat: u8, r: u8, i: u32) -> Result<Cell, Reply>
         ensures { result ≡ cell_at self.now seat r i }
     {
-        let Some(object) = self.target(self.register(seat, r)) else {
+        let Some(object) = self.target(self.register(seat, r).value) else {
             return Err(Reply::NoObject);
         };
         let Some(cell) = object.cell(i) else {

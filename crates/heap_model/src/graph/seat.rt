@@ -1,6 +1,6 @@
 ghost use Rattle.std.specs.Prelude.{◌≡◌, ◌<◌, ◌≤◌, ◌+◌, ◌^◌, ◌∷◌, [], ◌++◌, true, length, replicate, slice_get, slice_index_or, slice_set, OnOk, OnErr};
 ghost use Rattle.std.specs.Option.{option_copied};
-ghost use Rattle.heap_model.specs.declared.id.Value.TheVariants.{Nil, Object as Reference};
+ghost use Rattle.heap_model.specs.declared.id.Value.TheVariants.{Object as Reference};
 
 use crate::graph::cell::Cell;
 use crate::graph::object::Object;
@@ -12,7 +12,7 @@ use std::marker::Model;
 /// A seat of the heap, as one that never collects keeps it.
 #[derive(Drop)]
 pub struct Seat {
-    registers: [Value; REGISTER_COUNT],
+    registers: [Cell; REGISTER_COUNT],
     objects: Vec<Object>,
     sets: u32,
     left: bool,
@@ -32,14 +32,14 @@ impl Model for Seat {
 
 impl Seat {
     ghost use Rattle.heap_model.specs.Limits.{last_register, name_limit, register_count, stamp_limit};
-    ghost use Rattle.heap_model.specs.graph.Graph.{opening_graph_seat};
+    ghost use Rattle.heap_model.specs.graph.Graph.{opening_graph_seat, unseen, unset};
     ghost use Rattle.heap_model.specs.graph.Changes.{with_object_cell};
 
     pub fn new(alloc: Global) -> Seat
         ensures { result ≡ opening_graph_seat }
     {
-        let mut registers = [Value::Nil; REGISTER_COUNT];
-        registers[0] = Value::Object(Id::Board);
+        let mut registers = [Cell::unseen(Value::Nil); REGISTER_COUNT];
+        registers[0] = Cell::unseen(Value::Object(Id::Board));
         Seat {
             registers,
             objects: Vec::new(alloc),
@@ -68,19 +68,19 @@ impl Seat {
         self.objects.len()
     }
 
-    pub fn registers(&self) -> &[Value]
+    pub fn registers(&self) -> &[Cell]
         ensures { result.now ≡ self.now.registers }
     {
         &self.registers
     }
 
-    pub fn register(&self, r: u8) -> Value
-        ensures { result ≡ slice_index_or self.now.registers r Nil }
+    pub fn register(&self, r: u8) -> Cell
+        ensures { result ≡ slice_index_or self.now.registers r unset }
     {
         self.registers
             .get(r as usize)
             .copied()
-            .unwrap_or(Value::Nil)
+            .unwrap_or(Cell::unseen(Value::Nil))
     }
 
     pub fn object(&self, count: u32) -> Option<&Object>
@@ -89,12 +89,12 @@ impl Seat {
         self.objects.get(count as usize)
     }
 
-    /// Puts a value into the register.
-    pub fn put(&mut self, d: u8, value: Value)
+    /// Puts a value into the register, with the stamp under which it was seen.
+    pub fn put(&mut self, d: u8, cell: Cell)
         requires { d ≤ last_register }
-        ensures { self.new ≡ record self.old { registers = slice_set self.old.registers d value } }
+        ensures { self.new ≡ record self.old { registers = slice_set self.old.registers d cell } }
     {
-        self.registers[d as usize] = value;
+        self.registers[d as usize] = cell;
     }
 
     /// Adds an object under this id, which the register then holds.
@@ -102,13 +102,13 @@ impl Seat {
         requires target { d ≤ last_register }
         requires few { length self.old.objects < name_limit }
         ensures added { OnOk result (self.new ≡ record self.old {
-          registers = slice_set self.old.registers d (Reference id);
+          registers = slice_set self.old.registers d (unseen (Reference id));
           objects = self.old.objects ++ object ∷ [];
         }) }
         ensures unchanged { OnErr result (self.new ≡ self.old) }
     {
         self.objects.push(object)?;
-        self.registers[d as usize] = Value::Object(id);
+        self.registers[d as usize] = Cell::unseen(Value::Object(id));
         Ok(())
     }
 
@@ -130,9 +130,9 @@ impl Seat {
     }
 
     pub fn leave(&mut self)
-        ensures { self.new ≡ record self.old { registers = replicate register_count Nil; left = true } }
+        ensures { self.new ≡ record self.old { registers = replicate register_count unset; left = true } }
     {
-        self.registers = [Value::Nil; REGISTER_COUNT];
+        self.registers = [Cell::unseen(Value::Nil); REGISTER_COUNT];
         self.left = true;
     }
 }

@@ -120,8 +120,8 @@ impl Search {
         ensures goes_on { GoesOn (IsRegistered seat.now) self.old self.new }
         ensures found { FoundFromSeat self.new.marks seat.now }
     {
-        for value in seat.registers() {
-            self.note(*value);
+        for register in seat.registers() {
+            self.note(register.value);
         }
     }
 
