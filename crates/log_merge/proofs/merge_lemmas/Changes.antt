@@ -1,5 +1,5 @@
 -- An entry changes what its seat alone decides, and at most one cell.
-use Rattle.std.proofs.Common.{◌≡◌, ℕ, ◌+◌, ◌<◌, Bool, true, false, List, [], ◌∷◌, ◌++◌, length, get_or, set, replicate, refl, sym, ap, ◌∙◌, length-append, length-set}
+use Rattle.std.proofs.Common.{◌≡◌, ℕ, ◌+◌, ◌<◌, Bool, true, false, List, [], ◌∷◌, ◌++◌, length, map, get_or, set, replicate, refl, sym, ap, ◌∙◌, length-append, length-set}
 use Rattle.std.proofs.Math.ListN.{get_or-map}
 use Rattle.std.proofs.Math.Seq.{map-set_same}
 use Rattle.std.proofs.lemmas.List.{append-nil, get_or-set_same, get_or-set_other, set-get_or}
@@ -13,13 +13,13 @@ use Rattle.heap_model.specs.declared.command.Command.TheVariants as commands
 use Rattle.heap_model.specs.declared.reply.Reply.{Reply}
 use Rattle.heap_model.specs.declared.reply.Reply.TheVariants as replies
 use Rattle.heap_model.specs.graph.Objects.{graph_seat, register_value, absent_graph_seat}
-use Rattle.heap_model.specs.graph.Graph.{Node, GraphSeat, Graph, fresh, unset}
+use Rattle.heap_model.specs.graph.Graph.{Node, GraphSeat, Graph, fresh, unseen, unset}
 use Rattle.heap_model.specs.graph.Changes.{with_graph_seat, with_object_cell, write, set_stamp}
 use Rattle.heap_model.specs.graph.Growth.{after_reply}
 
 -- what a seat's own entries alone decide
 pub record Own : Type 0 where
-  pub registers : List Value
+  pub registers : List Cell
   pub made : ℕ
   pub sets : ℕ
   pub left : Bool
@@ -30,9 +30,19 @@ own_of seat = record { registers = seat.registers; made = length seat.objects; s
 abbrev pub own : Graph → ℕ → Own
 own g number = own_of (graph_seat g number)
 
+-- what registers hold
+abbrev pub values_in : List Cell → List Value
+values_in registers = map (λ (register : Cell). register.value) registers
+
+abbrev pub values_of : Own → List Value
+values_of o = values_in o.registers
+
+pub value_of_register : (o : Own) (r : ℕ) → get_or (values_of o) r Nil ≡ (get_or o.registers r unset).value
+value_of_register o r = get_or-map (λ (register : Cell). register.value) o.registers r unset
+
 -- what an entry changes: what its seat alone decides, and the cell of a place
 pub record Change : Type 0 where
-  pub registers : List Value
+  pub registers : List Cell
   pub more : List Node
   pub sets : ℕ
   pub left : Bool
@@ -45,11 +55,11 @@ abbrev pub still : Own → Change
 still o = record { registers = o.registers; more = []; sets = o.sets; left = o.left; place = Nil; index = 0; cell = unset }
 
 -- only the registers change
-abbrev pub with_registers : Own → List Value → Change
+abbrev pub with_registers : Own → List Cell → Change
 with_registers o registers = record { registers = registers; more = []; sets = o.sets; left = o.left; place = Nil; index = 0; cell = unset }
 
 abbrev pub with_object : Own → ℕ → ℕ → Node → Change
-with_object o number d object = record { registers = set o.registers d (Object (Made number o.made)); more = object ∷ []; sets = o.sets; left = o.left; place = Nil; index = 0; cell = unset }
+with_object o number d object = record { registers = set o.registers d (unseen (Object (Made number o.made))); more = object ∷ []; sets = o.sets; left = o.left; place = Nil; index = 0; cell = unset }
 
 abbrev pub with_set : Own → ℕ → ℕ → ℕ → ℕ → Change
 with_set o number r i v = record {
@@ -57,21 +67,21 @@ with_set o number r i v = record {
   more = [];
   sets = o.sets + 1;
   left = o.left;
-  place = get_or o.registers r Nil;
+  place = (get_or o.registers r unset).value;
   index = i;
-  cell = record { value = get_or o.registers v Nil; stamp = set_stamp number (o.sets + 1) };
+  cell = record { value = (get_or o.registers v unset).value; stamp = set_stamp number (o.sets + 1) };
 }
 
 -- what a seat's command and its reply change
 abbrev pub change_of : Own → ℕ → Command → Reply → Change
 change_of o number (commands.New d fields) (replies.Made id) = with_object o number d (fresh false fields)
 change_of o number (commands.Array d cells) (replies.Made id) = with_object o number d (fresh true cells)
-change_of o number (commands.Get d r i) (replies.Got value stamp) = with_registers o (set o.registers d value)
+change_of o number (commands.Get d r i) (replies.Got value stamp) = with_registers o (set o.registers d (record { value = value; stamp = stamp }))
 change_of o number (commands.Set r i v) (replies.Was stamp) = with_set o number r i v
-change_of o number (commands.Num d n) reply = with_registers o (set o.registers d (Number n))
-change_of o number (commands.Nil d) reply = with_registers o (set o.registers d Nil)
-change_of o number (commands.Copy d r) reply = with_registers o (set o.registers d (get_or o.registers r Nil))
-change_of o number commands.Leave reply = record { registers = replicate register_count Nil; more = []; sets = o.sets; left = true; place = Nil; index = 0; cell = unset }
+change_of o number (commands.Num d n) reply = with_registers o (set o.registers d (unseen (Number n)))
+change_of o number (commands.Nil d) reply = with_registers o (set o.registers d unset)
+change_of o number (commands.Copy d r) reply = with_registers o (set o.registers d (get_or o.registers r unset))
+change_of o number commands.Leave reply = record { registers = replicate register_count unset; more = []; sets = o.sets; left = true; place = Nil; index = 0; cell = unset }
 change_of o number _ reply = still o
 
 abbrev pub grown : GraphSeat → Change → GraphSeat
@@ -86,7 +96,7 @@ abbrev pub changed : Graph → ℕ → Change → Graph
 changed g number c = write (seat_changed g number c) c.place c.index c.cell
 
 -- a seat that grows by no object
-more_none : (g : Graph) (number : ℕ) (registers : List Value) (sets : ℕ) (left : Bool)
+more_none : (g : Graph) (number : ℕ) (registers : List Cell) (sets : ℕ) (left : Bool)
     → with_graph_seat g number (record { registers = registers; objects = (graph_seat g number).objects ++ []; sets = sets; left = left })
     ≡ with_graph_seat g number (record { registers = registers; objects = (graph_seat g number).objects; sets = sets; left = left })
 more_none g number registers sets left =

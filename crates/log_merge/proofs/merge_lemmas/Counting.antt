@@ -6,13 +6,14 @@ use Rattle.std.specs.declared.cmp.Ordering.{Ordering}
 use Rattle.std.specs.declared.cmp.Ordering.TheVariants.{Less, Equal, Greater}
 use Rattle.std.specs.Ordering.{is_eq}
 use Rattle.std.proofs.lemmas.Bool.{cases_lt, cases_eq, cases_Bool, eqb-true}
-use Rattle.std.proofs.lemmas.List.{get_or-replicate}
+use Rattle.std.proofs.lemmas.List.{get_or-replicate, map-set}
 use Rattle.std.proofs.lemmas.List.Sums.{sum_by-append, sum_by-cons}
 use Rattle.heap_model.specs.declared.heap.Heap.{Heap}
 use Rattle.heap_model.specs.declared.id.Id.{Id}
 use Rattle.heap_model.specs.declared.id.Id.TheVariants.{Made}
 use Rattle.heap_model.specs.declared.id.Value.{Value}
 use Rattle.heap_model.specs.declared.id.Value.TheVariants.{Object}
+use Rattle.heap_model.specs.declared.graph.cell.Cell.{Cell}
 use Rattle.heap_model.specs.declared.command.Command.{Command}
 use Rattle.heap_model.specs.declared.command.Command.TheVariants as commands
 use Rattle.heap_model.specs.declared.reply.Reply.{Reply}
@@ -30,7 +31,7 @@ use Rattle.log_merge.specs.declared.merging.pending_gets.PendingGet.{PendingGet}
 use Rattle.log_merge.specs.Merging.{part_of}
 use Rattle.log_merge.specs.PendingGets.{is_kind, kind_order}
 use Rattle.log_merge.specs.Registers.{registers_after, registers_of, get_of, gets_in}
-use Rattle.log_merge.proofs.merge_lemmas.Changes.{Own, own, change_of, after_reply-changed, own-changed}
+use Rattle.log_merge.proofs.merge_lemmas.Changes.{Own, own, values_in, values_of, value_of_register, change_of, after_reply-changed, own-changed}
 use Rattle.log_merge.proofs.merge_lemmas.Kinds.{tied_kinds_are_equal, kind_is_tied_with_itself}
 use Rattle.log_merge.proofs.merge_lemmas.Finding.{present_seat_is_there, own_seat_stays_by_other}
 use Rattle.log_merge.proofs.merge_lemmas.Parts.{filter-yes, filter-no, part_of-seat}
@@ -144,14 +145,17 @@ kept_kind_is_counted held (x ∷ earlier) later e kind is =
     omega (arith, rest, all)
 
 -- the registers that a seat's log shows are those of the graph
+put_in : (o : Own) (d : ℕ) (cell : Cell) → values_in (set o.registers d cell) ≡ set (values_of o) d cell.value
+put_in o d cell = map-set (λ (register : Cell). register.value) o.registers d cell
+
 registers_said : (o : Own) (number : ℕ) (command : Command) (reply : Reply) → ((id : Id) → reply ≡ replies.Made id → (d n : ℕ) → (command ≡ commands.New d n) ⊎ (command ≡ commands.Array d n) → id ≡ Made number o.made)
-    → (change_of o number command reply).registers ≡ registers_after o.registers (entries.Said number command reply)
-registers_said o number (commands.New d fields) (replies.Made id) next = ap (λ x. set o.registers d (Object x)) (sym (next id refl d fields (inl refl)))
-registers_said o number (commands.Array d cells) (replies.Made id) next = ap (λ x. set o.registers d (Object x)) (sym (next id refl d cells (inr refl)))
-registers_said o number (commands.Get d r i) (replies.Got value stamp) next = refl
-registers_said o number (commands.Num d n) reply next = refl
-registers_said o number (commands.Nil d) reply next = refl
-registers_said o number (commands.Copy d r) reply next = refl
+    → values_in (change_of o number command reply).registers ≡ registers_after (values_of o) (entries.Said number command reply)
+registers_said o number (commands.New d fields) (replies.Made id) next = put_in o d _ ∙ ap (λ x. set (values_of o) d (Object x)) (sym (next id refl d fields (inl refl)))
+registers_said o number (commands.Array d cells) (replies.Made id) next = put_in o d _ ∙ ap (λ x. set (values_of o) d (Object x)) (sym (next id refl d cells (inr refl)))
+registers_said o number (commands.Get d r i) (replies.Got value stamp) next = put_in o d _
+registers_said o number (commands.Num d n) reply next = put_in o d _
+registers_said o number (commands.Nil d) reply next = put_in o d _
+registers_said o number (commands.Copy d r) reply next = put_in o d _ ∙ ap (set (values_of o) d) (sym (value_of_register o r))
 registers_said o number commands.Leave reply next = refl
 registers_said o number (commands.Set r i v) (replies.Was stamp) next = refl
 registers_said o number _ reply next = refl
@@ -163,27 +167,27 @@ next_made g number command reply says id is d n (inl new) =
 next_made g number command reply says id is d n (inr array) =
     let said : Says g number (commands.Array d n) (replies.Made id) = subst (λ c. Says g number c (replies.Made id)) array (subst (Says g number command) is says) in said
 
-registers_step : (g : Graph) (e : Entry) (number : ℕ) → Accepts g e → is_of number e ≡ true → (own (after_entry g e) number).registers ≡ registers_after (own g number).registers e
+registers_step : (g : Graph) (e : Entry) (number : ℕ) → Accepts g e → is_of number e ≡ true → values_of (own (after_entry g e) number) ≡ registers_after (values_of (own g number)) e
 registers_step g (entries.Said other command reply) number accepts is =
-    subst (λ n. (own (after_reply g other command reply) n).registers ≡ registers_after (own g n).registers (entries.Said other command reply)) (eqb-true other number is)
-    (ap (λ h. (own h other).registers) (after_reply-changed g other command reply)
-    ∙ ap (λ (o : Own). o.registers) (own-changed g other (change_of (own g other) other command reply) (present_seat_is_there g other accepts.0))
+    subst (λ n. values_of (own (after_reply g other command reply) n) ≡ registers_after (values_of (own g n)) (entries.Said other command reply)) (eqb-true other number is)
+    (ap (λ h. values_of (own h other)) (after_reply-changed g other command reply)
+    ∙ ap values_of (own-changed g other (change_of (own g other) other command reply) (present_seat_is_there g other accepts.0))
     ∙ registers_said (own g other) other command reply (next_made g other command reply accepts.2))
 registers_step g _ number accepts is = refl
 
-pub registers_history : (es : List Entry) (g : Graph) (number : ℕ) → AcceptsAll g es → (own (graph_after g es) number).registers ≡ fold registers_after (own g number).registers (filter (is_of number) es)
+pub registers_history : (es : List Entry) (g : Graph) (number : ℕ) → AcceptsAll g es → values_of (own (graph_after g es) number) ≡ fold registers_after (values_of (own g number)) (filter (is_of number) es)
 registers_history [] g number accepts = refl
 registers_history (e ∷ es) g number accepts = elim (cases_Bool (is_of number e)) [
   | inl mine ↦ registers_history es (after_entry g e) number accepts.1 ∙ ap (λ held. fold registers_after held (filter (is_of number) es)) (registers_step g e number accepts.0 mine)
-      ∙ ap (fold registers_after (own g number).registers) (sym (filter-yes (is_of number) e es mine))
+      ∙ ap (fold registers_after (values_of (own g number))) (sym (filter-yes (is_of number) e es mine))
   | inr other ↦ registers_history es (after_entry g e) number accepts.1
-      ∙ ap (λ (o : Own). fold registers_after o.registers (filter (is_of number) es)) (own_seat_stays_by_other g e number (not_of number e other))
-      ∙ ap (fold registers_after (own g number).registers) (sym (filter-no (is_of number) e es other))
+      ∙ ap (λ (o : Own). fold registers_after (values_of o) (filter (is_of number) es)) (own_seat_stays_by_other g e number (not_of number e other))
+      ∙ ap (fold registers_after (values_of (own g number))) (sym (filter-no (is_of number) e es other))
 ]
 
 -- from the opening on
-pub own_registers_are_shown : (heap : Heap) (es : List Entry) (number : ℕ) → AcceptsAll (opening heap) es → number < heap.seats → (own (graph_of heap es) number).registers ≡ registers_of (part_of heap number es)
+pub own_registers_are_shown : (heap : Heap) (es : List Entry) (number : ℕ) → AcceptsAll (opening heap) es → number < heap.seats → values_of (own (graph_of heap es) number) ≡ registers_of (part_of heap number es)
 own_registers_are_shown heap es number accepts within =
     registers_history es (opening heap) number accepts
-    ∙ ap (λ held. fold registers_after held (filter (is_of number) es)) (ap (λ (s : GraphSeat). s.registers) (get_or-replicate heap.seats number opening_graph_seat absent_graph_seat within))
+    ∙ ap (λ held. fold registers_after held (filter (is_of number) es)) (ap (λ (s : GraphSeat). values_in s.registers) (get_or-replicate heap.seats number opening_graph_seat absent_graph_seat within))
     ∙ ap registers_of (sym (part_of-seat heap number es within))

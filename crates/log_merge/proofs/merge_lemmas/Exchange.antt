@@ -12,7 +12,7 @@ use Rattle.heap_model.specs.declared.entry.Entry.{Entry}
 use Rattle.heap_model.specs.declared.entry.Entry.TheVariants as entries
 use Rattle.heap_model.specs.account.Noting.{seat_of}
 use Rattle.heap_model.specs.graph.Objects.{graph_seat, register_value}
-use Rattle.heap_model.specs.graph.Graph.{Graph}
+use Rattle.heap_model.specs.graph.Graph.{Graph, unset}
 use Rattle.heap_model.specs.graph.Growth.{after_entry, after_reply}
 use Rattle.heap_model.specs.graph.Replies.{Says, Makes, MakesArray, Gets, Sets, Compares}
 use Rattle.heap_model.specs.graph.Legal.{Accepts, AcceptsAll, IsPresent}
@@ -47,16 +47,16 @@ says_same : (g h : Graph) (number : ℕ) (command : Command) (reply : Reply) →
 says_same g h number (commands.New d fields) reply same looks lens says = makes_same g h number reply same says
 says_same g h number (commands.Array d cells) reply same looks lens says = makes_array_same g h number reply same says
 says_same g h number (commands.Get d r i) reply same looks lens says =
-    subst (λ (o : Own). Gets (look h (get_or o.registers r Nil) i) reply) (sym same) (subst (λ x. Gets x reply) (sym (looks (register_value g number r) i (refl, refl))) says)
+    subst (λ (o : Own). Gets (look h (get_or o.registers r unset).value i) reply) (sym same) (subst (λ x. Gets x reply) (sym (looks (register_value g number r) i (refl, refl))) says)
 says_same g h number (commands.Set r i v) reply same looks lens says =
-    subst (λ (o : Own). Sets o.sets (look h (get_or o.registers r Nil) i) reply) (sym same)
+    subst (λ (o : Own). Sets o.sets (look h (get_or o.registers r unset).value i) reply) (sym same)
     (subst (λ x. Sets (graph_seat g number).sets x reply) (sym (looks (register_value g number r) i (refl, refl))) says)
 says_same g h number (commands.Num d n) reply same looks lens says = says
 says_same g h number (commands.Nil d) reply same looks lens says = says
 says_same g h number (commands.Copy d r) reply same looks lens says = says
 says_same g h number (commands.Same a b) reply same looks lens says =
-    subst (λ (o : Own). Compares (get_or o.registers a Nil) (get_or o.registers b Nil) reply) (sym same) says
-says_same g h number (commands.Len r) reply same looks lens says = subst (λ (o : Own). reply ≡ len h (get_or o.registers r Nil)) (sym same) (says ∙ sym (lens r))
+    subst (λ (o : Own). Compares (get_or o.registers a unset).value (get_or o.registers b unset).value reply) (sym same) says
+says_same g h number (commands.Len r) reply same looks lens says = subst (λ (o : Own). reply ≡ len h (get_or o.registers r unset).value) (sym same) (says ∙ sym (lens r))
 says_same g h number commands.Poll reply same looks lens says = says
 says_same g h number commands.Collect reply same looks lens says = says
 says_same g h number commands.Leave reply same looks lens says = says
@@ -142,14 +142,14 @@ NoneIsDue g rest e = (value : Value) (j t : ℕ) → Writes g e value j t → No
 -- what an entry writes or finds after another seat's is what it does before
 writes_before : (g : Graph) (a e : Entry) (value : Value) (j t : ℕ) → AreApart e a → Writes (after_entry g a) e value j t → Writes g e value j t
 writes_before g a (entries.Said number (commands.Set r i v) (replies.Was stamp)) value j t apart writes =
-    (subst (λ (o : Own). get_or o.registers r Nil ≡ value) (others_own g a (entries.Said number (commands.Set r i v) (replies.Was stamp)) number apart refl) writes.0, writes.1, writes.2)
+    (subst (λ (o : Own). (get_or o.registers r unset).value ≡ value) (others_own g a (entries.Said number (commands.Set r i v) (replies.Was stamp)) number apart refl) writes.0, writes.1, writes.2)
 writes_before g a _ value j t apart writes = absurd writes
 
 finds_after : (g : Graph) (a e : Entry) (value : Value) (j t : ℕ) → AreApart e a → Finds g e value j t → Finds (after_entry g a) e value j t
 finds_after g a (entries.Said number (commands.Set r i v) (replies.Was stamp)) value j t apart (inr writes) =
-    inr (subst (λ (o : Own). get_or o.registers r Nil ≡ value) (sym (others_own g a (entries.Said number (commands.Set r i v) (replies.Was stamp)) number apart refl)) writes.0, writes.1, writes.2)
+    inr (subst (λ (o : Own). (get_or o.registers r unset).value ≡ value) (sym (others_own g a (entries.Said number (commands.Set r i v) (replies.Was stamp)) number apart refl)) writes.0, writes.1, writes.2)
 finds_after g a (entries.Said number (commands.Get d r i) (replies.Got found stamp)) value j t apart (inl gets) =
-    inl (subst (λ (o : Own). get_or o.registers r Nil ≡ value) (sym (others_own g a (entries.Said number (commands.Get d r i) (replies.Got found stamp)) number apart refl)) gets.0, gets.1, gets.2)
+    inl (subst (λ (o : Own). (get_or o.registers r unset).value ≡ value) (sym (others_own g a (entries.Said number (commands.Get d r i) (replies.Got found stamp)) number apart refl)) gets.0, gets.1, gets.2)
 finds_after g a _ value j t apart (inr writes) = absurd writes
 finds_after g a _ value j t apart (inl gets) = absurd gets
 

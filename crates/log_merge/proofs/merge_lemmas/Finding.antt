@@ -20,7 +20,7 @@ use Rattle.heap_model.specs.declared.entry.Entry.{Entry}
 use Rattle.heap_model.specs.declared.entry.Entry.TheVariants as entries
 use Rattle.heap_model.specs.account.Noting.{seat_of}
 use Rattle.heap_model.specs.graph.Objects.{graph_seat, register_value, absent_graph_seat, opening}
-use Rattle.heap_model.specs.graph.Graph.{Node, GraphSeat, Graph, unset, opening_graph_seat}
+use Rattle.heap_model.specs.graph.Graph.{Node, GraphSeat, Graph, unseen, unset, opening_graph_seat}
 use Rattle.heap_model.specs.graph.Changes.{set_stamp}
 use Rattle.heap_model.specs.graph.Growth.{after_entry}
 use Rattle.heap_model.specs.graph.Replies.{Says, Gets, Sets}
@@ -50,12 +50,15 @@ IsSound-opening heap = record {
   };
 }
   where
-    nil_or_board : (r : ℕ) → IsKnown (opening heap) (get_or (Object Board ∷ replicate last_register Nil) r Nil)
-    nil_or_board r = all_holds_or_default (IsKnown (opening heap)) (Object Board ∷ replicate last_register Nil) r Nil (All-cons (IsKnown (opening heap)) (Object Board) (replicate last_register Nil) tt (All-replicate (IsKnown (opening heap)) last_register Nil tt)) tt
+    Holds : Cell → Type 0
+    Holds register = IsKnown (opening heap) register.value
 
-    first_known : (s : GraphSeat) (r : ℕ) → (s ≡ opening_graph_seat) ⊎ (s ≡ absent_graph_seat) → IsKnown (opening heap) (get_or s.registers r Nil)
-    first_known s r (inl is) = subst (λ (x : GraphSeat). IsKnown (opening heap) (get_or x.registers r Nil)) (sym is) (nil_or_board r)
-    first_known s r (inr is) = subst (λ (x : GraphSeat). IsKnown (opening heap) (get_or x.registers r Nil)) (sym is) tt
+    nil_or_board : (r : ℕ) → IsKnown (opening heap) (get_or (unseen (Object Board) ∷ replicate last_register unset) r unset).value
+    nil_or_board r = all_holds_or_default Holds (unseen (Object Board) ∷ replicate last_register unset) r unset (All-cons Holds (unseen (Object Board)) (replicate last_register unset) tt (All-replicate Holds last_register unset tt)) tt
+
+    first_known : (s : GraphSeat) (r : ℕ) → (s ≡ opening_graph_seat) ⊎ (s ≡ absent_graph_seat) → IsKnown (opening heap) (get_or s.registers r unset).value
+    first_known s r (inl is) = subst (λ (x : GraphSeat). IsKnown (opening heap) (get_or x.registers r unset).value) (sym is) (nil_or_board r)
+    first_known s r (inr is) = subst (λ (x : GraphSeat). IsKnown (opening heap) (get_or x.registers r unset).value) (sym is) tt
 
 -- an accepted entry keeps the graph sound
 pub IsSound-after : (g : Graph) (e : Entry) → IsSound g → Accepts g e → IsSound (after_entry g e)

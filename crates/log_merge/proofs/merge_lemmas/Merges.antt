@@ -22,6 +22,7 @@ use Rattle.log_merge.specs.Merging.{is_in_log, part_of, left_of, IsReady, IsNext
 use Rattle.log_merge.specs.PendingGets.{is_kind}
 use Rattle.log_merge.specs.Registers.{opening_registers, registers_after, registers_of, kind_of, get_of, gets_in}
 use Rattle.log_merge.specs.Placing.{IsCompletion, count_in, count_left, got_by}
+use Rattle.log_merge.proofs.merge_lemmas.Changes.{own, value_of_register}
 use Rattle.log_merge.proofs.merge_lemmas.Finding.{present_seat_is_there}
 use Rattle.log_merge.proofs.merge_lemmas.Counting.{sum_grows_at_one, own_registers_are_shown}
 use Rattle.log_merge.proofs.merge_lemmas.Parts.{filter-yes, filter-no, no_more, parted_filter, seat_log_has_own_entries, collector_log_has_own_entries, part_of-append, left_of-rest}
@@ -90,7 +91,7 @@ got_shown : (heap : Heap) (logs : List (List Entry)) (placed rest : List Entry) 
 got_shown heap logs placed rest number (entries.Said seat (commands.Get d r i) (replies.Got found stamp)) completion mine =
     let place = seat_entry_in_own_log heap number seat (commands.Get d r i) (replies.Got found stamp) mine in
     let accepted = (AcceptsAll-parts (opening heap) placed (entries.Said seat (commands.Get d r i) (replies.Got found stamp) ∷ rest) completion.legal).0 in
-    ap (λ rs. kind_of (get_or rs r Nil) i stamp) (sym (own_registers_are_shown heap placed number accepted place.0)) ∙ ap (λ n. kind_of (register_value (graph_of heap placed) n r) i stamp) (sym place.1)
+    ap (λ rs. kind_of (get_or rs r Nil) i stamp) (sym (own_registers_are_shown heap placed number accepted place.0)) ∙ ap (λ v. kind_of v i stamp) (value_of_register (own (graph_of heap placed) number) r) ∙ ap (λ n. kind_of (register_value (graph_of heap placed) n r) i stamp) (sym place.1)
 got_shown heap logs placed rest number _ completion mine = refl
 
 -- its kind of get is counted once less

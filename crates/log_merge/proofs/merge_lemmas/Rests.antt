@@ -19,7 +19,7 @@ use Rattle.heap_model.specs.account.Effects.{is_of}
 use Rattle.heap_model.specs.account.Noting.{seat_of}
 use Rattle.heap_model.specs.account.Cycles.{graph_of}
 use Rattle.heap_model.specs.graph.Objects.{register_value, opening}
-use Rattle.heap_model.specs.graph.Graph.{Graph, opening_graph_seat}
+use Rattle.heap_model.specs.graph.Graph.{Graph, unset, opening_graph_seat}
 use Rattle.heap_model.specs.graph.Changes.{write}
 use Rattle.heap_model.specs.graph.Growth.{after_entry, after_reply, graph_after}
 use Rattle.heap_model.specs.graph.Legal.{Accepts, AcceptsAll}
@@ -139,7 +139,7 @@ get_in_rest heap logs placed rest other value i t completion has none = elim (ca
       ap (λ g. own g other) (sym (graph_of-append heap placed there.front)) ∙ own_seat_by_parts heap other placed there.front seat.0 ∙ ap (λ es. own (graph_of heap (part_of heap other placed ++ es)) other) there.before in
       let mine : own (graph_after (graph_of heap placed) there.front) has.seat ≡ own (graph_of heap (part_of heap other placed ++ has.earlier)) has.seat =
       subst (λ n. own (graph_after (graph_of heap placed) there.front) n ≡ own (graph_of heap (part_of heap other placed ++ has.earlier)) n) (sym seat.1) same in
-      let gets : IsGetOf (graph_after (graph_of heap placed) there.front) x value i t = (ap (λ (o : Own). get_or o.registers has.r Nil) mine ∙ has.holds, refl, refl) in
+      let gets : IsGetOf (graph_after (graph_of heap placed) there.front) x value i t = (ap (λ (o : Own). (get_or o.registers has.r unset).value) mine ∙ has.holds, refl, refl) in
       no_get_at (graph_of heap placed) there.front there.back x value i t (subst (λ es. NoGets (graph_of heap placed) es value i t) there.parted none) gets)
 ]
 
@@ -155,7 +155,7 @@ recorded_get_is_pending heap logs placed rest front back (entries.Said seat (com
     left_of-rest heap logs placed rest seat completion.kept (omega arith) ∙ ap (part_of heap seat) parted ∙ part_of-append heap seat front (x ∷ back)
     ∙ ap (λ es. part_of heap seat front ++ es) (filter-yes (is_in_log heap seat) x back (seat_in_log heap seat (commands.Get d r i) (replies.Got found stamp) within)) in
     let holds : register_value (graph_of heap (part_of heap seat placed ++ part_of heap seat front)) seat r ≡ value =
-    ap (λ (o : Own). get_or o.registers r Nil) (sym (own_seat_by_parts heap seat placed front within)) ∙ ap (λ h. register_value h seat r) (graph_of-append heap placed front) ∙ gets.0 in
+    ap (λ (o : Own). (get_or o.registers r unset).value) (sym (own_seat_by_parts heap seat placed front within)) ∙ ap (λ h. register_value h seat r) (graph_of-append heap placed front) ∙ gets.0 in
     let has : HasGet heap (part_of heap seat placed) (left_of heap logs placed seat) value i stamp = record {
       earlier = part_of heap seat front;
       seat = seat;

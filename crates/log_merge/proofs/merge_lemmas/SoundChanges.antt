@@ -13,9 +13,9 @@ use Rattle.heap_model.specs.declared.command.Command.{Command}
 use Rattle.heap_model.specs.declared.command.Command.TheVariants as commands
 use Rattle.heap_model.specs.declared.reply.Reply.{Reply}
 use Rattle.heap_model.specs.declared.reply.Reply.TheVariants as replies
-use Rattle.heap_model.specs.graph.Objects.{register_value}
+use Rattle.heap_model.specs.graph.Objects.{register_cell, register_value}
 use Rattle.heap_model.specs.graph.Replies.{Says}
-use Rattle.heap_model.specs.graph.Graph.{Node, Graph, fresh, unset}
+use Rattle.heap_model.specs.graph.Graph.{Node, Graph, fresh, unseen, unset}
 use Rattle.heap_model.specs.graph.Changes.{set_stamp}
 use Rattle.log_merge.proofs.merge_lemmas.Changes.{Own, own, Change, with_object, with_set, change_of, seat_changed, changed, own-changed, own-changed_other}
 use Rattle.log_merge.proofs.merge_lemmas.Places.{IsKnown}
@@ -23,7 +23,7 @@ use Rattle.log_merge.proofs.merge_lemmas.Sound.{AllCells, AllCells-look, AllCell
 
 -- a change that keeps the graph sound
 pub record IsSoundChange (g : Graph) (number : ℕ) (c : Change) : Type 0 where
-  pub registers : (r : ℕ) → IsKnown (changed g number c) (get_or c.registers r Nil)
+  pub registers : (r : ℕ) → IsKnown (changed g number c) (get_or c.registers r unset).value
   pub more : All (λ (o : Node). All (λ cell. cell ≡ unset) o.cells) c.more
   pub sets : (own g number).sets ≤ c.sets
   pub place : IsKnown g c.place
@@ -40,23 +40,23 @@ IsOld-stamp g number sets is few = λ seat n later below same. elim (cases_order
 ]
 
 -- a sound value in a register
-set_known : (g : Graph) (registers : List Value) (d : ℕ) (value : Value) → ((r : ℕ) → IsKnown g (get_or registers r Nil)) → IsKnown g value → (r : ℕ) → IsKnown g (get_or (set registers d value) r Nil)
-set_known g registers d value all known r = elim (cases_eq r d) [
-  | inr apart ↦ subst (IsKnown g) (sym (get_or-set_other registers d r value Nil apart)) (all r)
+set_known : (g : Graph) (registers : List Cell) (d : ℕ) (cell : Cell) → ((r : ℕ) → IsKnown g (get_or registers r unset).value) → IsKnown g cell.value → (r : ℕ) → IsKnown g (get_or (set registers d cell) r unset).value
+set_known g registers d cell all known r = elim (cases_eq r d) [
+  | inr apart ↦ subst (λ (x : Cell). IsKnown g x.value) (sym (get_or-set_other registers d r cell unset apart)) (all r)
   | inl same ↦ elim (cases_lt d (length registers)) [
-    | inl within ↦ subst (IsKnown g) (sym (ap (λ x. get_or (set registers d value) x Nil) same ∙ get_or-set_same registers d value Nil within)) known
-    | inr past ↦ subst (λ xs. IsKnown g (get_or xs r Nil)) (sym (set_past registers d value past)) (all r)
+    | inl within ↦ subst (λ (x : Cell). IsKnown g x.value) (sym (ap (λ x. get_or (set registers d cell) x unset) same ∙ get_or-set_same registers d cell unset within)) known
+    | inr past ↦ subst (λ xs. IsKnown g (get_or xs r unset).value) (sym (set_past registers d cell past)) (all r)
   ]
 ]
 
 -- only the registers change
-quiet_change : (g : Graph) (number : ℕ) (registers : List Value) (left : Bool) → number < length g.seats → ((r : ℕ) → IsKnown g (get_or registers r Nil))
+quiet_change : (g : Graph) (number : ℕ) (registers : List Cell) (left : Bool) → number < length g.seats → ((r : ℕ) → IsKnown g (get_or registers r unset).value)
     → IsSoundChange g number (record { registers = registers; more = []; sets = (own g number).sets; left = left; place = Nil; index = 0; cell = unset })
 quiet_change g number registers left within known =
     let c : Change = record { registers = registers; more = []; sets = (own g number).sets; left = left; place = Nil; index = 0; cell = unset } in
     let grows : Grows g (changed g number c) = Grows-changed g number c within (omega arith) in
     record {
-      registers = λ r. IsKnown-grows g (changed g number c) (get_or registers r Nil) grows (known r);
+      registers = λ r. IsKnown-grows g (changed g number c) (get_or registers r unset).value grows (known r);
       more = All-nil (λ (o : Node). All (λ (cell : Cell). cell ≡ unset) o.cells);
       sets = omega arith;
       place = tt;
@@ -72,7 +72,7 @@ made_change g number d array cells within known =
     let one_more = ap (λ (o : Own). o.made) (own-changed g number c within) in
     let made : (own g number).made < (own h number).made = omega (arith, one_more) in
     record {
-      registers = λ r. set_known h (own g number).registers d (Object (Made number (own g number).made)) (λ q. IsKnown-grows g h (register_value g number q) grows (known q)) made r;
+      registers = λ r. set_known h (own g number).registers d (unseen (Object (Made number (own g number).made))) (λ q. IsKnown-grows g h (register_value g number q) grows (known q)) made r;
       more = All-cons (λ (o : Node). All (λ (cell : Cell). cell ≡ unset) o.cells) (fresh array cells) [] (All-replicate (λ (cell : Cell). cell ≡ unset) cells unset refl) (All-nil (λ (o : Node). All (λ (cell : Cell). cell ≡ unset) o.cells));
       sets = omega arith;
       place = tt;
@@ -94,8 +94,8 @@ set_change g number r i v within known few =
     }
 
 -- registers that are nil
-nil_known : (g : Graph) (r : ℕ) → IsKnown g (get_or (replicate register_count Nil) r Nil)
-nil_known g r = all_holds_or_default (IsKnown g) (replicate register_count Nil) r Nil (All-replicate (IsKnown g) register_count Nil tt) tt
+nil_known : (g : Graph) (r : ℕ) → IsKnown g (get_or (replicate register_count unset) r unset).value
+nil_known g r = all_holds_or_default (λ (register : Cell). IsKnown g register.value) (replicate register_count unset) r unset (All-replicate (λ (register : Cell). IsKnown g register.value) register_count unset tt) tt
 
 -- what a seat does keeps the graph sound
 pub call_changes_soundly : (g : Graph) (number : ℕ) (command : Command) (reply : Reply) → IsSound g → number < length g.seats → Says g number command reply → IsSoundChange g number (change_of (own g number) number command reply)
@@ -104,15 +104,16 @@ call_changes_soundly g number (commands.Array d cells) (replies.Made id) sound w
 call_changes_soundly g number (commands.Get d r i) (replies.Got value stamp) sound within says =
     let got = get_finds_its_cell g number d r i value stamp says in
     let known : IsKnown g value = subst (IsKnown g) got.2 (AllCells-look (IsSoundCell g) g (register_value g number r) i got.0 sound.cells got.1).0 in
-    quiet_change g number (set (own g number).registers d value) (own g number).left within (set_known g (own g number).registers d value (sound.registers number) known)
+    let cell : Cell = record { value = value; stamp = stamp } in
+    quiet_change g number (set (own g number).registers d cell) (own g number).left within (set_known g (own g number).registers d cell (sound.registers number) known)
 call_changes_soundly g number (commands.Set r i v) (replies.Was stamp) sound within says = set_change g number r i v within (sound.registers number) (set_stands_at_cell g number r i v stamp says).few
 call_changes_soundly g number (commands.Num d n) reply sound within says =
-    quiet_change g number (set (own g number).registers d (Number n)) (own g number).left within (set_known g (own g number).registers d (Number n) (sound.registers number) tt)
+    quiet_change g number (set (own g number).registers d (unseen (Number n))) (own g number).left within (set_known g (own g number).registers d (unseen (Number n)) (sound.registers number) tt)
 call_changes_soundly g number (commands.Nil d) reply sound within says =
-    quiet_change g number (set (own g number).registers d Nil) (own g number).left within (set_known g (own g number).registers d Nil (sound.registers number) tt)
+    quiet_change g number (set (own g number).registers d unset) (own g number).left within (set_known g (own g number).registers d unset (sound.registers number) tt)
 call_changes_soundly g number (commands.Copy d r) reply sound within says =
-    quiet_change g number (set (own g number).registers d (register_value g number r)) (own g number).left within (set_known g (own g number).registers d (register_value g number r) (sound.registers number) (sound.registers number r))
-call_changes_soundly g number commands.Leave reply sound within says = quiet_change g number (replicate register_count Nil) true within (nil_known g)
+    quiet_change g number (set (own g number).registers d (register_cell g number r)) (own g number).left within (set_known g (own g number).registers d (register_cell g number r) (sound.registers number) (sound.registers number r))
+call_changes_soundly g number commands.Leave reply sound within says = quiet_change g number (replicate register_count unset) true within (nil_known g)
 call_changes_soundly g number _ reply sound within says = quiet_change g number (own g number).registers (own g number).left within (sound.registers number)
 
 -- the graph stays sound
@@ -126,8 +127,8 @@ IsSound-changed g number c sound within keeps =
     let more : All Q c.more = All-weaker (λ (o : Node). All (λ (cell : Cell). cell ≡ unset) o.cells) Q (λ o. All-weaker (λ (cell : Cell). cell ≡ unset) (IsSoundCell h) blank o.cells) c.more keeps.more in
     record {
       registers = λ seat r. elim (cases_eq seat number) [
-        | inl same ↦ subst (λ n. IsKnown h (register_value h n r)) (sym same) (subst (λ (o : Own). IsKnown h (get_or o.registers r Nil)) (sym (own-changed g number c within)) (keeps.registers r))
-        | inr apart ↦ subst (λ (o : Own). IsKnown h (get_or o.registers r Nil)) (sym (own-changed_other g number seat c apart)) (IsKnown-grows g h (register_value g seat r) grows (sound.registers seat r))
+        | inl same ↦ subst (λ n. IsKnown h (register_value h n r)) (sym same) (subst (λ (o : Own). IsKnown h (get_or o.registers r unset).value) (sym (own-changed g number c within)) (keeps.registers r))
+        | inr apart ↦ subst (λ (o : Own). IsKnown h (get_or o.registers r unset).value) (sym (own-changed_other g number seat c apart)) (IsKnown-grows g h (register_value g seat r) grows (sound.registers seat r))
       ];
       cells = AllCells-write (IsSoundCell h) (seat_changed g number c) c.place c.index c.cell (AllCells-seat_changed (IsSoundCell h) g number c old more) keeps.cell;
     }

@@ -20,7 +20,7 @@ use Rattle.log_merge.specs.Merging.{is_in_log, part_of, left_of, HasGet, WaitsFo
 use Rattle.log_merge.specs.PendingGets.{is_kind}
 use Rattle.log_merge.specs.Registers.{opening_registers, registers_after, registers_of, kind_of, get_of, gets_in}
 use Rattle.log_merge.specs.Placing.{IsCompletion, count_in, count_left, replaced_by}
-use Rattle.log_merge.proofs.merge_lemmas.Changes.{Own, own}
+use Rattle.log_merge.proofs.merge_lemmas.Changes.{Own, own, values_of, value_of_register}
 use Rattle.log_merge.proofs.merge_lemmas.Places.{look}
 use Rattle.log_merge.proofs.merge_lemmas.Sound.{set_stands_at_cell}
 use Rattle.log_merge.proofs.merge_lemmas.Finding.{Writes}
@@ -40,24 +40,24 @@ kind_is (Object id) i stamp kind is =
 
 -- a seat's registers, as its log shows them, somewhere in the rest
 shown_at : (heap : Heap) (logs : List (List Entry)) (placed rest front back : List Entry) (number : ℕ) → IsCompletion heap logs placed rest → rest ≡ front ++ back → number < heap.seats
-    → (own (graph_of heap (part_of heap number placed ++ part_of heap number front)) number).registers ≡ fold registers_after (registers_of (part_of heap number placed)) (part_of heap number front)
+    → values_of (own (graph_of heap (part_of heap number placed ++ part_of heap number front)) number) ≡ fold registers_after (registers_of (part_of heap number placed)) (part_of heap number front)
 shown_at heap logs placed rest front back number completion parted within =
     let whole : AcceptsAll (opening heap) ((placed ++ front) ++ back) = subst (AcceptsAll (opening heap)) (ap (λ es. placed ++ es) parted ∙ sym (append_assoc placed front back)) completion.legal in
-    ap (λ (o : Own). o.registers) (sym (own_seat_by_parts heap number placed front within))
+    ap values_of (sym (own_seat_by_parts heap number placed front within))
     ∙ own_registers_are_shown heap (placed ++ front) number (AcceptsAll-parts (opening heap) (placed ++ front) back whole).0 within
     ∙ ap registers_of (part_of-append heap number placed front)
     ∙ fold-append registers_after opening_registers (part_of heap number placed) (part_of heap number front)
 
 -- a get that is counted is one that the log has
 got_there : (heap : Heap) (placed left earlier later : List Entry) (x : Entry) (number : ℕ) (kind : PendingGet) → left ≡ earlier ++ x ∷ later → is_in_log heap number x ≡ true
-    → (own (graph_of heap (part_of heap number placed ++ earlier)) number).registers ≡ fold registers_after (registers_of (part_of heap number placed)) earlier
+    → values_of (own (graph_of heap (part_of heap number placed ++ earlier)) number) ≡ fold registers_after (registers_of (part_of heap number placed)) earlier
     → get_of (fold registers_after (registers_of (part_of heap number placed)) earlier) x ≡ Some kind → HasGet heap (part_of heap number placed) left (Object kind.object) kind.index kind.stamp
 got_there heap placed left earlier later (entries.Said seat (commands.Get d r i) (replies.Got found stamp)) number kind parted inside shown is =
     let place = seat_entry_in_own_log heap number seat (commands.Get d r i) (replies.Got found stamp) inside in
     let held = fold registers_after (registers_of (part_of heap number placed)) earlier in
     let all = kind_is (get_or held r Nil) i stamp kind is in
     let g = graph_of heap (part_of heap number placed ++ earlier) in
-    let holds : register_value g seat r ≡ Object kind.object = ap (λ n. register_value g n r) place.1 ∙ ap (λ rs. get_or rs r Nil) shown ∙ all.0 in
+    let holds : register_value g seat r ≡ Object kind.object = ap (λ n. register_value g n r) place.1 ∙ sym (value_of_register (own g number) r) ∙ ap (λ rs. get_or rs r Nil) shown ∙ all.0 in
     record {
       earlier = earlier;
       seat = seat;
@@ -81,10 +81,10 @@ has_get heap logs placed rest number kind completion within some =
   where
     shown_in_seat : (x : Entry) (earlier front back : List Entry) → rest ≡ front ++ x ∷ back → part_of heap number front ≡ earlier → is_in_log heap number x ≡ true
         → get_of (fold registers_after (registers_of (part_of heap number placed)) earlier) x ≡ Some kind
-        → (own (graph_of heap (part_of heap number placed ++ earlier)) number).registers ≡ fold registers_after (registers_of (part_of heap number placed)) earlier
+        → values_of (own (graph_of heap (part_of heap number placed ++ earlier)) number) ≡ fold registers_after (registers_of (part_of heap number placed)) earlier
     shown_in_seat (entries.Said seat command reply) earlier front back parted before inside is =
         let place = seat_entry_in_own_log heap number seat command reply inside in
-        subst (λ es. (own (graph_of heap (part_of heap number placed ++ es)) number).registers ≡ fold registers_after (registers_of (part_of heap number placed)) es) before
+        subst (λ es. values_of (own (graph_of heap (part_of heap number placed ++ es)) number) ≡ fold registers_after (registers_of (part_of heap number placed)) es) before
         (shown_at heap logs placed rest front (entries.Said seat command reply ∷ back) number completion parted place.0)
     shown_in_seat _ earlier front back parted before inside is = absurd cc
 
@@ -97,10 +97,10 @@ counted_get heap logs placed rest number id i stamp completion within has =
     let held = registers_of (part_of heap number placed) in
     let there = parted_filter (is_in_log heap number) rest has.earlier has.later x (sym (left_of-rest heap logs placed rest number completion.kept within) ∙ has.parted) in
     let place = seat_entry_in_own_log heap number has.seat (commands.Get has.d has.r i) (replies.Got has.found stamp) there.passes in
-    let shown : (own (graph_of heap (part_of heap number placed ++ has.earlier)) number).registers ≡ fold registers_after held has.earlier =
-    subst (λ es. (own (graph_of heap (part_of heap number placed ++ es)) number).registers ≡ fold registers_after held es) there.before (shown_at heap logs placed rest there.front (x ∷ there.back) number completion there.parted place.0) in
+    let shown : values_of (own (graph_of heap (part_of heap number placed ++ has.earlier)) number) ≡ fold registers_after held has.earlier =
+    subst (λ es. values_of (own (graph_of heap (part_of heap number placed ++ es)) number) ≡ fold registers_after held es) there.before (shown_at heap logs placed rest there.front (x ∷ there.back) number completion there.parted place.0) in
     let holds : get_or (fold registers_after held has.earlier) has.r Nil ≡ Object id =
-    ap (λ rs. get_or rs has.r Nil) (sym shown) ∙ ap (λ n. register_value (graph_of heap (part_of heap number placed ++ has.earlier)) n has.r) (sym place.1) ∙ has.holds in
+    ap (λ rs. get_or rs has.r Nil) (sym shown) ∙ value_of_register (own (graph_of heap (part_of heap number placed ++ has.earlier)) number) has.r ∙ ap (λ n. register_value (graph_of heap (part_of heap number placed ++ has.earlier)) n has.r) (sym place.1) ∙ has.holds in
     let is : get_of (fold registers_after held has.earlier) x ≡ Some kind = ap (λ v. kind_of v i stamp) holds in
     subst (λ es. 0 < count_by (is_kind kind) (gets_in held es)) (sym has.parted) (kept_kind_is_counted held has.earlier has.later x kind is)
 
