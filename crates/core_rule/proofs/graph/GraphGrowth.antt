@@ -2,9 +2,10 @@
 use Rattle.std.proofs.Common.{◌≡◌, ◌≢◌, ℕ, zero, suc, ◌+◌, ◌<◌, false, inl, inr, List, [], ◌∷◌, ◌++◌, length, get_or, set, slice_get, Some, None, refl, ap, ◌∙◌, arith, length-append}
 use Rattle.std.proofs.lemmas.Bool.{cases_eq}
 use Rattle.std.proofs.lemmas.List.{get_or-set_same, get_or-set_other}
-use Rattle.core_rule.proofs.Terms.{Id, Board, Made, add, graph_seat, register_value, node, absent_graph_seat, Graph, Node}
+use Rattle.core_rule.proofs.Terms.{Id, Board, Made, add, graph_seat, register_value, node, absent_graph_seat, Graph, Node, unset}
 use Rattle.heap_model.specs.declared.id.Value.TheVariants as values
-use Rattle.heap_model.specs.graph.Graph.{GraphSeat}
+use Rattle.heap_model.specs.graph.Graph.{GraphSeat, unseen}
+use Rattle.heap_model.specs.declared.graph.cell.Cell.{Cell}
 
 slice_get-push : {A : Type 0} (xs : List A) (x : A) → slice_get (xs ++ x ∷ []) (length xs) ≡ Some x
 slice_get-push [] x = refl
@@ -32,7 +33,7 @@ present_seat_within_graph g number present = below g.seats number present
 module _ (g : Graph) (number d : ℕ) (object : Node) (present : (graph_seat g number).left ≡ false) where
   -- the seat after it
   abbrev pub grown_party : GraphSeat
-  grown_party = record (graph_seat g number) { registers = set (graph_seat g number).registers d (values.Object (Made number (length (graph_seat g number).objects))); objects = (graph_seat g number).objects ++ object ∷ [] }
+  grown_party = record (graph_seat g number) { registers = set (graph_seat g number).registers d (unseen (values.Object (Made number (length (graph_seat g number).objects)))); objects = (graph_seat g number).objects ++ object ∷ [] }
 
   -- the seat's own part of the graph, and the others'
   party_same : graph_seat (add g number d object) number ≡ grown_party
@@ -44,13 +45,13 @@ module _ (g : Graph) (number d : ℕ) (object : Node) (present : (graph_seat g n
   -- the registers: the seat's target holds the new object, the others stay
   pub target_holds_new_object : d < length (graph_seat g number).registers → register_value (add g number d object) number d ≡ values.Object (Made number (length (graph_seat g number).objects))
   target_holds_new_object within =
-      ap (λ (p : GraphSeat). get_or p.registers d values.Nil) party_same
-      ∙ get_or-set_same (graph_seat g number).registers d (values.Object (Made number (length (graph_seat g number).objects))) values.Nil within
+      ap (λ (p : GraphSeat). (get_or p.registers d unset).value) party_same
+      ∙ ap (λ (register : Cell). register.value) (get_or-set_same (graph_seat g number).registers d (unseen (values.Object (Made number (length (graph_seat g number).objects)))) unset within)
 
   pub other_registers_stay_by_add : (i : ℕ) → i ≢ d → register_value (add g number d object) number i ≡ register_value g number i
   other_registers_stay_by_add i apart =
-      ap (λ (p : GraphSeat). get_or p.registers i values.Nil) party_same
-      ∙ get_or-set_other (graph_seat g number).registers d i (values.Object (Made number (length (graph_seat g number).objects))) values.Nil apart
+      ap (λ (p : GraphSeat). (get_or p.registers i unset).value) party_same
+      ∙ ap (λ (register : Cell). register.value) (get_or-set_other (graph_seat g number).registers d i (unseen (values.Object (Made number (length (graph_seat g number).objects)))) unset apart)
 
   -- the seat has one object more, and hasn't left
   pub objects_grow_by_add : length (graph_seat (add g number d object) number).objects ≡ length (graph_seat g number).objects + 1

@@ -3,13 +3,13 @@ use Rattle.std.proofs.Common.{◌≡◌, ℕ, ◌<◌, inl, inr, false, List, []
 use Rattle.std.proofs.lemmas.Bool.{cases_eq}
 use Rattle.std.proofs.lemmas.List.{get_or-set_same, get_or-set_other, length-set, length-replicate, get_or-replicate}
 use Rattle.heap_model.specs.declared.graph.cell.Cell.{Cell}
-use Rattle.core_rule.proofs.Terms.{Command, Entry, Heap, Board, Made, Value, Reply, with_graph_seat, with_register, add, write, count_set, graph_of, after_entry, after_reply}
+use Rattle.core_rule.proofs.Terms.{Command, Entry, Heap, Board, Made, Value, Reply, with_graph_seat, with_register, add, write, count_set, graph_of, after_entry, after_reply, unset}
 use Rattle.core_rule.proofs.Terms.{graph_after, graph_seat, absent_graph_seat, Graph, Node, opening, opening_graph_seat}
 use Rattle.heap_model.specs.declared.command.Command.TheVariants as commands
 use Rattle.heap_model.specs.declared.entry.Entry.TheVariants as entries
 use Rattle.heap_model.specs.declared.id.Value.TheVariants.{Nil, Number, Object}
 use Rattle.heap_model.specs.declared.reply.Reply.TheVariants as replies
-use Rattle.heap_model.specs.graph.Graph.{GraphSeat}
+use Rattle.heap_model.specs.graph.Graph.{GraphSeat, unseen}
 use Rattle.core_rule.proofs.graph.GraphGrowth.{present_seat_within_graph}
 
 -- each seat of the graph has sixteen registers
@@ -28,11 +28,11 @@ sixteen_with g s p new is = record {
       ];
 }
 
-sixteen_put : (g : Graph) (s d : ℕ) (value : Value) → Sixteen g → Sixteen (with_register g s d value)
-sixteen_put g s d value is = sixteen_with g s _ (λ here. length-set (graph_seat g s).registers d value ∙ is.each s here) is
+sixteen_put : (g : Graph) (s d : ℕ) (cell : Cell) → Sixteen g → Sixteen (with_register g s d cell)
+sixteen_put g s d cell is = sixteen_with g s _ (λ here. length-set (graph_seat g s).registers d cell ∙ is.each s here) is
 
 sixteen_add : (g : Graph) (s d : ℕ) (object : Node) → Sixteen g → Sixteen (add g s d object)
-sixteen_add g s d object is = sixteen_with g s _ (λ here. length-set (graph_seat g s).registers d (Object (Made s (length (graph_seat g s).objects))) ∙ is.each s here) is
+sixteen_add g s d object is = sixteen_with g s _ (λ here. length-set (graph_seat g s).registers d (unseen (Object (Made s (length (graph_seat g s).objects)))) ∙ is.each s here) is
 
 sixteen_write : (g : Graph) (value : Value) (i : ℕ) (cell : Cell) → Sixteen g → Sixteen (write g value i cell)
 sixteen_write g Nil i cell is = is
@@ -43,12 +43,12 @@ sixteen_write g (Object (Made number count)) i cell is = sixteen_with g number _
 sixteen_reply : (g : Graph) (s : ℕ) (command : Command) (reply : Reply) → Sixteen g → Sixteen (after_reply g s command reply)
 sixteen_reply g s (commands.New d fields) (replies.Made id) is = sixteen_add g s d _ is
 sixteen_reply g s (commands.Array d cells) (replies.Made id) is = sixteen_add g s d _ is
-sixteen_reply g s (commands.Get d r i) (replies.Got value stamp) is = sixteen_put g s d value is
+sixteen_reply g s (commands.Get d r i) (replies.Got value stamp) is = sixteen_put g s d _ is
 sixteen_reply g s (commands.Set r i v) (replies.Was stamp) is = sixteen_write (count_set g s) _ i _ (sixteen_with g s _ (λ here. is.each s here) is)
-sixteen_reply g s (commands.Num d n) reply is = sixteen_put g s d (Number n) is
-sixteen_reply g s (commands.Nil d) reply is = sixteen_put g s d Nil is
+sixteen_reply g s (commands.Num d n) reply is = sixteen_put g s d _ is
+sixteen_reply g s (commands.Nil d) reply is = sixteen_put g s d _ is
 sixteen_reply g s (commands.Copy d r) reply is = sixteen_put g s d _ is
-sixteen_reply g s commands.Leave reply is = sixteen_with g s _ (λ here. length-replicate 16 Nil) is
+sixteen_reply g s commands.Leave reply is = sixteen_with g s _ (λ here. length-replicate 16 unset) is
 sixteen_reply g s _ _ is = is
 
 sixteen_after : (g : Graph) (entry : Entry) → Sixteen g → Sixteen (after_entry g entry)

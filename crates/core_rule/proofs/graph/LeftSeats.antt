@@ -1,8 +1,8 @@
 -- A seat that has left holds nothing.
-use Rattle.std.proofs.Common.{◌≡◌, ℕ, true, false, List, [], ◌∷◌, get_or, set, length, replicate, refl, sym, subst, inl, inr, arith, length-set}
+use Rattle.std.proofs.Common.{◌≡◌, ℕ, true, false, List, [], ◌∷◌, get_or, set, length, replicate, refl, sym, ap, subst, inl, inr, arith, length-set}
 use Rattle.std.proofs.lemmas.Bool.{cases_eq, cases_lt}
 use Rattle.std.proofs.lemmas.List.{get_or-set_same, get_or-set_other, get_or_past, get_or-replicate, length-replicate}
-use Rattle.core_rule.proofs.Terms.{Board, Made, Value, Command, Reply, Entry, Said, Heap, graph_of, Accepts, AcceptsAll, IsObjectLegal, IsPresent, graph_seat, register_value}
+use Rattle.core_rule.proofs.Terms.{Board, Made, Value, Command, Reply, Entry, Said, Heap, graph_of, Accepts, AcceptsAll, IsObjectLegal, IsPresent, graph_seat, register_value, unset}
 use Rattle.core_rule.proofs.Terms.{absent_graph_seat, Graph, opening, opening_graph_seat, with_graph_seat, write, count_set, with_object_cell, after_entry, after_reply}
 use Rattle.core_rule.proofs.Terms.{graph_after}
 use Rattle.heap_model.specs.declared.id.Value.TheVariants.{Nil, Number, Object}
@@ -14,7 +14,7 @@ use Rattle.heap_model.specs.graph.Graph.{GraphSeat}
 
 -- where the seat has left, its registers are empty
 abbrev IsEmptied : GraphSeat → Type 0
-IsEmptied seat = seat.left ≡ true → (r : ℕ) → get_or seat.registers r Nil ≡ Nil
+IsEmptied seat = seat.left ≡ true → (r : ℕ) → (get_or seat.registers r unset).value ≡ Nil
 
 -- a seat that isn't there has none
 emptied_absent : IsEmptied absent_graph_seat
@@ -41,10 +41,10 @@ emptied_write g number (Object Board) i cell has = has
 emptied_write g number (Object (Made other count)) i cell has = emptied_with g number other (with_object_cell (graph_seat g other) count i cell) has (λ its. its)
 
 -- the registers of one that leaves
-pub empty_register_is_nil : (r : ℕ) → get_or (replicate register_count Nil) r Nil ≡ Nil
-empty_register_is_nil r = elim (cases_lt r register_count) as (λ _. get_or (replicate register_count Nil) r Nil ≡ Nil) [
-  | inl there ↦ get_or-replicate register_count r Nil Nil there
-  | inr past ↦ get_or_past (replicate register_count Nil) r Nil (omega (arith, past, length-replicate register_count Nil))
+pub empty_register_is_nil : (r : ℕ) → (get_or (replicate register_count unset) r unset).value ≡ Nil
+empty_register_is_nil r = elim (cases_lt r register_count) as (λ _. (get_or (replicate register_count unset) r unset).value ≡ Nil) [
+  | inl there ↦ ap (λ (register : Cell). register.value) (get_or-replicate register_count r unset unset there)
+  | inr past ↦ ap (λ (register : Cell). register.value) (get_or_past (replicate register_count unset) r unset (omega (arith, past, length-replicate register_count unset)))
 ]
 
 emptied_said : (g : Graph) (number other : ℕ) (command : Command) (reply : Reply) → IsPresent g other → IsEmptied (graph_seat g number) → IsEmptied (graph_seat (after_reply g other command reply) number)

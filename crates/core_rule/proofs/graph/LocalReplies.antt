@@ -1,6 +1,6 @@
 -- The replies of calls that look at no word: what they are to the graph, and that they may stand.
 use Rattle.std.proofs.Common.{◌≡◌, ℕ, ◌≤◌, Bool, true, false, List, length, set, Option, None, refl, sym, subst, arith}
-use Rattle.core_rule.proofs.Terms.{Command, Entry, Heap, Id, Value, Reply, most_kept, with_register, after_reply, made_by, graph_seat, register_value, target_node, cell_or_refusal}
+use Rattle.core_rule.proofs.Terms.{Command, Entry, Heap, Id, Value, Reply, most_kept, with_register, after_reply, made_by, graph_seat, register_value, target_node, cell_or_refusal, unset}
 use Rattle.core_rule.proofs.Terms.{Graph, Node, Register, IsLocal, register_in, value_of, is_same_value, register_head, Owner, HoldsValue}
 use Rattle.heap_model.specs.declared.command.Command.TheVariants as commands
 use Rattle.heap_model.specs.declared.id.Value.TheVariants as values
@@ -13,6 +13,9 @@ use Rattle.core_machine.specs.declared.seat.register.Register.TheVariants as reg
 use Rattle.core_machine.specs.seat.Local.{answer_of, local_reply_of, local_registers}
 use Rattle.core_rule.proofs.graph.PutRegister.{OnlyRegisters, put_changes_only_registers, only_registers_of_itself, holds_value_after_put}
 use Rattle.core_rule.proofs.graph.SameValues.{compares_as_held, held_value_targets_none}
+use Rattle.heap_model.specs.graph.Graph.{unseen}
+use Rattle.heap_model.specs.declared.graph.cell.Cell.{Cell}
+use Rattle.heap_model.specs.graph.Objects.{register_cell}
 
 module _ (heap : Heap) (history : List Entry) (g : Graph) (number : ℕ) (made : List Id) (owner : ℕ → Owner) (fragments : ℕ → List ℕ) where
   -- each register holds its value in the graph
@@ -36,9 +39,9 @@ module _ (heap : Heap) (history : List Entry) (g : Graph) (number : ℕ) (made :
 
   module _ (held : List Register) (present : (graph_seat g number).left ≡ false) (whole : length held ≡ 16) (sixteen : length (graph_seat g number).registers ≡ 16) (holds : HoldAll g held) where
     -- a register that is set
-    set_holds : (d : ℕ) (filled : Register) (value : Value) → d ≤ 15 → HoldsValue made owner fragments filled value → HoldAll (with_register g number d value) (set held d filled)
-    set_holds d filled value within new =
-        holds_value_after_put made owner fragments g number d value held filled present (omega (arith, whole, within)) (omega (arith, sixteen, within)) new (λ i apart. holds i)
+    set_holds : (d : ℕ) (filled : Register) (cell : Cell) → d ≤ 15 → HoldsValue made owner fragments filled cell.value → HoldAll (with_register g number d cell) (set held d filled)
+    set_holds d filled cell within new =
+        holds_value_after_put made owner fragments g number d cell held filled present (omega (arith, whole, within)) (omega (arith, sixteen, within)) new (λ i apart. holds i)
 
     -- whether two values are the same
     same_reply : (a b : ℕ) (same : Bool) → Compares (register_value g number a) (register_value g number b) (answer_of same) → IsLocalReply (commands.Same a b) (answer_of same) held
@@ -52,20 +55,20 @@ module _ (heap : Heap) (history : List Entry) (g : Graph) (number : ℕ) (made :
     computed_reply_is_local (commands.Num d n) ranges local = record {
       plain = record { none = refl; space = tt; spine = tt; phases = tt; most = refl };
       says = refl;
-      only = put_changes_only_registers g number d (values.Number n) present;
-      registers = set_holds d (registers.Number n) (values.Number n) ranges.0.1 (refl, ranges.1);
+      only = put_changes_only_registers g number d (unseen (values.Number n)) present;
+      registers = set_holds d (registers.Number n) (unseen (values.Number n)) ranges.0.1 (refl, ranges.1);
     }
     computed_reply_is_local (commands.Nil d) ranges local = record {
       plain = record { none = refl; space = tt; spine = tt; phases = tt; most = refl };
       says = refl;
-      only = put_changes_only_registers g number d values.Nil present;
-      registers = set_holds d registers.Nil values.Nil ranges.1 refl;
+      only = put_changes_only_registers g number d unset present;
+      registers = set_holds d registers.Nil unset ranges.1 refl;
     }
     computed_reply_is_local (commands.Copy d r) ranges local = record {
       plain = record { none = refl; space = tt; spine = tt; phases = tt; most = refl };
       says = refl;
-      only = put_changes_only_registers g number d (register_value g number r) present;
-      registers = set_holds d (register_in held r) (register_value g number r) ranges.0.1 (holds r);
+      only = put_changes_only_registers g number d (register_cell g number r) present;
+      registers = set_holds d (register_in held r) (register_cell g number r) ranges.0.1 (holds r);
     }
     computed_reply_is_local (commands.Same a b) ranges local =
         same_reply a b (is_same_value (value_of (register_in held a)) (value_of (register_in held b)))

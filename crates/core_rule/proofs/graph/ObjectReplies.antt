@@ -77,8 +77,8 @@ pub graph_same_after_no_field : (g : Graph) (number : ℕ) (command : Command) �
 graph_same_after_no_field g number command is = field_only (λ c. after_reply g number c replies.NoField ≡ g) (λ d r i. refl) (λ r i v. refl) command is
 
 -- what a get answers stands in its register
-pub graph_after_got : (g : Graph) (number : ℕ) (value : Value) (stamp : ℕ) (command : Command) → IsGet command → after_reply g number command (replies.Got value stamp) ≡ with_register g number (target_of command) value
-graph_after_got g number value stamp command is = get_only (λ c. after_reply g number c (replies.Got value stamp) ≡ with_register g number (target_of c) value) (λ d r i. refl) command is
+pub graph_after_got : (g : Graph) (number : ℕ) (value : Value) (stamp : ℕ) (command : Command) → IsGet command → after_reply g number command (replies.Got value stamp) ≡ with_register g number (target_of command) (record { value = value; stamp = stamp })
+graph_after_got g number value stamp command is = get_only (λ c. after_reply g number c (replies.Got value stamp) ≡ with_register g number (target_of c) (record { value = value; stamp = stamp })) (λ d r i. refl) command is
 
 module _ (heap : Heap) (play : Bool) (before : List Entry) (number : ℕ) (own : spent_of number before ≤ taken_of number before) (little : taken_of number before ≤ spent_of number before + 15) where
   -- a reply that makes nothing and shows no space and no phase keeps the rules of space

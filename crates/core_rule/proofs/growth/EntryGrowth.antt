@@ -3,7 +3,7 @@ use Rattle.std.proofs.Common.{◌≡◌, ◌≢◌, ℕ, ◌+◌, ◌<◌, true,
 use Rattle.std.proofs.lemmas.Bool.{cases_eq}
 use Rattle.std.proofs.lemmas.List.{length-set}
 use Rattle.std.proofs.lemmas.Option.{slice_get_within, get_or_from_slice_get}
-use Rattle.core_rule.proofs.Terms.{Command, Entry, Id, Value, Reply, with_cell, count_set, write, set_stamp, Graph, Node, after_entry, after_reply, Accepts, IsPresent, graph_seat}
+use Rattle.core_rule.proofs.Terms.{Command, Entry, Id, Value, Reply, with_cell, count_set, write, set_stamp, Graph, Node, after_entry, after_reply, Accepts, IsPresent, graph_seat, unset}
 use Rattle.core_rule.proofs.Terms.{register_value, node, target_node, cell_or_refusal, or_no_field, PointsTo, Points}
 use Rattle.heap_model.specs.declared.command.Command.TheVariants as commands
 use Rattle.heap_model.specs.declared.entry.Entry.TheVariants as entries
@@ -17,6 +17,8 @@ use Rattle.core_rule.proofs.growth.RegisterIds.{RegisterHolds}
 use Rattle.core_rule.proofs.growth.SeatGrowth.{set_cases, same_size_unchanged, grows_by_nothing, grows_by_put, grows_by_leave, grows_by_add}
 use Rattle.core_rule.proofs.graph.CellSet.{Sets, write_sets_cell}
 use Rattle.core_rule.proofs.graph.Numbering.{same_id_test_decides}
+use Rattle.heap_model.specs.graph.Graph.{unseen}
+use Rattle.heap_model.specs.graph.Objects.{register_cell}
 
 -- a value refers to an object that has this cell
 pub record HasCell (g : Graph) (value : Value) (i : ℕ) (cell : Cell) : Type 0 where
@@ -70,8 +72,8 @@ module _ (g : Graph) (number : ℕ) (present : IsPresent g number) where
 
     same_registers : (s r : ℕ) → register_value written s r ≡ register_value g s r
     same_registers s r = elim (cases_eq s number) [
-      | inl e ↦ subst (λ t. register_value written t r ≡ register_value g t r) (sym e) (ap (λ rs. get_or rs r Nil) set_there.registers)
-      | inr apart ↦ ap (λ rs. get_or rs r Nil) (set_there.others s apart).registers
+      | inl e ↦ subst (λ t. register_value written t r ≡ register_value g t r) (sym e) (ap (λ rs. (get_or rs r unset).value) set_there.registers)
+      | inr apart ↦ ap (λ rs. (get_or rs r unset).value) (set_there.others s apart).registers
     ]
 
     -- a cell of the object is the new one, or was there
@@ -125,11 +127,11 @@ module _ (g : Graph) (number : ℕ) (present : IsPresent g number) where
   grows_said : (command : Command) (reply : Reply) → Says g number command reply → GrowsFrom g (after_reply g number command reply)
   grows_said (commands.New d fields) (replies.Made id) says = grows_by_add g number present d false fields
   grows_said (commands.Array d cells) (replies.Made id) says = grows_by_add g number present d true cells
-  grows_said (commands.Get d r i) (replies.Got value stamp) says = grows_by_put g number present d value (got_came r i value stamp says)
+  grows_said (commands.Get d r i) (replies.Got value stamp) says = grows_by_put g number present d (record { value = value; stamp = stamp }) (got_came r i value stamp says)
   grows_said (commands.Set r i v) (replies.Was stamp) says = grows_set r i v stamp says
-  grows_said (commands.Num d n) reply says = grows_by_put g number present d (Number n) (λ id e. cc e)
-  grows_said (commands.Nil d) reply says = grows_by_put g number present d Nil (λ id e. cc e)
-  grows_said (commands.Copy d r) reply says = grows_by_put g number present d (register_value g number r) (λ id e. was_held (record { number = number; register = r; holds = e }))
+  grows_said (commands.Num d n) reply says = grows_by_put g number present d (unseen (Number n)) (λ id e. cc e)
+  grows_said (commands.Nil d) reply says = grows_by_put g number present d unset (λ id e. cc e)
+  grows_said (commands.Copy d r) reply says = grows_by_put g number present d (register_cell g number r) (λ id e. was_held (record { number = number; register = r; holds = e }))
   grows_said commands.Leave reply says = grows_by_leave g number present
   grows_said command reply says = grows_by_nothing g
 

@@ -4,16 +4,18 @@ use Rattle.std.specs.Prelude.{map, cond, ◌==◌}
 use Rattle.std.proofs.lemmas.Bool.{cases_lt}
 use Rattle.std.proofs.lemmas.Bool.Decides.{eqb_tells}
 use Rattle.std.proofs.lemmas.List.{get_or_past, length-map, map-append, get_or-replicate, length-replicate}
-use Rattle.core_rule.proofs.Terms.{is_of, Command, Entry, Heap, Made, Value, Reply, with_register, add, count_set, Graph, Node, fresh, opening, opening_graph_seat, after_entry}
+use Rattle.core_rule.proofs.Terms.{is_of, Command, Entry, Heap, Made, Value, Reply, with_register, add, count_set, Graph, Node, fresh, opening, opening_graph_seat, after_entry, unset}
 use Rattle.core_rule.proofs.Terms.{after_reply, graph_after, graph_seat, absent_graph_seat, register_value}
 use Rattle.heap_model.specs.declared.command.Command.TheVariants as commands
 use Rattle.heap_model.specs.declared.entry.Entry.TheVariants as entries
 use Rattle.heap_model.specs.declared.id.Value.TheVariants.{Nil, Number, Object}
 use Rattle.heap_model.specs.declared.reply.Reply.TheVariants as replies
-use Rattle.heap_model.specs.graph.Graph.{GraphSeat}
+use Rattle.heap_model.specs.graph.Graph.{GraphSeat, unseen}
 use Rattle.core_rule.proofs.entries.Others.{seat_is_not_other}
 use Rattle.core_rule.specs.growth.OwnGraphs.{Shape, shape_of, AgreeOn, EachOwnGraphIsPart}
 use Rattle.core_rule.proofs.growth.AgreeingGraphs.{agree_on_itself, agree_on_reversed, agree_on_composed, agree_on_same_seat_change, agree_on_with_other_seat, agree_on_after_write}
+use Rattle.heap_model.specs.declared.graph.cell.Cell.{Cell}
+use Rattle.heap_model.specs.graph.Objects.{register_cell}
 
 module _ (number : ℕ) (one other : Graph) (agrees : AgreeOn number one other) where
   -- as many objects were made
@@ -21,12 +23,15 @@ module _ (number : ℕ) (one other : Graph) (agrees : AgreeOn number one other) 
   as_many_objects_made = sym (length-map (graph_seat one number).objects shape_of) ∙ ap (λ (l : List Shape). length l) agrees.seat.objects ∙ length-map (graph_seat other number).objects shape_of
 
   -- the registers hold the same
-  pub same_register_values : (r : ℕ) → register_value one number r ≡ register_value other number r
-  same_register_values r = ap (λ (l : List Value). get_or l r Nil) agrees.seat.registers
+  pub same_register_cells : (r : ℕ) → register_cell one number r ≡ register_cell other number r
+  same_register_cells r = ap (λ (l : List Cell). get_or l r unset) agrees.seat.registers
 
-  agree_put : (d : ℕ) (value : Value) → AgreeOn number (with_register one number d value) (with_register other number d value)
-  agree_put d value = agree_on_same_seat_change number one other _ _ agrees record {
-    registers = ap (λ (l : List Value). set l d value) agrees.seat.registers;
+  pub same_register_values : (r : ℕ) → register_value one number r ≡ register_value other number r
+  same_register_values r = ap (λ (register : Cell). register.value) (same_register_cells r)
+
+  agree_put : (d : ℕ) (cell : Cell) → AgreeOn number (with_register one number d cell) (with_register other number d cell)
+  agree_put d cell = agree_on_same_seat_change number one other _ _ agrees record {
+    registers = ap (λ (l : List Cell). set l d cell) agrees.seat.registers;
     objects = agrees.seat.objects;
     sets = agrees.seat.sets;
     left = agrees.seat.left;
@@ -34,8 +39,8 @@ module _ (number : ℕ) (one other : Graph) (agrees : AgreeOn number one other) 
 
   agree_add : (d : ℕ) (object : Node) → AgreeOn number (add one number d object) (add other number d object)
   agree_add d object = agree_on_same_seat_change number one other _ _ agrees record {
-    registers = ap (λ (l : List Value). set l d (Object (Made number (length (graph_seat one number).objects)))) agrees.seat.registers
-        ∙ ap (λ n. set (graph_seat other number).registers d (Object (Made number n))) as_many_objects_made;
+    registers = ap (λ (l : List Cell). set l d (unseen (Object (Made number (length (graph_seat one number).objects))))) agrees.seat.registers
+        ∙ ap (λ n. set (graph_seat other number).registers d (unseen (Object (Made number n)))) as_many_objects_made;
     objects = map-append shape_of (graph_seat one number).objects (object ∷ []) ∙ ap (λ (l : List Shape). l ++ shape_of object ∷ []) agrees.seat.objects ∙ sym (map-append shape_of (graph_seat other number).objects (object ∷ []));
     sets = agrees.seat.sets;
     left = agrees.seat.left;
@@ -49,16 +54,16 @@ module _ (number : ℕ) (one other : Graph) (agrees : AgreeOn number one other) 
   agree_said : (command : Command) (reply : Reply) → AgreeOn number (after_reply one number command reply) (after_reply other number command reply)
   agree_said (commands.New d fields) (replies.Made id) = agree_add d (fresh false fields)
   agree_said (commands.Array d cells) (replies.Made id) = agree_add d (fresh true cells)
-  agree_said (commands.Get d r i) (replies.Got value stamp) = agree_put d value
+  agree_said (commands.Get d r i) (replies.Got value stamp) = agree_put d _
   agree_said (commands.Set r i v) (replies.Was stamp) =
       agree_on_composed number (after_reply one number (commands.Set r i v) (replies.Was stamp)) (count_set one number) (after_reply other number (commands.Set r i v) (replies.Was stamp))
       (agree_on_reversed number (count_set one number) (after_reply one number (commands.Set r i v) (replies.Was stamp)) (agree_on_after_write number (count_set one number) (register_value one number r) i _))
       (agree_on_composed number (count_set one number) (count_set other number) (after_reply other number (commands.Set r i v) (replies.Was stamp)) agree_count
       (agree_on_after_write number (count_set other number) (register_value other number r) i _))
-  agree_said (commands.Num d n) reply = agree_put d (Number n)
-  agree_said (commands.Nil d) reply = agree_put d Nil
+  agree_said (commands.Num d n) reply = agree_put d _
+  agree_said (commands.Nil d) reply = agree_put d _
   agree_said (commands.Copy d r) reply =
-      subst (λ v. AgreeOn number (with_register one number d (register_value one number r)) (with_register other number d v)) (same_register_values r) (agree_put d (register_value one number r))
+      subst (λ register. AgreeOn number (with_register one number d (register_cell one number r)) (with_register other number d register)) (same_register_cells r) (agree_put d (register_cell one number r))
   agree_said commands.Leave reply = agree_on_same_seat_change number one other _ _ agrees record { registers = refl; objects = agrees.seat.objects; sets = agrees.seat.sets; left = refl }
   agree_said command reply = agrees
 

@@ -6,7 +6,7 @@ use Rattle.core_rule.proofs.Terms.{Id, Made, Value, with_graph_seat, with_regist
 use Rattle.core_rule.proofs.Terms.{Points}
 use Rattle.heap_model.specs.declared.id.Value.TheVariants.{Nil, Object}
 use Rattle.heap_model.specs.Limits.{register_count}
-use Rattle.heap_model.specs.graph.Graph.{GraphSeat}
+use Rattle.heap_model.specs.graph.Graph.{GraphSeat, unseen}
 use Rattle.core_rule.proofs.growth.Growing.{CameFrom, was_held, was_unmade, IsSameSize, GrowsFrom}
 use Rattle.core_rule.proofs.growth.RegisterIds.{RegisterHolds}
 use Rattle.core_rule.proofs.graph.GraphGrowth.{grown_party, added_node_is_object, new_id_has_no_node, other_nodes_stay_by_add}
@@ -14,6 +14,7 @@ use Rattle.core_rule.proofs.graph.GraphSeats.{party_with_seat_is_new, other_part
 use Rattle.core_rule.proofs.graph.IdsGrowth.{without_node_is_not_made}
 use Rattle.core_rule.proofs.graph.LeftSeats.{empty_register_is_nil}
 use Rattle.core_rule.proofs.graph.Numbering.{same_id_test_decides}
+use Rattle.heap_model.specs.declared.graph.cell.Cell.{Cell}
 
 -- what stands in a list where one element was set is that, or what stood there
 pub set_cases : {A : Type 0} (xs : List A) (i j : ℕ) (a d : A) → (get_or (set xs i a) j d ≡ a) ⊎ (get_or (set xs i a) j d ≡ get_or xs j d)
@@ -42,11 +43,11 @@ grows_by_nothing g = record {
 
 module _ (g : Graph) (number : ℕ) (present : (graph_seat g number).left ≡ false) where
   -- the registers where one seat is another
-  module _ (p : GraphSeat) (its : (r : ℕ) (id : Id) → get_or p.registers r Nil ≡ Object id → CameFrom g id) where
+  module _ (p : GraphSeat) (its : (r : ℕ) (id : Id) → (get_or p.registers r unset).value ≡ Object id → CameFrom g id) where
     registers_came : (s r : ℕ) (id : Id) → register_value (with_graph_seat g number p) s r ≡ Object id → CameFrom g id
     registers_came s r id holds = elim (cases_eq s number) [
-      | inl e ↦ its r id (sym (ap (λ (x : GraphSeat). get_or x.registers r Nil) (party_with_seat_is_new g number p present)) ∙ subst (λ t. register_value (with_graph_seat g number p) t r ≡ Object id) e holds)
-      | inr apart ↦ was_held (record { number = s; register = r; holds = sym (ap (λ (x : GraphSeat). get_or x.registers r Nil) (other_party_stays g number p present s apart)) ∙ holds })
+      | inl e ↦ its r id (sym (ap (λ (x : GraphSeat). (get_or x.registers r unset).value) (party_with_seat_is_new g number p present)) ∙ subst (λ t. register_value (with_graph_seat g number p) t r ≡ Object id) e holds)
+      | inr apart ↦ was_held (record { number = s; register = r; holds = sym (ap (λ (x : GraphSeat). (get_or x.registers r unset).value) (other_party_stays g number p present s apart)) ∙ holds })
     ]
 
     -- its objects stay
@@ -58,18 +59,18 @@ module _ (g : Graph) (number : ℕ) (present : (graph_seat g number).left ≡ fa
     }
 
   -- a register gets a value
-  put_came : (d : ℕ) (value : Value) → ((id : Id) → value ≡ Object id → CameFrom g id) → (r : ℕ) (id : Id) → get_or (set (graph_seat g number).registers d value) r Nil ≡ Object id → CameFrom g id
-  put_came d value came r id holds = elim (set_cases (graph_seat g number).registers d r value Nil) [
-    | inl new ↦ came id (sym new ∙ holds)
-    | inr old ↦ was_held (record { number = number; register = r; holds = sym old ∙ holds })
+  put_came : (d : ℕ) (cell : Cell) → ((id : Id) → cell.value ≡ Object id → CameFrom g id) → (r : ℕ) (id : Id) → (get_or (set (graph_seat g number).registers d cell) r unset).value ≡ Object id → CameFrom g id
+  put_came d cell came r id holds = elim (set_cases (graph_seat g number).registers d r cell unset) [
+    | inl new ↦ came id (sym (ap (λ (register : Cell). register.value) new) ∙ holds)
+    | inr old ↦ was_held (record { number = number; register = r; holds = sym (ap (λ (register : Cell). register.value) old) ∙ holds })
   ]
 
-  pub grows_by_put : (d : ℕ) (value : Value) → ((id : Id) → value ≡ Object id → CameFrom g id) → GrowsFrom g (with_register g number d value)
-  grows_by_put d value came = grows_seat (record (graph_seat g number) { registers = set (graph_seat g number).registers d value }) (put_came d value came) refl
+  pub grows_by_put : (d : ℕ) (cell : Cell) → ((id : Id) → cell.value ≡ Object id → CameFrom g id) → GrowsFrom g (with_register g number d cell)
+  grows_by_put d cell came = grows_seat (record (graph_seat g number) { registers = set (graph_seat g number).registers d cell }) (put_came d cell came) refl
 
   -- the seat leaves
   pub grows_by_leave : GrowsFrom g (leave g number)
-  grows_by_leave = grows_seat (record (graph_seat g number) { registers = replicate register_count Nil; left = true }) (λ r id holds. absurd (no_object r id (sym (empty_register_is_nil r) ∙ holds))) refl
+  grows_by_leave = grows_seat (record (graph_seat g number) { registers = replicate register_count unset; left = true }) (λ r id holds. absurd (no_object r id (sym (empty_register_is_nil r) ∙ holds))) refl
     where
       no_object : (r : ℕ) (id : Id) → Nil ≡ Object id → ⊥
       no_object r id e = cc e
@@ -97,7 +98,7 @@ module _ (g : Graph) (number : ℕ) (present : (graph_seat g number).left ≡ fa
 
     pub grows_by_add : GrowsFrom g grown
     grows_by_add = record {
-      registers = registers_came (grown_party g number d (fresh array cells) present) (put_came d (Object new_id) (λ id e. was_unmade (unmade id e)));
+      registers = registers_came (grown_party g number d (fresh array cells) present) (put_came d (unseen (Object new_id)) (λ id e. was_unmade (unmade id e)));
       cells = cells_came;
       objects = stays_there;
     }

@@ -16,10 +16,7 @@ refers_decided (Number n) id = inr (λ e. cc)
 refers_decided (Object other) id = elim (same_id_test_decides other id) [ inl same ↦ inl (cc (same.1)) | inr apart ↦ inr (λ e. apart.1 (cc)) ]
 
 registered_decided : (seat : GraphSeat) (id : Id) → Decided (IsRegistered seat id)
-registered_decided seat id = elim (any_decided (λ v. v ≡ Object id) (λ v. refers_decided v id) seat.registers) [
-  | inl any ↦ inl (subst (Contains seat.registers) any.4 (any.0, any.2, any.3))
-  | inr none ↦ inr (λ there. none (there.0, Object id, there.1, there.2, refl))
-]
+registered_decided seat id = any_decided (λ register. register.value ≡ Object id) (λ register. refers_decided register.value id) seat.registers
 
 points_decided : (g : Graph) (holder id : Id) → Decided (Points g holder id)
 points_decided g holder id = by (node g holder)

@@ -2,13 +2,13 @@
 use Rattle.std.proofs.Common.{◌≡◌, ◌≢◌, ℕ, zero, suc, ◌+◌, ◌%◌, ◌<◌, inl, List, [], ◌∷◌, length, get_or, replicate, refl, sym, ap, ◌∙◌, subst, arith, inr}
 use Rattle.std.proofs.lemmas.Bool.{lt-ltb}
 use Rattle.std.proofs.lemmas.List.FromFn.{get_or-map-range_with_len}
-use Rattle.core_rule.proofs.Terms.{cycle_phases, Heap, Value, opening, Budget, Register, Collector, at, State, seat_at, Seat, absent_seat, IsMachine, White, StandsFor}
+use Rattle.core_rule.proofs.Terms.{cycle_phases, Heap, Value, opening, Budget, Register, Collector, at, State, seat_at, Seat, absent_seat, IsMachine, White, StandsFor, unset}
 use Rattle.core_rule.proofs.Terms.{MarkingStands, IsSettled, Dead, holds_bit, bears_bit, CollectorAgrees, Registers, Rule, SeatStands}
 use Rattle.heap_model.specs.PhasePlan.{marking as marking_phase}
 use Rattle.heap_model.specs.declared.id.Id.TheVariants as ids
 use Rattle.heap_model.specs.declared.id.Value.TheVariants as values
 use Rattle.heap_model.specs.Heap.{IsHeap}
-use Rattle.heap_model.specs.graph.Graph.{GraphSeat}
+use Rattle.heap_model.specs.graph.Graph.{GraphSeat, unseen}
 use Rattle.core_machine.specs.declared.table.address.Address.TheVariants.{Answer, Phase, Spot}
 use Rattle.core_machine.specs.declared.place.Place.TheVariants as places
 use Rattle.core_machine.specs.declared.seat.register.Register.TheVariants as registers
@@ -28,17 +28,17 @@ use Rattle.core_rule.proofs.runs.OpeningOwners.{opening_owner, opening_owner_cas
 abbrev Now : Heap → Register → Value → Type 0
 Now heap held value = regs.HoldsValue opening_made opening_owner (opening_fragments heap) held value
 
-nil_registers : (heap : Heap) (n r : ℕ) → Now heap (get_or (replicate n registers.Nil) r registers.Nil) (get_or (replicate n values.Nil) r values.Nil)
+nil_registers : (heap : Heap) (n r : ℕ) → Now heap (get_or (replicate n registers.Nil) r registers.Nil) (get_or (replicate n unset) r unset).value
 nil_registers heap zero r = refl
 nil_registers heap (suc n) zero = refl
 nil_registers heap (suc n) (suc r) = nil_registers heap n r
 
-opening_held : (heap : Heap) (r : ℕ) → Now heap (get_or (registers.Object 0 ids.Board ∷ replicate 15 registers.Nil) r registers.Nil) (get_or (values.Object ids.Board ∷ replicate 15 values.Nil) r values.Nil)
+opening_held : (heap : Heap) (r : ℕ) → Now heap (get_or (registers.Object 0 ids.Board ∷ replicate 15 registers.Nil) r registers.Nil) (get_or (unseen (values.Object ids.Board) ∷ replicate 15 unset) r unset).value
 opening_held heap zero = (refl, (omega arith, refl), refl)
 opening_held heap (suc r) = nil_registers heap 15 r
 
 opening_registers : (heap : Heap) (number : ℕ) → number < heap.seats → Registers (opening heap) opening_made opening_owner (opening_fragments heap) number (opening_seat heap number).registers places.Idle 0
-opening_registers heap number below r fresh = subst (λ (p : GraphSeat). Now heap (get_or (opening_seat heap number).registers r registers.Nil) (get_or p.registers r values.Nil)) (sym (opening_graph_has_opening_seats heap number below)) (opening_held heap r)
+opening_registers heap number below r fresh = subst (λ (p : GraphSeat). Now heap (get_or (opening_seat heap number).registers r registers.Nil) (get_or p.registers r unset).value) (sym (opening_graph_has_opening_seats heap number below)) (opening_held heap r)
 
 -- no seat has answered
 opening_answer : (heap : Heap) (number : ℕ) → number < heap.seats → opening_word heap (Answer number) ≡ 0

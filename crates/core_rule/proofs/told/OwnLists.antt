@@ -4,7 +4,7 @@ use Rattle.std.specs.Prelude.{cond}
 use Rattle.std.proofs.lemmas.Bool.{cases_lt, eq-eqb}
 use Rattle.std.proofs.lemmas.List.{get_or-set_same, get_or-set_other, get_or_past}
 use Rattle.std.proofs.lemmas.List.Sums.{sum_by-cons}
-use Rattle.core_rule.proofs.Terms.{graph_of, effect_of, is_of, no_effect, total_of, Entry, Heap, Value, with_register, Graph, opening, graph_seat, absent_graph_seat}
+use Rattle.core_rule.proofs.Terms.{graph_of, effect_of, is_of, no_effect, total_of, Entry, Heap, Value, with_register, Graph, opening, graph_seat, absent_graph_seat, unset}
 use Rattle.core_rule.proofs.Terms.{register_value}
 use Rattle.heap_model.specs.declared.account.effect.Effect.{Effect}
 use Rattle.heap_model.specs.declared.command.Command.TheVariants as commands
@@ -14,6 +14,7 @@ use Rattle.heap_model.specs.declared.reply.Reply.TheVariants as replies
 use Rattle.heap_model.specs.graph.Graph.{GraphSeat}
 use Rattle.heap_model.proofs.Histories.{graph_after-more}
 use Rattle.core_rule.proofs.entries.OwnEntries.{total_of_grows_by_own}
+use Rattle.heap_model.specs.declared.graph.cell.Cell.{Cell}
 
 -- a count of the seat's own entries is that of its entries in the history
 pub total_of_own_entries : (number : ℕ) (part : Effect → ℕ) (history : List Entry) → total_of number part (filter (is_of number) history) ≡ total_of number part history
@@ -43,10 +44,10 @@ tells_alike_where_whole heap number awaited mine all same = subst (TellsAlike he
     record { objects = refl; sets = refl; left = refl; registers = λ r free. refl; totals = λ part none. refl }
 
 -- with another value in a register the seat is as it was, or has it there
-put_cases : (P : GraphSeat → Type 0) (g : Graph) (number d : ℕ) (value : Value) → P (graph_seat g number)
-    → P (record (graph_seat g number) { registers = set (graph_seat g number).registers d value }) → P (graph_seat (with_register g number d value) number)
-put_cases P g number d value was has =
-    let new : GraphSeat = record (graph_seat g number) { registers = set (graph_seat g number).registers d value } in
+put_cases : (P : GraphSeat → Type 0) (g : Graph) (number d : ℕ) (cell : Cell) → P (graph_seat g number)
+    → P (record (graph_seat g number) { registers = set (graph_seat g number).registers d cell }) → P (graph_seat (with_register g number d cell) number)
+put_cases P g number d cell was has =
+    let new : GraphSeat = record (graph_seat g number) { registers = set (graph_seat g number).registers d cell } in
     elim (cases_lt number (length g.seats)) [
       | inl there ↦ subst P (sym (get_or-set_same g.seats number new absent_graph_seat there)) has
       | inr past ↦ subst P (get_or_past g.seats number absent_graph_seat past ∙ sym (get_or_past (set g.seats number new) number absent_graph_seat (omega (arith, past, length-set g.seats number new)))) was
@@ -56,20 +57,23 @@ put_cases P g number d value was has =
 pub tells_alike_but_target : (heap : Heap) (number d r i stamp : ℕ) (value : Value) (mine : List Entry)
     → TellsAlike heap number (λ x. x ≡ d) mine (mine ++ entries.Said number (commands.Get d r i) (replies.Got value stamp) ∷ [])
 tells_alike_but_target heap number d r i stamp value mine = record {
-  objects = put_cases (λ p. before.objects ≡ p.objects) (graph_of heap mine) number d value refl refl ∙ ap (λ (g : Graph). (graph_seat g number).objects) later;
-  sets = put_cases (λ p. before.sets ≡ p.sets) (graph_of heap mine) number d value refl refl ∙ ap (λ (g : Graph). (graph_seat g number).sets) later;
-  left = put_cases (λ p. before.left ≡ p.left) (graph_of heap mine) number d value refl refl ∙ ap (λ (g : Graph). (graph_seat g number).left) later;
+  objects = put_cases (λ p. before.objects ≡ p.objects) (graph_of heap mine) number d cell refl refl ∙ ap (λ (g : Graph). (graph_seat g number).objects) later;
+  sets = put_cases (λ p. before.sets ≡ p.sets) (graph_of heap mine) number d cell refl refl ∙ ap (λ (g : Graph). (graph_seat g number).sets) later;
+  left = put_cases (λ p. before.left ≡ p.left) (graph_of heap mine) number d cell refl refl ∙ ap (λ (g : Graph). (graph_seat g number).left) later;
   registers = λ x free.
-      put_cases (λ p. get_or before.registers x values.Nil ≡ get_or p.registers x values.Nil) (graph_of heap mine) number d value refl
-      (sym (get_or-set_other before.registers d x value values.Nil free)) ∙ ap (λ (g : Graph). register_value g number x) later;
+      put_cases (λ p. (get_or before.registers x unset).value ≡ (get_or p.registers x unset).value) (graph_of heap mine) number d cell refl
+      (sym (ap (λ (register : Cell). register.value) (get_or-set_other before.registers d x cell unset free))) ∙ ap (λ (g : Graph). register_value g number x) later;
   totals = λ part none. let nothing : part (effect_of entry) ≡ 0 = none in omega (arith, total_of_grows_by_own number part mine entry (eq-eqb number number refl), nothing);
 }
   where
     entry : Entry
     entry = entries.Said number (commands.Get d r i) (replies.Got value stamp)
 
+    cell : Cell
+    cell = record { value = value; stamp = stamp }
+
     before : GraphSeat
     before = graph_seat (graph_of heap mine) number
 
-    later : with_register (graph_of heap mine) number d value ≡ graph_of heap (mine ++ entries.Said number (commands.Get d r i) (replies.Got value stamp) ∷ [])
+    later : with_register (graph_of heap mine) number d cell ≡ graph_of heap (mine ++ entries.Said number (commands.Get d r i) (replies.Got value stamp) ∷ [])
     later = sym (graph_after-more (opening heap) mine (entries.Said number (commands.Get d r i) (replies.Got value stamp)))

@@ -65,12 +65,13 @@ module _ (heap : Heap) (state : State) (book : Book) (number : ℕ) (rule : Rule
       let stands = rule.seats_stand number here in
       let reply : Reply = Got (value_of new) stamp in
       let entry : Entry = Said number seat.command reply in
+      let cell : Cell = record { value = value_of new; stamp = stamp } in
       keeps_rule_by_telling_load heap state book number rule here (Word seat.reached seat.part) (slice_set seat.registers (target_of seat.command) new) 0 0 0 no_spot 0 places.Idle (forgotten (seat_at state number).looks) (entry ∷ []) machine
-      seat.command reply refl (with_register g number (target_of seat.command) (value_of new)) (graph_after_got g number (value_of new) stamp seat.command a_get)
-      (put_changes_only_registers g number (target_of seat.command) (value_of new) present) (rw place tt) tt accepts
+      seat.command reply refl (with_register g number (target_of seat.command) cell) (graph_after_got g number (value_of new) stamp seat.command a_get)
+      (put_changes_only_registers g number (target_of seat.command) cell present) (rw place tt) tt accepts
       (keeps_space_of_got heap false book.history number (spent_within_taken heap state book number rule here (way_seat_is_at_rest heap state book number rule here Getting place)) (taken_is_few_unspent heap state book number rule here (way_seat_is_at_rest heap state book number rule here Getting place)) (value_of new) stamp seat.command a_get)
-      (λ r unawaited. holds_value_after_put book.made book.owner book.fragments g number (target_of seat.command) (value_of new) seat.registers new present in_seat in_graph holds (λ x apart. held x) r)
-      (own_list_after_entry g book.made book.owner book.fragments number seat book.history (subst IsAnswered place) stands.told.list (with_register g number (target_of seat.command) (value_of new)) _ _ (entry ∷ []) [] (entry ∷ []) refl refl
+      (λ r unawaited. holds_value_after_put book.made book.owner book.fragments g number (target_of seat.command) cell seat.registers new present in_seat in_graph holds (λ x apart. held x) r)
+      (own_list_after_entry g book.made book.owner book.fragments number seat book.history (subst IsAnswered place) stands.told.list (with_register g number (target_of seat.command) cell) _ _ (entry ∷ []) [] (entry ∷ []) refl refl
       (own_entries_grow number book.history entry (eq-eqb number number refl)) refl)
       tt tt tt (reply_is_no_leave number number seat.command reply (λ leaves. subst IsGet leaves a_get))
       (seat_in_cycle_after_load heap state book number rule here (Word seat.reached seat.part) (slice_set seat.registers (target_of seat.command) new) 0 0 0 no_spot 0 places.Idle (forgotten (seat_at state number).looks) (entry ∷ []) machine tt)
@@ -94,13 +95,14 @@ module _ (heap : Heap) (state : State) (book : Book) (number : ℕ) (rule : Rule
       let stands = rule.seats_stand number here in
       let reply : Reply = Got value (stamp_of found) in
       let entry : Entry = Said number seat.command reply in
+      let cell : Cell = record { value = value; stamp = stamp_of found } in
       keeps_rule_by_telling_load heap state book number rule here (Word seat.reached seat.part) seat.registers seat.reached seat.links seat.part seat.address found (places.Access Naming) (seat_at state number).looks [] machine
-      seat.command reply refl (with_register g number d value) (graph_after_got g number value (stamp_of found) seat.command a_get) (put_changes_only_registers g number d value present) (rw place tt) tt accepts
+      seat.command reply refl (with_register g number d cell) (graph_after_got g number value (stamp_of found) seat.command a_get) (put_changes_only_registers g number d cell present) (rw place tt) tt accepts
       (keeps_space_of_got heap false book.history number (spent_within_taken heap state book number rule here (way_seat_is_at_rest heap state book number rule here Getting place)) (taken_is_few_unspent heap state book number rule here (way_seat_is_at_rest heap state book number rule here Getting place)) value (stamp_of found) seat.command a_get)
-      (λ r unawaited. subst (λ x. HoldsValue book.made book.owner book.fragments (slice_index_or seat.registers r registers.Nil) x) (sym (other_registers_stay_by_put g number d value present r unawaited)) (held r))
-      (own_list_after_entry g book.made book.owner book.fragments number seat book.history (subst IsAnswered place) stands.told.list (with_register g number d value) _ _ [] (entry ∷ []) (entry ∷ []) refl refl
+      (λ r unawaited. subst (λ x. HoldsValue book.made book.owner book.fragments (slice_index_or seat.registers r registers.Nil) x) (sym (other_registers_stay_by_put g number d cell present r unawaited)) (held r))
+      (own_list_after_entry g book.made book.owner book.fragments number seat book.history (subst IsAnswered place) stands.told.list (with_register g number d cell) _ _ [] (entry ∷ []) (entry ∷ []) refl refl
       (own_entries_grow number book.history entry (eq-eqb number number refl))
-      (record { id = id; kept = kept; loads = loads; held = put_register_holds_value g number d value present in_graph; told = refl }))
+      (record { id = id; kept = kept; loads = loads; held = put_register_holds_value g number d cell present in_graph; told = refl }))
       tt tt tt (reply_is_no_leave number number seat.command reply (λ leaves. subst IsGet leaves a_get))
       (seat_in_cycle_after_load heap state book number rule here (Word seat.reached seat.part) seat.registers seat.reached seat.links seat.part seat.address found (places.Access Naming) (seat_at state number).looks [] machine tt)
       (λ marks roots. roots_hold_on_way (IsReachedNow heap state book) seat (went seat seat.registers seat.reached seat.links seat.part seat.address found (places.Access Naming) (seat_at state number).looks []) Naming refl refl

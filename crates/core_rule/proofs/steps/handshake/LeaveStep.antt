@@ -3,7 +3,7 @@ use Rattle.std.proofs.Common.{◌≡◌, ℕ, zero, suc, ◌<◌, true, false, L
 use Rattle.std.proofs.lemmas.Bool.{eq-eqb}
 use Rattle.heap_words.specs.declared.phase.TheConstants.{LEFT}
 use Rattle.heap_model.specs.declared.command.Command.TheVariants as commands
-use Rattle.core_rule.proofs.Terms.{Entry, Value, leave, graph_of, after_reply, graph_seat, phase, is_leave_of, Graph, IsAtRest, at, put, seat_at, Seat, Objects, IsReached}
+use Rattle.core_rule.proofs.Terms.{Entry, Value, leave, graph_of, after_reply, graph_seat, phase, is_leave_of, Graph, IsAtRest, at, put, seat_at, Seat, Objects, IsReached, unset}
 use Rattle.core_rule.proofs.Terms.{Register, register_head}
 use Rattle.heap_model.specs.declared.entry.Entry.TheVariants as entries
 use Rattle.heap_model.specs.declared.id.Value.TheVariants as values
@@ -36,6 +36,7 @@ use Rattle.core_rule.proofs.entries.PhaseEntries.{phase_stays, answered_stays, l
 use Rattle.core_rule.proofs.steps.ReplyStep.{keeps_in_cycle_when_idle, graph_replies_of_registers}
 use Rattle.core_rule.proofs.entries.SeatLists.{own_list_is_all_told}
 use Rattle.core_rule.proofs.steps.StepKinds.{StepKind, beside, shows_plain, on_looks_of_reply, on_words_of_plain_step}
+use Rattle.heap_model.specs.declared.graph.cell.Cell.{Cell}
 
 -- each register of such a list is nil
 all_nil : {A : Type 0} (x : A) (n i : ℕ) → get_or (replicate n x) i x ≡ x
@@ -45,7 +46,7 @@ all_nil x (suc n) (suc i) = all_nil x n i
 
 -- the party that has left
 abbrev gone : Graph → ℕ → GraphSeat
-gone g number = record (graph_seat g number) { registers = replicate 16 values.Nil; left = true }
+gone g number = record (graph_seat g number) { registers = replicate 16 unset; left = true }
 
 -- a leave keeps the rule
 pub leave_keeps : StepKeeps (places.Leaving Parting) (λ heap. leave_move)
@@ -83,7 +84,7 @@ leave_keeps heap state book number rule here place machine =
       made = stands.told.counts.numbered ∙ sym changes.objects;
       sets = stands.told.counts.stamped ∙ sym changes.sets;
       left = ap (λ (p : GraphSeat). p.left) party_now;
-      registers = λ i. all_holds i (ap (λ (p : GraphSeat). get_or p.registers i values.Nil) party_now ∙ all_nil values.Nil 16 i);
+      registers = λ i. all_holds i (ap (λ (p : GraphSeat). (get_or p.registers i unset).value) party_now ∙ ap (λ (register : Cell). register.value) (all_nil unset 16 i));
     }
     (heap_in_cycle_after_answer heap state.words number LEFT small (phase book.history) book.owner book.colour book.fragments rule.heap_stands.cycle)
     record {

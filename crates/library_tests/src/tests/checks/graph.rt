@@ -8,6 +8,7 @@ use heap_model::{ApplyFault, Entry, Graph, Heap, Id, Value};
 use std::test::Fail;
 
 mod reach;
+mod seen;
 
 const FIRST: Id = Id::Made { seat: 0, count: 0 };
 
