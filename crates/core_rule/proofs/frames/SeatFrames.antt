@@ -1,7 +1,7 @@
 -- What stays of a seat at another's step: all of it, where that leaves what the seat has, what it names and what is told of it.
 use Rattle.std.proofs.Common.{◌≡◌, ℕ, ◌<◌, false, List, [], ◌∷◌, ◌++◌, length, filter, drop, get_or, refl, sym, ap, ◌∙◌, subst, arith}
 use Rattle.heap_words.specs.declared.spot.Spot.{Spot}
-use Rattle.core_rule.proofs.Terms.{Entry, Heap, Id, Value, graph_of, is_of, graph_seat, register_value, phase, last_answer, has_left, spent_of, taken_of, Graph, Place, Register}
+use Rattle.core_rule.proofs.Terms.{Entry, Heap, Id, Value, graph_of, is_of, graph_seat, register_value, phase, last_answer, has_left, spent_of, taken_of, Graph, Place, Register, unset}
 use Rattle.core_rule.proofs.Terms.{Seat, Book, SeatInCycle, IsStored, GathersRight, Began, UsedStands, node_at, IsKept, Owner, SpineOwner, Registers, AddressStands, NamesStand}
 use Rattle.core_rule.proofs.Terms.{SeatStands, WayStands}
 use Rattle.heap_model.specs.declared.id.Value.TheVariants as values
@@ -17,6 +17,7 @@ use Rattle.core_rule.proofs.spines.SpineFrames.{SpineIsStored, spine_is_stored_b
 use Rattle.core_rule.proofs.budgets.UsedWords.{used_stands_after_other_entry}
 use Rattle.core_rule.proofs.ways.WayFrames.{ObjectStays, way_stands_still}
 use Rattle.core_rule.proofs.words.Addresses.{SameSpines}
+use Rattle.heap_model.specs.declared.graph.cell.Cell.{Cell}
 
 -- the graph's party has the same registers, and as many objects and sets, and has left where it had
 pub record SameParty (g now : Graph) (r : ℕ) : Type 0 where
@@ -35,7 +36,7 @@ same_party_of_same_graph g now r same = record {
 }
 
 register_stays : (g now : Graph) (r : ℕ) → SameParty g now r → (i : ℕ) → register_value now r i ≡ register_value g r i
-register_stays g now r same i = ap (λ (rs : List Value). get_or rs i values.Nil) same.registers
+register_stays g now r same i = ap (λ (rs : List Cell). (get_or rs i unset).value) same.registers
 
 -- the later history tells no more of the seat
 pub record SameTold (r : ℕ) (history later : List Entry) : Type 0 where

@@ -143,7 +143,7 @@ swap_keeps heap state book number rule here place machine =
       made = stands.told.counts.numbered ∙ sym sets.objects;
       sets = ap (λ s. s + 1) stands.told.counts.stamped ∙ sym sets.sets;
       left = sets.left ∙ stands.told.counts.leaves;
-      registers = λ r. subst (λ (vs : List Value). HoldsValue book.made book.owner book.fragments (register_in seat.registers r) (get_or vs r values.Nil)) (sym sets.registers) (holds r);
+      registers = λ r. subst (λ (vs : List Cell). HoldsValue book.made book.owner book.fragments (register_in seat.registers r) (get_or vs r unset).value) (sym sets.registers) (holds r);
     }
     (heap_in_cycle_after_swap heap state book number rule here place cell.value cell.stamp (holds (source_of seat.command)) names.0 small word is_word)
     (seat_in_cycle_after_own heap (put heap state.words (Word seat.reached seat.part) word) book.owner book.colour book.history (entries.Said number seat.command (replies.Was stamp)) refl number
